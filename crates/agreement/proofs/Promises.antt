@@ -1,0 +1,118 @@
+-- What the definitions of this crate promise, in the scope paper's order; each theorem cites one name. Assumes nothing.
+use Prim.Native.Nat.{ℕ, _/_, _≤_}
+use mathlib.Core.Path.{_≡_}
+use mathlib.Core.Bool.{Bool, true, false, _&&_}
+use mathlib.Core.Logic.{_↔_}
+use mathlib.Core.Option.{some}
+use mathlib.Core.List.{List, map}
+use lib.ListN.{length}
+use Rattle.trees.specs.Label.{Label, distinct}
+use Rattle.trees.specs.Tree.{Tree, leaves, Valid}
+use Rattle.agreement.specs.Closer.{holds, closer, Agree, Common}
+use Rattle.agreement.specs.Restrict.{restrict}
+use Rattle.agreement.specs.SameKept.{SameKept}
+use Rattle.agreement.specs.Places.{keptText}
+use Rattle.agreement.specs.Sets.{increasing, sorted, common, setOf}
+use Rattle.agreement.specs.Weights.{weightIn, forcing, forcedUnit, best}
+use Rattle.agreement.specs.Answer.{Answer, firstLacks, secondLacks, disagree, largest, agreeOn, largestSet, answer}
+use Rattle.agreement.specs.Demand.{IsAnswer, Clash, IsDisagreement, IsFirstLacks, IsSecondLacks}
+use Rattle.agreement.specs.Outcome.{Outcome}
+use Rattle.agreement.specs.Greatest.{Greatest}
+use Rattle.agreement.specs.GreedyLoop.{greedy, sizeOfWeight, fits}
+use Rattle.agreement.specs.Starred.{Row, answered, rows}
+use Rattle.agreement.proofs.AnswerLaws
+use Rattle.agreement.proofs.DemandLaws
+use Rattle.agreement.proofs.Greedy
+use Rattle.agreement.proofs.CloserOnce.{OneOf, closer-once}
+use Rattle.agreement.proofs.AgreeRestrict.{agree-iff-same}
+use Rattle.agreement.proofs.RestrictText.{one-text}
+use Rattle.agreement.proofs.Recurrence.{Reach, best-bound, best-reached}
+use Rattle.agreement.proofs.LocalChange.{best-unmarked}
+use Rattle.agreement.proofs.Table
+
+-- "Of three different leaves in a binary tree, exactly one pair has its least common ancestor below that of all three"
+pub one-closer-pair : (t : Tree) (a b c : Label) → distinct (leaves t) ≡ true
+    → (a ≡ b → ⊥) → (a ≡ c → ⊥) → (b ≡ c → ⊥) → holds t a ≡ true → holds t b ≡ true → holds t c ≡ true
+    → OneOf (closer t a b c) (closer t a c b) (closer t b c a)
+one-closer-pair = closer-once
+
+-- source paper 003, Lemma 1: the trees agree on a set exactly if their restrictions to it are equal trees
+pub restriction-decides : (s t : Tree) (X : Label → Bool) → distinct (leaves s) ≡ true → distinct (leaves t) ≡ true → Common s t X
+    → Agree s t X ↔ SameKept (restrict X s) (restrict X t)
+restriction-decides = agree-iff-same
+
+-- "the normal text of the common restriction": the same bytes, whichever tree is restricted
+pub common-restriction : (s t : Tree) (X : Label → Bool) → Valid s → Valid t → Common s t X → Agree s t X
+    → keptText (restrict X s) ≡ keptText (restrict X t)
+common-restriction = one-text
+
+-- source paper 001, Lemma 3.1, with weights: no agreed set weighs more than the recurrence says, one weighs as much, and a label's
+-- weight counts only where both trees hold it
+pub recurrence-bound : (w : Label → ℕ) (s t : Tree) (X : Label → Bool) → distinct (leaves s) ≡ true → distinct (leaves t) ≡ true
+    → Common s t X → Agree s t X → weightIn w s X ≤ best w s t
+recurrence-bound = best-bound
+
+pub recurrence-reached : (w : Label → ℕ) (s t : Tree) → distinct (leaves s) ≡ true → distinct (leaves t) ≡ true
+    → Reach w s t (best w s t)
+recurrence-reached = best-reached
+
+pub recurrence-local : (v w : Label → ℕ) (s t : Tree) (y : Label) → ((x : Label) → (x ≡ y → ⊥) → v x ≡ w x)
+    → (holds s y && holds t y) ≡ false → best v s t ≡ best w s t
+recurrence-local = best-unmarked
+
+-- "Trees agree on a set of leaves common to both exactly if each three of the set have the same closer pair in both"
+pub agreement-test : (s t : Tree) (X : List Label) → increasing X ≡ true → (agreeOn s t X ≡ true) ↔ Agree s t (setOf X)
+agreement-test s t X h = AnswerLaws.agreeOn-exactly s t X h
+
+-- "Sets of 0, 1 or 2 common leaves always agree."
+pub small-sets : (s t : Tree) (X : List Label) → length X ≤ 2 → agreeOn s t X ≡ true
+small-sets s t X few = AnswerLaws.small-agree s t X few
+
+module _ (s t : Tree) (K : List Label) (valid : Valid s) (different : distinct K ≡ true) where
+  -- "Largest is meant over all sets of common leaves that contain the required ones and on which the trees agree. Of two sets
+  -- as large as each other, the first is the one that holds the smallest label standing in only one of them."
+  pub set-promise : (X : List Label) → (answer s t K ≡ largest X) ↔ IsAnswer s t K X
+  set-promise X = DemandLaws.largest-exactly s t K (valid .different) different X
+
+  -- 6, "the first tree lacks a required label": "the first label in list order that either tree lacks"
+  pub six-promise : (n : ℕ) → (answer s t K ≡ firstLacks n) ↔ IsFirstLacks s t K n
+  six-promise n = DemandLaws.firstLacks-exactly s t K (valid .different) different n
+
+  -- 7, "only the second lacks it"
+  pub seven-promise : (n : ℕ) → (answer s t K ≡ secondLacks n) ↔ IsSecondLacks s t K n
+  seven-promise n = DemandLaws.secondLacks-exactly s t K (valid .different) different n
+
+  -- 8, "three required leaves have different closer pairs", where nothing before 8 turns the job away
+  pub eight-promise : Common s t (setOf K)
+      → ((a : Label) × (b : Label) × (c : Label) × Clash s t K a b c)
+      ↔ ((a : Label) × (b : Label) × (c : Label) × (answer s t K ≡ disagree a b c))
+  eight-promise held = DemandLaws.eight-exactly s t K (valid .different) different held
+
+  -- "Number 8 names the first such three, sorted, compared label by label."
+  pub eight-names : (a b c : Label) → Common s t (setOf K) → (answer s t K ≡ disagree a b c) ↔ IsDisagreement s t K a b c
+  eight-names a b c held = DemandLaws.disagree-exactly s t K (valid .different) different a b c held
+
+  -- "A job that no row turns away is answered with its set."
+  pub answered-promise : Common s t (setOf K) → ((a b c : Label) → Clash s t K a b c → ⊥)
+      → answer s t K ≡ largest (largestSet s t K)
+  answered-promise held free = DemandLaws.set-answered s t K (valid .different) different held free
+
+  -- "exactly what comes back": whatever meets these sentences is the answer
+  pub answer-promise : (A : Answer) → (answer s t K ≡ A) ↔ Outcome s t K A
+  answer-promise A = DemandLaws.answer-exactly s t K (valid .different) different A
+
+  -- "Document 001, Lemma 3.1, gives a recurrence over pairs of nodes. It may be used; it is not the definition.": any oracle of
+  -- greatest weights finds the set, and tells when three required labels clash
+  module _ (M : List Label → ℕ) (held : Common s t (setOf K))
+      (oracle : (F : List Label) → increasing F ≡ true → Common s t (setOf F) → Greatest (forcing F) s t (M F)) where
+    pub oracle-promise : M (sorted K) / forcedUnit ≡ length K
+        → answer s t K ≡ largest (greedy (fits M (sizeOfWeight (M (sorted K)))) (common s t) (sorted K))
+    oracle-promise all = Greedy.oracle-set s t K M (valid .different) (valid .few) different held oracle all
+
+    pub oracle-refusal : (M (sorted K) / forcedUnit ≡ length K → ⊥)
+        → (a : Label) × (b : Label) × (c : Label) × (answer s t K ≡ disagree a b c)
+    oracle-refusal not-all = Greedy.oracle-eight s t K M (valid .different) (valid .few) different held oracle not-all
+
+-- "The starred cases are shown of the definitions, gathered in one table with one theorem."
+pub starred-promise : map answered rows ≡ map (λ (r : Row). some (r .expected)) rows
+starred-promise = Table.starred-cases

@@ -1,0 +1,61 @@
+-- The restriction of a valid tree is valid, and the restrictions of two trees to a set on which they agree have one normal text.
+-- Assumes nothing.
+use Prim.Native.Nat.{_≤_}
+use mathlib.Core.Path.{_≡_, refl, sym, _∙_, ap}
+use mathlib.Core.Bool.{Bool, true, false, cond}
+use mathlib.Core.List.{List, [], _∷_}
+use mathlib.Core.Option.{Option, some}
+use native.Mathlib.Omega.{arith}
+use lib.ListN.{length}
+use Rattle.trees.specs.Label.{Label, goodLabel, goodLabels}
+use Rattle.trees.specs.Tree.{Tree, leaves, Valid}
+use Rattle.trees.specs.Text.{textOf, normalText}
+use Rattle.trees.proofs.Bools.{and-left, and-right, and-intro}
+use Rattle.trees.proofs.NormalLaws.{normal-of-same}
+use Rattle.agreement.specs.Closer.{Agree, Common}
+use Rattle.agreement.specs.Restrict.{restrict}
+use Rattle.agreement.specs.SameKept.{SameKept, both-none, both-some}
+use Rattle.agreement.specs.Sets.{keep}
+use Rattle.agreement.specs.Places.{keptText}
+use Rattle.agreement.proofs.RestrictLaws.{keptLeaves, restrict-leaves, restrict-distinct}
+use Rattle.agreement.proofs.AgreeRestrict.{agree-restrict}
+
+-- keeping some labels keeps them good and no more than they were
+keep-good : (X : Label → Bool) (xs : List Label) → goodLabels xs ≡ true → goodLabels (keep X xs) ≡ true
+unfolding keep goodLabels
+keep-good X [] h = refl
+keep-good X (x ∷ xs) h =
+    go (keep-good X xs (and-right (goodLabel x) (goodLabels xs) h)) (X x)
+  where
+    go : goodLabels (keep X xs) ≡ true → (b : Bool) → goodLabels (cond b (x ∷ keep X xs) (keep X xs)) ≡ true
+    go k true = and-intro (goodLabel x) (goodLabels (keep X xs)) (and-left (goodLabel x) (goodLabels xs) h) k
+    go k false = k
+
+keep-few : (X : Label → Bool) (xs : List Label) → length (keep X xs) ≤ length xs
+unfolding keep
+keep-few X [] = omega arith
+keep-few X (x ∷ xs) = go (keep-few X xs) (X x)
+  where
+    go : length (keep X xs) ≤ length xs → (b : Bool) → length (cond b (x ∷ keep X xs) (keep X xs)) ≤ length (x ∷ xs)
+    go k true = omega arith
+    go k false = omega arith
+
+pub restrict-valid : (X : Label → Bool) (t r : Tree) → Valid t → restrict X t ≡ some r → Valid r
+unfolding keptLeaves
+restrict-valid X t r v e =
+    let d : leaves r ≡ keep X (leaves t) = ap keptLeaves (sym e) ∙ restrict-leaves X t in
+    record {
+      labels = rw d (keep-good X (leaves t) (v .labels));
+      different = restrict-distinct X t r e (v .different);
+      few = rw d (omega (arith, keep-few X (leaves t), v .few));
+    }
+
+-- "the normal text of the common restriction": either tree gives it
+pub one-text : (s t : Tree) (X : Label → Bool) → Valid s → Valid t → Common s t X → Agree s t X
+    → keptText (restrict X s) ≡ keptText (restrict X t)
+unfolding keptText normalText
+one-text s t X v w m g = go (agree-restrict s t X (v .different) (w .different) m g) refl
+  where
+    go : {o u : Option Tree} → SameKept o u → restrict X s ≡ o → keptText o ≡ keptText u
+    go both-none e = refl
+    go (both-some {p} n) e = ap textOf (normal-of-same n (restrict-distinct X s p e (v .different)))

@@ -1,0 +1,16 @@
+-- The starred cases, read from their texts and answered by the definitions: one table, one theorem. Assumes nothing.
+use mathlib.Core.Path.{_≡_, refl}
+use mathlib.Core.Option.{some}
+use mathlib.Core.List.{map}
+use Rattle.trees.specs.Bytes.{kindOf}
+use Rattle.trees.specs.Label.{sameLabel, labelLess, isIn}
+use Rattle.trees.specs.Reading.{repeats}
+use Rattle.newick.specs.ReadTree.{readTree}
+use Rattle.lists.specs.ReadList.{readList}
+use Rattle.agreement.specs.Answer.{answer}
+use Rattle.agreement.specs.Starred.{Row, answered, rows}
+
+-- "The starred cases are shown of the definitions, gathered in one table with one theorem."
+pub starred-cases : map answered rows ≡ map (λ (r : Row). some (r .expected)) rows
+unfolding answered rows readTree readList kindOf repeats isIn sameLabel labelLess answer
+starred-cases = refl

@@ -1,0 +1,34 @@
+-- Least common ancestor, closer pair and agreement. Scope paper, "Agreement"; source paper 003, section 2.
+use Prim.Native.Nat.{ℕ}
+use mathlib.Core.Path.{_≡_}
+use mathlib.Core.Bool.{Bool, true, false, cond, not, _&&_}
+use Rattle.trees.specs.Label.{Label, isIn}
+use Rattle.trees.specs.Tree.{Tree, leaf, node, leaves}
+
+-- the label is a leaf of the tree
+unfoldable pub holds : Tree → Label → Bool
+unfolding leaves isIn
+holds t x = isIn x (leaves t)
+
+-- the least common ancestor of two leaves, as the smallest subtree that holds both
+unfoldable pub lca : Tree → Label → Label → Tree
+unfolding holds
+lca (leaf x) a b = leaf x
+lca (node p q) a b =
+    cond (holds p a && holds p b) (lca p a b) (cond (holds q a && holds q b) (lca q a b) (node p q))
+
+-- a and b are the closer pair of a, b and c: their least common ancestor is below that of all three, since it does not hold c.
+-- "Closer pair" is the scope paper's own term; the field says that the tree has the rooted triple ab|c.
+unfoldable pub closer : Tree → Label → Label → Label → Bool
+unfolding lca holds
+closer t a b c = not (holds (lca t a b) c)
+
+-- "Trees agree on a set of leaves common to both exactly if each three of the set have the same closer pair in both"
+abbrev pub Agree : Tree → Tree → (Label → Bool) → Type 0
+Agree s t X =
+    (a b c : Label) → X a ≡ true → X b ≡ true → X c ≡ true → (a ≡ b → ⊥) → (a ≡ c → ⊥) → (b ≡ c → ⊥)
+    → closer s a b c ≡ closer t a b c
+
+-- a set of leaves common to both
+abbrev pub Common : Tree → Tree → (Label → Bool) → Type 0
+Common s t X = (x : Label) → X x ≡ true → (holds s x ≡ true) × (holds t x ≡ true)

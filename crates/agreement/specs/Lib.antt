@@ -1,0 +1,12 @@
+pub mod Closer
+pub mod Places
+pub mod Restrict
+pub mod SameKept
+pub mod Sets
+pub mod Weights
+pub mod Answer
+pub mod Demand
+pub mod Outcome
+pub mod Greatest
+pub mod GreedyLoop
+pub mod Starred

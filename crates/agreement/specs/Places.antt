@@ -1,0 +1,34 @@
+-- Where the labels of an answer stand in the texts. Scope paper, "Why a job is turned down": the places of 6 and 7 are the
+-- label's "first byte in K".
+use Prim.Native.Nat.{ℕ, _+_}
+use mathlib.Core.Bool.{cond}
+use mathlib.Core.List.{List, [], _∷_}
+use mathlib.Core.Option.{Option, some, none}
+use lib.ListN.{length, getD}
+use Rattle.trees.specs.Label.{Label, sameLabel}
+use Rattle.trees.specs.Tree.{Tree, leaf, node}
+use Rattle.trees.specs.Text.{written, normalText}
+use Rattle.lists.specs.ReadList.{startsOf}
+use Rattle.agreement.specs.Closer.{holds}
+
+-- the first byte of leaf x in the text of a tree that starts at p
+unfoldable pub placeIn : Tree → ℕ → Label → ℕ
+unfolding holds written
+placeIn (leaf y) p x = p
+placeIn (node a b) p x = cond (holds a x) (placeIn a (p + 1) x) (placeIn b (p + 1 + length (written a) + 1) x)
+
+-- the first byte of the label with number n in a list's text
+unfoldable pub placeOfNumber : List Label → ℕ → ℕ
+unfolding startsOf
+placeOfNumber xs n = getD (startsOf xs 0) n 0
+
+-- the first byte of label x in the text of a list that starts at p
+unfoldable pub placeOfLabel : List Label → ℕ → Label → ℕ
+placeOfLabel [] p x = p
+placeOfLabel (y ∷ ys) p x = cond (sameLabel x y) p (placeOfLabel ys (p + length y + 1) x)
+
+-- the text of a restriction: "The empty set of leaves has a text of no bytes"
+unfoldable pub keptText : Option Tree → List ℕ
+unfolding normalText
+keptText none = []
+keptText (some t) = normalText t

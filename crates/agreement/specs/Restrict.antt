@@ -1,0 +1,19 @@
+-- Restriction of a tree to a set of leaves. Source paper 003, section 2: discard the other leaves and the inner nodes left
+-- with one child. Scope paper, "Agreement".
+use mathlib.Core.Bool.{Bool, true, false, cond}
+use mathlib.Core.Option.{Option, some, none}
+use Rattle.trees.specs.Label.{Label}
+use Rattle.trees.specs.Tree.{Tree, leaf, node}
+
+-- a node whose children are these, where each may have no leaf left
+unfoldable pub joinKept : Option Tree → Option Tree → Option Tree
+joinKept none none = none
+joinKept none (some q) = some q
+joinKept (some p) none = some p
+joinKept (some p) (some q) = some (node p q)
+
+-- none where no leaf is left
+unfoldable pub restrict : (Label → Bool) → Tree → Option Tree
+unfolding joinKept
+restrict X (leaf x) = cond (X x) (some (leaf x)) none
+restrict X (node a b) = joinKept (restrict X a) (restrict X b)

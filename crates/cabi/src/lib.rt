@@ -1,0 +1,131 @@
+// The engine for hosts written in C: numbers and byte slices in, numbers out. One archive, one header (include/agree.h).
+//
+// No function has a `requires`. A struct of numbers comes back by value, since every answer is a handful of numbers and a host
+// then reads them by name; a packed number would have to be taken apart.
+ghost use mathlib.Core.Path.{_≡_};
+ghost use lib.ListN.{length};
+ghost use Rattle.mast.specs.Largest.{solve, outputOf};
+ghost use Rattle.job.specs.Printed.{solveJob};
+ghost use Rattle.job.specs.Answered.{answered, jobOutput};
+ghost use Rattle.cabi.specs.Numbers.{numbersOf, jobNumbers};
+use job::JobAnswer;
+use mast::LargestAnswer;
+
+// The refusal's number (0 on success), its letter and place; on success the length of the text in the output and, of
+// `agree_largest`, the size of the set; for number 8 where the three labels stand, in the list or, of `agree_job`, in the job.
+#[repr(C)]
+pub struct AgreeResult {
+    pub number: usize,
+    pub letter: usize,
+    pub place: usize,
+    pub size: usize,
+    pub length: usize,
+    pub first: usize,
+    pub second: usize,
+    pub third: usize,
+}
+
+// The largest agreement set; its tree's text goes into `out`.
+#[no_mangle]
+pub extern "C" fn agree_largest(
+    first: &[u8],
+    second: &[u8],
+    required: &[u8],
+    out: &mut [u8],
+) -> AgreeResult
+    ensures numbers { λ r. ⌜ r ≡ numbersOf (solve (now (first .entry)) (now (second .entry)) (now (required .entry)) (length (now (out .entry)))) ⌝ }
+    ensures output { λ r. ⌜ now (out .exit) ≡ outputOf (solve (now (first .entry)) (now (second .entry)) (now (required .entry)) (length (now (out .entry)))) (now (out .entry)) ⌝ }
+{
+    let result = mast::largest(first, second, required, out);
+    let answer = result.answer;
+    match answer {
+        LargestAnswer::Found(size, length) => AgreeResult {
+            number: 0,
+            letter: 0,
+            place: 0,
+            size,
+            length,
+            first: 0,
+            second: 0,
+            third: 0,
+        },
+        LargestAnswer::Disagree(a, b, c) => AgreeResult {
+            number: 8,
+            letter: 75,
+            place: 0,
+            size: 0,
+            length: 0,
+            first: a,
+            second: b,
+            third: c,
+        },
+        LargestAnswer::Refused(refusal) => {
+            let reason = refusal.reason;
+            let body = refusal.body;
+            let number = trees::number(reason) as usize;
+            let letter = trees::letter(body) as usize;
+            AgreeResult {
+                number,
+                letter,
+                place: refusal.place,
+                size: 0,
+                length: 0,
+                first: 0,
+                second: 0,
+                third: 0,
+            }
+        }
+    }
+}
+
+// The answer to a job; its lines go into `out`. The size is told by the first of them.
+#[no_mangle]
+pub extern "C" fn agree_job(bytes: &[u8], out: &mut [u8]) -> AgreeResult
+    ensures numbers { λ r. ⌜ r ≡ jobNumbers (answered (length (now (bytes .entry))) (length (now (out .entry))) (solveJob (now (bytes .entry)))) ⌝ }
+    ensures output { λ r. ⌜ now (out .exit) ≡ jobOutput (solveJob (now (bytes .entry))) (now (out .entry)) ⌝ }
+{
+    let answer = job::answer_job(bytes, out);
+    match answer {
+        JobAnswer::Written(length) => AgreeResult {
+            number: 0,
+            letter: 0,
+            place: 0,
+            size: 0,
+            length,
+            first: 0,
+            second: 0,
+            third: 0,
+        },
+        JobAnswer::Disagree(named) => {
+            let one = named.first;
+            let two = named.second;
+            let three = named.third;
+            AgreeResult {
+                number: 8,
+                letter: 75,
+                place: 0,
+                size: 0,
+                length: 0,
+                first: one.start,
+                second: two.start,
+                third: three.start,
+            }
+        }
+        JobAnswer::Refused(refusal) => {
+            let reason = refusal.reason;
+            let body = refusal.body;
+            let number = trees::number(reason) as usize;
+            let letter = trees::letter(body) as usize;
+            AgreeResult {
+                number,
+                letter,
+                place: refusal.place,
+                size: 0,
+                length: 0,
+                first: 0,
+                second: 0,
+                third: 0,
+            }
+        }
+    }
+}

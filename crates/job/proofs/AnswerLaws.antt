@@ -1,0 +1,244 @@
+-- What the engine's answer says of the job's: a set and its lines, number 8 and its parts, or a refusal. Assumes nothing.
+use Prim.Native.Nat.{ℕ, zero, suc, _+_, _-_, _≤_, _<_}
+use mathlib.Core.Path.{_≡_, refl, sym, _∙_, ap, ap₂, subst}
+use mathlib.Core.Bool.{Bool, true, false, cond}
+use mathlib.Core.List.{List, [], _∷_, _++_, map}
+use mathlib.Core.Option.{Option, some, none}
+use native.Mathlib.Omega.{arith}
+use lib.ListN.{length, take, drop, replicate, length-append, length-take, length-drop, length-replicate}
+use lib.Seq.{take-at, take-all}
+use borrow.Author.Tests.{le-leb, lt-leb}
+use Rattle.trees.specs.declared.Reason.{Reason}
+use Rattle.trees.specs.declared.Reason.the-variants.{Contents, JobTooLong}
+use Rattle.trees.specs.declared.Body.{Body}
+use Rattle.trees.specs.declared.Body.the-variants.{J}
+use Rattle.trees.specs.declared.Refusal.{Refusal}
+use Rattle.trees.specs.Label.{Label, isIn, goodLabel}
+use Rattle.trees.specs.Tree.{Tree}
+use Rattle.lists.specs.declared.LabelPlaces.{LabelPlaces}
+use Rattle.lists.specs.ReadList.{joined}
+use Rattle.agreement.specs.Places.{placeIn, placeOfLabel}
+use Rattle.mast.specs.declared.LargestAnswer.{LargestAnswer}
+use Rattle.mast.specs.declared.LargestAnswer.the-variants.{Found, Disagree, Refused}
+use Rattle.mast.specs.declared.LargestResult.{LargestResult}
+use Rattle.mast.specs.Largest.{Solution, solved, clashed, turned, solve, setPlaces, largestOf, outputOf}
+use Rattle.job.specs.declared.JobAnswer.{JobAnswer}
+use Rattle.job.specs.declared.JobAnswer.the-variants as job-answer
+use Rattle.job.specs.declared.Named.{Named}
+use Rattle.job.specs.declared.Part.{Part}
+use Rattle.job.specs.Contents.{Bodies, bodiesOf}
+use Rattle.job.specs.Printed.{recordLines, solveBodies, solveJob, treeRoom}
+use Rattle.job.specs.Answered.{lineOutput, recordAnswer, partOfLabel, answered, jobOutput}
+use Rattle.job.specs.Areas.{labelsIn, untilComma}
+use Rattle.job.proofs.ShownLaws.{Listed, labels-are, listed-size, good-bytes}
+use Rattle.job.proofs.SolvedLaws.{SolvedBy, ClashedBy, From, solution-from, set-few, set-shown, list-text, eight, label-listed}
+
+-- ---- one kind of answer each
+
+pub answered-turned : (bytes room : ℕ) (x : Solution) (q : Refusal) → x ≡ turned q → job-answer.Refused q ≡ answered bytes room x
+unfolding answered
+answered-turned bytes room x q e = rw e refl
+
+pub output-turned : (x : Solution) (q : Refusal) (out : List ℕ) → x ≡ turned q → out ≡ jobOutput x out
+unfolding jobOutput
+output-turned x q out e = rw e refl
+
+pub answered-solved : (bytes room : ℕ) (x : Solution) (s : Tree) (X : List Label) (text : List ℕ) → x ≡ solved s X text
+    → recordAnswer (recordLines X text) room ≡ answered bytes room x
+unfolding answered
+answered-solved bytes room x s X text e = ap (answered bytes room) (sym e)
+
+pub output-solved : (x : Solution) (s : Tree) (X : List Label) (text out : List ℕ) → x ≡ solved s X text
+    → lineOutput (recordLines X text) out ≡ jobOutput x out
+unfolding jobOutput
+output-solved x s X text out e = ap (λ (y : Solution). jobOutput y out) (sym e)
+
+pub answered-clashed : (bytes room : ℕ) (x : Solution) (xs : List Label) (a b c : Label) → x ≡ clashed xs a b c
+    → job-answer.Disagree (record { first = partOfLabel bytes xs a; second = partOfLabel bytes xs b; third = partOfLabel bytes xs c })
+    ≡ answered bytes room x
+unfolding answered
+answered-clashed bytes room x xs a b c e = ap (answered bytes room) (sym e)
+
+pub output-clashed : (x : Solution) (xs : List Label) (a b c : Label) (out : List ℕ) → x ≡ clashed xs a b c → out ≡ jobOutput x out
+unfolding jobOutput
+output-clashed x xs a b c out e = ap (λ (y : Solution). jobOutput y out) (sym e)
+
+-- ---- what the engine found
+
+-- a set with n labels and a text of k bytes
+pub record SetFound (first second list area : List ℕ) (places : LabelPlaces) (k : ℕ) : Type 0 where
+  pub s : Tree
+  pub X : List Label
+  pub text : List ℕ
+  pub solution : solve first second list treeRoom ≡ solved s X text
+  pub short : length text ≤ 1518
+  pub front : take k area ≡ text
+  pub inside : k ≤ length area
+  pub few : places .count ≤ 80
+  pub labels : labelsIn first (places .start) (places .size) (places .count) ≡ X
+
+-- a label of the list at place i
+pub record Clasher (list : List ℕ) (xs : List Label) (x : Label) (i : ℕ) : Type 0 where
+  pub inside : i ≤ length list
+  pub part : (base : ℕ) → _≡_ {A = Part} (record { start = base + i; size = length (untilComma (drop i list)) }) (partOfLabel (base + length list) xs x)
+
+pub record EightFound (first second list : List ℕ) (i j k : ℕ) : Type 0 where
+  pub xs : List Label
+  pub a : Label
+  pub b : Label
+  pub c : Label
+  pub solution : solve first second list treeRoom ≡ clashed xs a b c
+  pub one : Clasher list xs a i
+  pub two : Clasher list xs b j
+  pub three : Clasher list xs c k
+
+module _ (first list : List ℕ) (xs : List Label) (a b c : Label) (w : ClashedBy first list xs a b c) where
+  clasher : (x : Label) → isIn x xs ≡ true → (i : ℕ) → i ≡ placeOfLabel xs 0 x → Clasher list xs x i
+  unfolding partOfLabel
+  clasher x h i e =
+      let l = label-listed first list xs a b c w x h in
+      let s = l .0 .shown in
+      let p : i ≡ length (s .before) = e ∙ s .place in
+      let t : length list ≡ length (joined xs) = ap (length {A = ℕ}) (list-text first list xs a b c w) in
+      record {
+        inside = omega (arith, p, ap (length {A = ℕ}) (s .is), length-append (s .before) (x ++ s .after));
+        part =
+            λ base.
+            ap₂ (λ (m n : ℕ). record { start = m; size = n }) (omega (arith, e, t))
+            (ap (λ (k : ℕ). length (untilComma (drop k list))) e
+            ∙ listed-size list (placeOfLabel xs 0 x) x (l .0) (good-bytes x (l .1)));
+      }
+
+module _ (first second list blank area : List ℕ) (r : LargestResult) (roomy : length blank ≡ 1518)
+    (told : r ≡ largestOf (solve first second list (length blank)))
+    (kept : area ≡ outputOf (solve first second list (length blank)) blank) where
+  in-room : (x : Solution) → solve first second list (length blank) ≡ x → solve first second list treeRoom ≡ x
+  in-room x e = ap (solve first second list) (sym roomy) ∙ e
+
+  pub found-set : (n k : ℕ) → r .answer ≡ Found n k → SetFound first second list area (r .set) k
+  unfolding largestOf outputOf setPlaces
+  found-set n k e =
+      go (solve first second list (length blank)) refl (solution-from first second list (length blank)) told kept
+    where
+      go : (x : Solution) → solve first second list (length blank) ≡ x → From first list (length blank) x → r ≡ largestOf x
+          → area ≡ outputOf x blank → SetFound first second list area (r .set) k
+      go (solved s X text) q f t o =
+          let h : Found n k ≡ Found (length X) (length text) = sym e ∙ ap (λ (z : LargestResult). z .answer) t in
+          let m : length text ≡ k = cc in
+          record {
+            s = s;
+            X = X;
+            text = text;
+            solution = in-room (solved s X text) q;
+            short = omega (arith, f .short);
+            front = ap (take k) o ∙ take-at text (drop (length text) blank) k m;
+            inside = omega (arith, m, ap (length {A = ℕ}) o, length-append text (drop (length text) blank));
+            few = omega (arith, set-few first list (length blank) s X text f, ap (λ (z : LargestResult). z .set .count) t);
+            labels =
+                ap (λ (z : LargestResult). labelsIn first (z .set .start) (z .set .size) (z .set .count)) t
+                ∙ labels-are first (placeIn s 0) X (set-shown first list (length blank) s X text f);
+          }
+      go (clashed xs a b c) q f t o =
+          let h : Found n k ≡ Disagree (placeOfLabel xs 0 a) (placeOfLabel xs 0 b) (placeOfLabel xs 0 c) = sym e ∙ ap (λ (z : LargestResult). z .answer) t in
+          let z : _≡_ {A = ℕ} 0 1 = cc in
+          absurd (omega arith)
+      go (turned p) q f t o =
+          let h : Found n k ≡ Refused p = sym e ∙ ap (λ (z : LargestResult). z .answer) t in
+          let z : _≡_ {A = ℕ} 0 1 = cc in
+          absurd (omega arith)
+
+  pub found-eight : (i j k : ℕ) → r .answer ≡ Disagree i j k → EightFound first second list i j k
+  unfolding largestOf
+  found-eight i j k e = go (solve first second list (length blank)) refl (solution-from first second list (length blank)) told
+    where
+      go : (x : Solution) → solve first second list (length blank) ≡ x → From first list (length blank) x → r ≡ largestOf x
+          → EightFound first second list i j k
+      go (solved s X text) q f t =
+          let h : Disagree i j k ≡ Found (length X) (length text) = sym e ∙ ap (λ (z : LargestResult). z .answer) t in
+          let z : _≡_ {A = ℕ} 0 1 = cc in
+          absurd (omega arith)
+      go (clashed xs a b c) q f t =
+          let h : Disagree i j k ≡ Disagree (placeOfLabel xs 0 a) (placeOfLabel xs 0 b) (placeOfLabel xs 0 c) =
+          sym e ∙ ap (λ (z : LargestResult). z .answer) t in
+          let l = eight first list xs a b c f in
+          let u : i ≡ placeOfLabel xs 0 a = cc in
+          let v : j ≡ placeOfLabel xs 0 b = cc in
+          let w : k ≡ placeOfLabel xs 0 c = cc in
+          record {
+            xs = xs;
+            a = a;
+            b = b;
+            c = c;
+            solution = in-room (clashed xs a b c) q;
+            one = clasher first list xs a b c f a (l .0) i u;
+            two = clasher first list xs a b c f b (l .1) j v;
+            three = clasher first list xs a b c f c (l .2) k w;
+          }
+      go (turned p) q f t =
+          let h : Disagree i j k ≡ Refused p = sym e ∙ ap (λ (z : LargestResult). z .answer) t in
+          let z : _≡_ {A = ℕ} 0 1 = cc in
+          absurd (omega arith)
+
+  pub found-refusal : (p : Refusal) → r .answer ≡ Refused p → solve first second list treeRoom ≡ turned p
+  unfolding largestOf
+  found-refusal p e = go (solve first second list (length blank)) refl told
+    where
+      go : (x : Solution) → solve first second list (length blank) ≡ x → r ≡ largestOf x → solve first second list treeRoom ≡ turned p
+      go (solved s X text) q t =
+          let h : Refused p ≡ Found (length X) (length text) = sym e ∙ ap (λ (z : LargestResult). z .answer) t in
+          let z : _≡_ {A = ℕ} 0 1 = cc in
+          absurd (omega arith)
+      go (clashed xs a b c) q t =
+          let h : Refused p ≡ Disagree (placeOfLabel xs 0 a) (placeOfLabel xs 0 b) (placeOfLabel xs 0 c) =
+          sym e ∙ ap (λ (z : LargestResult). z .answer) t in
+          let z : _≡_ {A = ℕ} 0 1 = cc in
+          absurd (omega arith)
+      go (turned o) q t =
+          let h : Refused p ≡ Refused o = sym e ∙ ap (λ (z : LargestResult). z .answer) t in
+          let m : o ≡ p = cc in
+          in-room (turned o) q ∙ ap turned m
+
+-- ---- the job
+
+pub job-long : (job : List ℕ) → 8192 < length job → solveJob job ≡ turned (record { reason = JobTooLong; body = J; place = 0 })
+unfolding solveJob
+job-long job h = rw (lt-leb (length job) 8192 h) refl
+
+job-bodies : (job : List ℕ) (b : Option Bodies) → length job ≤ 8192 → bodiesOf job ≡ b → solveJob job ≡ solveBodies b
+unfolding solveJob
+job-bodies job b h e = rw (le-leb (length job) 8192 h) (ap solveBodies e)
+
+pub job-broken : (job : List ℕ) → length job ≤ 8192 → bodiesOf job ≡ none
+    → solveJob job ≡ turned (record { reason = Contents; body = J; place = 0 })
+unfolding solveBodies
+job-broken job h e = job-bodies job none h e
+
+module _ (job : List ℕ) (at s t : ℕ) (inside : at + s + t ≤ length job) where
+  pub list-part : take (length job - (at + s + t)) (drop (at + s + t) job) ≡ drop (at + s + t) job
+  list-part = take-all (length job - (at + s + t)) (drop (at + s + t) job) (omega (arith, length-drop (at + s + t) job))
+
+  pub list-end : at + s + t + length (take (length job - (at + s + t)) (drop (at + s + t) job)) ≡ length job
+  list-end = omega (arith, ap (length {A = ℕ}) list-part, length-drop (at + s + t) job)
+
+  pub job-solved : length job ≤ 8192
+      → bodiesOf job
+      ≡ some (record { first = take s (drop at job); second = take t (drop (at + s) job); list = drop (at + s + t) job })
+      → solve (take (at + s - at) (drop at job)) (take (at + s + t - (at + s)) (drop (at + s) job))
+      (take (length job - (at + s + t)) (drop (at + s + t) job)) treeRoom
+      ≡ solveJob job
+  unfolding solveBodies
+  job-solved h e =
+      let u : at + s - at ≡ s = omega arith in
+      let v : at + s + t - (at + s) ≡ t = omega arith in
+      rw (u, v, list-part) (sym (job-bodies job _ h e))
+
+pub named-eq : {p q r u v w : Part} → p ≡ u → q ≡ v → r ≡ w
+    → job-answer.Disagree (record { first = p; second = q; third = r }) ≡ job-answer.Disagree (record { first = u; second = v; third = w })
+named-eq e f g = rw (e, f, g) refl
+
+-- the engine's area for the tree text
+abbrev pub blank : List ℕ
+blank = replicate 1518 0
+
+pub blank-room : length blank ≡ 1518
+blank-room = length-replicate {A = ℕ} 1518 0

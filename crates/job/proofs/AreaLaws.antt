@@ -1,0 +1,175 @@
+-- Texts put into an area one after another, and a text handed over. Assumes nothing.
+use Prim.Native.Nat.{ℕ, zero, suc, _+_, _-_, _*_, _≤_, _<_, min}
+use mathlib.Core.Path.{_≡_, refl, sym, _∙_, ap, ap₂, subst}
+use mathlib.Core.Bool.{Bool, true, false, cond}
+use mathlib.Core.Logic.{_⊎_, inl, inr}
+use mathlib.Core.List.{List, [], _∷_, _++_, append-assoc, append-nil}
+use native.Mathlib.Nat.{add-zero, zero-add}
+use native.Mathlib.Numerals.{add-one}
+use native.Mathlib.Omega.{arith}
+use lib.Dec.{leb}
+use lib.ListN.{length, getD, set, take, drop, length-append, length-take, length-drop, length-set, take-append-drop}
+use lib.Seq.{take-suc, take-suc-set, drop-set-lt, drop-drop, take-length}
+use borrow.Author.Tests.{le-leb, lt-leb, leb-true, leb-false}
+use Rattle.trees.specs.Label.{Label}
+use Rattle.trees.specs.Stored.{partOf}
+use Rattle.trees.proofs.Bools.{bool-cases}
+use Rattle.lists.specs.ReadList.{joined}
+use Rattle.job.specs.declared.LineAnswer.{LineAnswer}
+use Rattle.job.specs.declared.LineAnswer.the-variants.{Written, TooShort}
+use Rattle.job.specs.Answered.{lineAnswer, lineOutput, labelIn}
+use Rattle.job.specs.Areas.{Put, item, labelsIn}
+
+-- ---- one text after another
+
+pub put-none : (a : List ℕ) (at : ℕ) → Put a at [] (at + 0) a
+put-none a at =
+    record {
+      ends = refl;
+      front = ap (λ (k : ℕ). take k a) (add-zero at) ∙ sym (append-nil (take at a));
+      back = refl;
+      whole = refl;
+    }
+
+pub put-one : (a : List ℕ) (at next b : ℕ) → next ≡ at + 1 → at < length a → Put a at (b ∷ []) next (set a at b)
+put-one a at next b e h =
+    let e′ : next ≡ suc at = e ∙ add-one at in
+    record {
+      ends = e;
+      front = ap (λ (k : ℕ). take k (set a at b)) e′ ∙ take-suc-set a at b h;
+      back = drop-set-lt next a at b (omega arith);
+      whole = length-set a at b;
+    }
+
+pub put-then : {a b d x y : List ℕ} {at i j : ℕ} → Put a at x i b → Put b i y j d → Put a at (x ++ y) j d
+put-then {a} {b} {d} {x} {y} {at} {i} {j} p q =
+    record {
+      ends = omega (arith, p .ends, q .ends, length-append x y);
+      front = q .front ∙ ap (λ (l : List ℕ). l ++ y) (p .front) ∙ append-assoc (take at a) x y;
+      back =
+          q .back
+          ∙ ap (λ (k : ℕ). drop k b) (q .ends)
+          ∙ sym (drop-drop (length y) i b)
+          ∙ ap (drop (length y)) (p .back)
+          ∙ drop-drop (length y) i a
+          ∙ ap (λ (k : ℕ). drop k a) (sym (q .ends));
+      whole = q .whole ∙ p .whole;
+    }
+
+-- the same text, told another way
+pub put-as : {a b : List ℕ} {at i : ℕ} (x y : List ℕ) → x ≡ y → Put a at x i b → Put a at y i b
+put-as {a} {b} {at} {i} x y e p = subst (λ (z : List ℕ). Put a at z i b) e p
+
+-- the next place, told another way
+pub put-to : {a b x : List ℕ} {at : ℕ} (i j : ℕ) → i ≡ j → Put a at x i b → Put a at x j b
+put-to {a} {b} {x} {at} i j e p = subst (λ (k : ℕ). Put a at x k b) e p
+
+-- one byte more of x
+pub put-more : (a b x : List ℕ) (at i : ℕ) → i < length x → at + length x ≤ length a → Put a at (take i x) (at + i) b
+    → Put a at (take (i + 1) x) (at + (i + 1)) (set b (at + i) (getD x i 0))
+put-more a b x at i h room p =
+    put-as (take i x ++ (getD x i 0 ∷ [])) (take (i + 1) x) (sym (ap (λ (k : ℕ). take k x) (add-one i) ∙ take-suc x i 0 h))
+    (put-then p (put-one b (at + i) (at + (i + 1)) (getD x i 0) (omega arith) (omega (arith, p .whole))))
+
+pub put-all : {a b : List ℕ} {at : ℕ} (x : List ℕ) (i : ℕ) → i ≡ length x → Put a at (take i x) (at + i) b → Put a at x (at + i) b
+put-all x i e p = put-as (take i x) x (ap (λ (k : ℕ). take k x) e ∙ take-length x) p
+
+-- ---- a text handed over
+
+pub handed : (text out after : List ℕ) (n : ℕ) → Put out 0 text n after → after ≡ text ++ drop (length text) out
+handed text out after n p =
+    sym (take-append-drop n after)
+    ∙ ap₂ (λ (a b : List ℕ). a ++ b) (p .front) (p .back)
+    ∙ ap (λ (k : ℕ). text ++ drop k out) (p .ends ∙ zero-add (length text))
+
+pub answer-fits : (text : List ℕ) (room n : ℕ) → length text ≤ room → n ≡ 0 + length text → Written n ≡ lineAnswer text room
+unfolding lineAnswer
+answer-fits text room n h e = rw (le-leb (length text) room h) (ap Written (e ∙ zero-add (length text)))
+
+pub answer-short : (text : List ℕ) (room : ℕ) → room < length text → TooShort ≡ lineAnswer text room
+unfolding lineAnswer
+answer-short text room h = rw (lt-leb (length text) room h) refl
+
+pub output-fits : (text out : List ℕ) → length text ≤ length out → text ++ drop (length text) out ≡ lineOutput text out
+unfolding lineOutput
+output-fits text out h = rw (le-leb (length text) (length out) h) refl
+
+pub output-short : (text out : List ℕ) → length out < length text → out ≡ lineOutput text out
+unfolding lineOutput
+output-short text out h = rw (lt-leb (length text) (length out) h) refl
+
+-- ---- labels
+
+pub label-whole : (text : List ℕ) (start size : ℕ) → size < 16 → partOf start size text ≡ labelIn text start size
+unfolding labelIn
+label-whole text start size h = let e : size ≡ min size 16 = omega arith in ap (λ (k : ℕ). partOf start k text) e
+
+pub label-cut : (text : List ℕ) (start size : ℕ) → 16 ≤ size → partOf start 16 text ≡ labelIn text start size
+unfolding labelIn
+label-cut text start size h = let e : 16 ≡ min size 16 = omega arith in ap (λ (k : ℕ). partOf start k text) e
+
+pub label-short : (text : List ℕ) (start size : ℕ) → length (labelIn text start size) ≤ 16
+unfolding labelIn partOf
+label-short text start size = go (leb (start + min size 16) (length text))
+  where
+    go : (b : Bool) → length (cond b (take (min size 16) (drop start text)) []) ≤ 16
+    go true = omega (arith, length-take (min size 16) (drop start text))
+    go false = omega arith
+
+pub item-first : (i : ℕ) (x : Label) → i ≡ 0 → x ≡ item i x
+unfolding item
+item-first zero x e = refl
+item-first (suc i) x e = absurd (omega arith)
+
+pub item-later : (i : ℕ) (x : Label) → (i ≡ 0 → ⊥) → (44 ∷ []) ++ x ≡ item i x
+unfolding item
+item-later zero x h = absurd (h refl)
+item-later (suc i) x h = refl
+
+pub item-short : (i : ℕ) (x : Label) → length (item i x) ≤ length x + 1
+unfolding item
+item-short zero x = omega arith
+item-short (suc i) x = omega arith
+
+joined-more : (x : Label) (xs : List Label) (y : Label) → joined ((x ∷ xs) ++ (y ∷ [])) ≡ joined (x ∷ xs) ++ (44 ∷ y)
+unfolding joined
+joined-more x [] y = refl
+joined-more x (z ∷ xs) y =
+    ap (λ (l : List ℕ). x ++ (44 ∷ l)) (joined-more z xs y) ∙ sym (append-assoc x (44 ∷ joined (z ∷ xs)) (44 ∷ y))
+
+-- one label more
+pub joined-snoc : (xs : List Label) (y : Label) → joined (xs ++ (y ∷ [])) ≡ joined xs ++ item (length xs) y
+unfolding joined item
+joined-snoc [] y = refl
+joined-snoc (x ∷ xs) y = joined-more x xs y
+
+pub length-labels : (text starts sizes : List ℕ) (n : ℕ) → length (labelsIn text starts sizes n) ≡ n
+unfolding labelsIn
+length-labels text starts sizes zero = refl
+length-labels text starts sizes (suc n) =
+    length-append (labelsIn text starts sizes n) (labelIn text (getD starts n 0) (getD sizes n 0) ∷ [])
+    ∙ ap (λ (k : ℕ). k + 1) (length-labels text starts sizes n)
+    ∙ add-one n
+
+-- the label with number i put after the first i
+pub put-label : {a b d : List ℕ} {at i j : ℕ} (text starts sizes : List ℕ) (n : ℕ)
+    → Put a at (joined (labelsIn text starts sizes n)) i b
+    → Put b i (item n (labelIn text (getD starts n 0) (getD sizes n 0))) j d
+    → Put a at (joined (labelsIn text starts sizes (n + 1))) j d
+unfolding labelsIn
+put-label text starts sizes n p q =
+    let x : Label = labelIn text (getD starts n 0) (getD sizes n 0) in
+    put-as (joined (labelsIn text starts sizes n) ++ item n x) (joined (labelsIn text starts sizes (n + 1)))
+    (ap (λ (k : ℕ). joined (labelsIn text starts sizes n) ++ item k x) (sym (length-labels text starts sizes n))
+    ∙ sym (joined-snoc (labelsIn text starts sizes n) x)
+    ∙ ap (λ (k : ℕ). joined (labelsIn text starts sizes k)) (sym (add-one n)))
+    (put-then p q)
+
+-- no label
+pub first-none : (a : List ℕ) (at : ℕ) (text starts sizes : List ℕ) → Put a at (joined (labelsIn text starts sizes 0)) at a
+unfolding labelsIn joined
+first-none a at text starts sizes = put-to (at + 0) at (add-zero at) (put-none a at)
+
+-- a part up to the end is what is left
+pub tail-slice : (l : List ℕ) (i n : ℕ) → length l - i ≤ n → take n (drop i l) ≡ drop i l
+tail-slice l i n h = lib.Seq.take-all n (drop i l) (omega (arith, length-drop i l))

@@ -1,0 +1,11 @@
+pub mod AnswerLaws
+pub mod AreaLaws
+pub mod ClashLaws
+pub mod ContentSteps
+pub mod ContentsLaws
+pub mod DecimalLaws
+pub mod LineLaws
+pub mod Promises
+pub mod RoomLaws
+pub mod ShownLaws
+pub mod SolvedLaws

@@ -1,0 +1,131 @@
+-- The engine's own area holds the text of every restriction: number 9 stands only for the caller's output. Assumes nothing.
+use Prim.Native.Nat.{ℕ, _≤_, _<_}
+use mathlib.Core.Path.{_≡_, refl, sym, _∙_, ap, subst}
+use mathlib.Core.Bool.{Bool, true, false, cond}
+use mathlib.Core.Logic.{_⊎_, inl, inr}
+use mathlib.Core.List.{List}
+use mathlib.Core.Option.{Option, some, none}
+use native.Mathlib.Omega.{arith}
+use lib.Dec.{leb}
+use lib.ListN.{length}
+use borrow.Author.Tests.{le-leb, leb-false}
+use Rattle.trees.specs.declared.Reason.{Reason}
+use Rattle.trees.specs.declared.Reason.the-variants.{JobTooLong}
+use Rattle.trees.specs.declared.Body.the-variants.{J}
+use Rattle.trees.specs.declared.Refusal.{Refusal}
+use Rattle.trees.specs.Refusals.{numberOf}
+use Rattle.trees.specs.Label.{Label}
+use Rattle.trees.specs.Tree.{Tree, Valid, normal}
+use Rattle.trees.specs.Text.{normalText}
+use Rattle.trees.specs.Reading.{Reading, good, refused}
+use Rattle.trees.specs.Faults.{Fault, bad-byte, ends-too-soon, label-too-long, too-many, repeated}
+use Rattle.trees.proofs.Bools.{bool-cases}
+use Rattle.trees.proofs.NormalLaws.{normal-valid}
+use Rattle.trees.proofs.ArrayLaws.{text-short}
+use Rattle.newick.specs.ReadTree.{readTree}
+use Rattle.newick.proofs.Accepts.{accepts}
+use Rattle.newick.proofs.TreeFaults.{refusal}
+use Rattle.lists.specs.ReadList.{readList}
+use Rattle.lists.proofs.Promises.{refused-first}
+use Rattle.agreement.specs.Sets.{setOf}
+use Rattle.agreement.specs.Restrict.{restrict}
+use Rattle.agreement.specs.Answer.{Answer, firstLacks, secondLacks, disagree, largest, answer}
+use Rattle.agreement.specs.Places.{keptText}
+use Rattle.agreement.proofs.RestrictText.{restrict-valid}
+use Rattle.mast.specs.Largest.{Solution, solved, clashed, turned, fitted, solutionOf, solveList, solveSecond, solveFirst, solve}
+use Rattle.job.specs.declared.JobAnswer.the-variants as job-answer
+use Rattle.job.specs.Contents.{Bodies, bodiesOf}
+use Rattle.job.specs.Printed.{treeRoom, solveBodies, solveJob, recordLines, printedOf, printed}
+use Rattle.job.specs.Answered.{recordAnswer, answered}
+
+-- ---- the text of a restriction
+
+pub kept-short : (X : Label → Bool) (s : Tree) → Valid s → length (keptText (restrict X s)) ≤ 1518
+unfolding keptText normalText
+kept-short X s v = go (restrict X s) refl
+  where
+    go : (o : Option Tree) → restrict X s ≡ o → length (keptText o) ≤ 1518
+    go none e = omega arith
+    go (some r) e = text-short (normal r) (normal-valid r (restrict-valid X s r v e))
+
+pub text-fits : (s : Tree) (X : List Label) → Valid s
+    → fitted s X (keptText (restrict (setOf X) s)) treeRoom ≡ solved s X (keptText (restrict (setOf X) s))
+unfolding fitted
+text-fits s X v = rw (le-leb (length (keptText (restrict (setOf X) s))) 1518 (kept-short (setOf X) s v)) refl
+
+-- ---- the other refusals
+
+fault-low : {Whole : List ℕ → Type 0} {Crowd : List ℕ → ℕ → Type 0} {text : List ℕ} {r : Reason} {i : ℕ} → Fault Whole Crowd text r i
+    → numberOf r ≤ 5
+unfolding numberOf
+fault-low (bad-byte i a b c) = omega arith
+fault-low (ends-too-soon a b) = omega arith
+fault-low (label-too-long j a b) = omega arith
+fault-low (too-many i a) = omega arith
+fault-low (repeated j k a b c d e) = omega arith
+
+-- not number 9
+abbrev pub NotNine : Solution → Type 0
+NotNine (solved s X text) = Prim.Unit {0}
+NotNine (clashed xs a b c) = Prim.Unit {0}
+NotNine (turned q) = numberOf (q .reason) ≡ 9 → ⊥
+
+module _ (first second list : List ℕ) where
+  never-nine : NotNine (solve first second list treeRoom)
+  unfolding solve solveFirst solveSecond solveList solutionOf numberOf
+  never-nine = go (readTree first) (readTree second) (readList list) refl refl refl
+    where
+      low : (r : Reason) → numberOf r ≤ 5 → numberOf r ≡ 9 → ⊥
+      low r h e = omega arith
+
+      go : (a b : Reading Tree) (c : Reading (List Label)) → readTree first ≡ a → readTree second ≡ b → readList list ≡ c
+          → NotNine (solveFirst treeRoom a b c)
+      go (refused r i) b c ea eb ec = low r (fault-low (refusal first r i ea .here))
+      go (good s) (refused r i) c ea eb ec = low r (fault-low (refusal second r i eb .here))
+      go (good s) (good t) (refused r i) ea eb ec = low r (fault-low (refused-first list r i ec .here))
+      go (good s) (good t) (good xs) ea eb ec = answers (answer s t xs)
+        where
+          answers : (w : Answer) → NotNine (solutionOf s xs treeRoom w)
+          answers (firstLacks n) = λ h. omega arith
+          answers (secondLacks n) = λ h. omega arith
+          answers (disagree a b c) = tt
+          answers (largest X) = subst NotNine (sym (text-fits s X (accepts first s ea .1))) tt
+
+  -- whatever the three texts are
+  pub engine-fits : (q : Refusal) → solve first second list treeRoom ≡ turned q → numberOf (q .reason) ≡ 9 → ⊥
+  engine-fits q e = subst NotNine e never-nine
+
+job-never-nine : (job : List ℕ) → NotNine (solveJob job)
+unfolding solveJob solveBodies numberOf
+job-never-nine job = go (leb (length job) 8192) (bodiesOf job)
+  where
+    go : (b : Bool) (o : Option Bodies) → NotNine (cond b (solveBodies o) (turned (record { reason = JobTooLong; body = J; place = 0 })))
+    go true none = λ h. omega arith
+    go true (some b) = never-nine (b .first) (b .second) (b .list)
+    go false o = λ h. omega arith
+
+pub job-fits : (job : List ℕ) (q : Refusal) → solveJob job ≡ turned q → numberOf (q .reason) ≡ 9 → ⊥
+job-fits job q e = subst NotNine e (job-never-nine job)
+
+-- number 9 for a job: the output is shorter than the printed lines
+pub nine-output : (job : List ℕ) (room : ℕ) (q : Refusal) → answered (length job) room (solveJob job) ≡ job-answer.Refused q
+    → numberOf (q .reason) ≡ 9 → room < length (printed job)
+unfolding answered recordAnswer printed printedOf
+nine-output job room q e n = go (solveJob job) (job-never-nine job) e
+  where
+    short : (X : List Label) (text : List ℕ) → (leb (length (recordLines X text)) room ≡ true) ⊎ (leb (length (recordLines X text)) room ≡ false)
+        → recordAnswer (recordLines X text) room ≡ job-answer.Refused q → room < length (recordLines X text)
+    short X text (inl f) h =
+        let g : job-answer.Written (length (recordLines X text)) ≡ job-answer.Refused q = rw f at h in
+        let z : _≡_ {A = ℕ} 0 1 = cc in
+        absurd (omega arith)
+    short X text (inr f) h = leb-false (length (recordLines X text)) room f
+
+    go : (x : Solution) → NotNine x → answered (length job) room x ≡ job-answer.Refused q → room < length (printedOf x)
+    go (solved s X text) k h = short X text (bool-cases (leb (length (recordLines X text)) room)) h
+    go (clashed xs a b c) k h =
+        let z : _≡_ {A = ℕ} 0 1 = cc in
+        absurd (omega arith)
+    go (turned p) k h =
+        let g : p ≡ q = cc in
+        absurd (k (ap (λ (r : Refusal). numberOf (r .reason)) g ∙ n))

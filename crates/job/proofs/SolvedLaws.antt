@@ -1,0 +1,132 @@
+-- What a solution says of the bodies: the tree, the list and the answer it comes from. Assumes nothing.
+use Prim.Native.Nat.{ℕ, zero, suc, _+_, _-_, _≤_, _<_}
+use mathlib.Core.Path.{_≡_, refl, sym, _∙_, ap, subst}
+use mathlib.Core.Bool.{Bool, true, false, cond}
+use mathlib.Core.Logic.{_⊎_, inl, inr}
+use mathlib.Core.List.{List, [], _∷_, _++_}
+use native.Mathlib.Omega.{arith}
+use lib.Dec.{leb}
+use lib.ListN.{length, take, drop}
+use borrow.Author.Tests.{leb-true}
+use Rattle.trees.specs.declared.Reason.the-variants.{TooShort}
+use Rattle.trees.specs.declared.Body.the-variants.{O}
+use Rattle.trees.specs.Label.{Label, isIn, goodLabel, goodLabels, distinct}
+use Rattle.trees.specs.Tree.{Tree, leaves, Valid}
+use Rattle.trees.specs.Text.{textOf}
+use Rattle.trees.specs.Reading.{Reading, good, refused}
+use Rattle.trees.proofs.Bools.{bool-cases}
+use Rattle.newick.specs.ReadTree.{readTree}
+use Rattle.newick.proofs.Promises.{accepted-text}
+use Rattle.lists.specs.ReadList.{readList, joined}
+use Rattle.lists.proofs.Promises.{accepted-list}
+use Rattle.agreement.specs.Closer.{holds}
+use Rattle.agreement.specs.Sets.{setOf, keep}
+use Rattle.agreement.specs.Restrict.{restrict}
+use Rattle.agreement.specs.Answer.{Answer, firstLacks, secondLacks, disagree, largest, answer}
+use Rattle.agreement.specs.Places.{placeIn, placeOfLabel, keptText}
+use Rattle.agreement.specs.Demand.{IsAnswer}
+use Rattle.agreement.proofs.Promises.{set-promise, answer-promise}
+use Rattle.agreement.proofs.SetLaws.{count-held}
+use Rattle.mast.specs.Largest.{Solution, solved, clashed, turned, fitted, solutionOf, solveList, solveSecond, solveFirst, solve}
+use Rattle.job.proofs.ShownLaws.{Shown, tree-shown, Listed, list-listed, good-in, good-short, good-bytes}
+
+pub record SolvedBy (first list : List ℕ) (room : ℕ) (s : Tree) (X : List Label) (text : List ℕ) : Type 0 where
+  pub other : Tree
+  pub required : List Label
+  pub read : readTree first ≡ good s
+  pub listed : readList list ≡ good required
+  pub is : answer s other required ≡ largest X
+  pub short : length text ≤ room
+
+pub record ClashedBy (first list : List ℕ) (xs : List Label) (a b c : Label) : Type 0 where
+  pub one : Tree
+  pub other : Tree
+  pub read : readTree first ≡ good one
+  pub listed : readList list ≡ good xs
+  pub is : answer one other xs ≡ disagree a b c
+
+-- what a solution comes from
+abbrev pub From : List ℕ → List ℕ → ℕ → Solution → Type 0
+From first list room (solved s X text) = SolvedBy first list room s X text
+From first list room (clashed xs a b c) = ClashedBy first list xs a b c
+From first list room (turned q) = Prim.Unit {0}
+
+module _ (first second list : List ℕ) (room : ℕ) where
+  pub solution-from : From first list room (solve first second list room)
+  unfolding solve solveFirst solveSecond solveList solutionOf fitted
+  solution-from = go (readTree first) (readTree second) (readList list) refl refl
+    where
+      go : (a b : Reading Tree) (c : Reading (List Label)) → readTree first ≡ a → readList list ≡ c → From first list room (solveFirst room a b c)
+      go (refused r i) b c ea ec = tt
+      go (good s) (refused r i) c ea ec = tt
+      go (good s) (good t) (refused r i) ea ec = tt
+      go (good s) (good t) (good xs) ea ec = answers (answer s t xs) refl
+        where
+          answers : (w : Answer) → answer s t xs ≡ w → From first list room (solutionOf s xs room w)
+          answers (firstLacks n) e = tt
+          answers (secondLacks n) e = tt
+          answers (disagree a b c) e = record { one = s; other = t; read = ea; listed = ec; is = e }
+          answers (largest X) e = fits (leb (length (keptText (restrict (setOf X) s))) room) refl
+            where
+              fits : (q : Bool) → leb (length (keptText (restrict (setOf X) s))) room ≡ q
+                  → From first list room (cond q (solved s X (keptText (restrict (setOf X) s))) (turned (record { reason = TooShort; body = O; place = 0 })))
+              fits true l =
+                  record { other = t; required = xs; read = ea; listed = ec; is = e; short = leb-true _ room l }
+              fits false l = tt
+
+keep-few : (X : Label → Bool) (ys : List Label) → length (keep X ys) ≤ length ys
+unfolding keep
+keep-few X [] = omega arith
+keep-few X (y ∷ ys) = go (X y) (keep-few X ys)
+  where
+    go : (b : Bool) → length (keep X ys) ≤ length ys → length (cond b (y ∷ keep X ys) (keep X ys)) ≤ length (y ∷ ys)
+    go true h = omega arith
+    go false h = omega arith
+
+-- the set of a solution: at most 80 labels, each shown in the first tree's text
+module _ (first list : List ℕ) (room : ℕ) (s : Tree) (X : List Label) (text : List ℕ) (b : SolvedBy first list room s X text) where
+  set-valid : Valid s
+  set-valid = accepted-text first s (b .read) .1
+
+  set-answer : IsAnswer s (b .other) (b .required) X
+  set-answer =
+      set-promise s (b .other) (b .required) set-valid (accepted-list list (b .required) (b .listed) .2) X .0 (b .is)
+
+  in-tree : (x : Label) → isIn x X ≡ true → holds s x ≡ true
+  in-tree x h = set-answer .allowedSet .commonLeaves x h .0
+
+  pub set-few : length X ≤ 80
+  unfolding holds
+  set-few =
+      omega (
+        arith,
+        count-held X (leaves s) (set-answer .allowedSet .ordered) (set-valid .different) in-tree,
+        keep-few (setOf X) (leaves s),
+        set-valid .few,
+      )
+
+  pub set-shown : (x : Label) → isIn x X ≡ true → Shown first (placeIn s 0 x) x × (length x ≤ 16)
+  unfolding holds
+  set-shown x h =
+      let e = accepted-text first s (b .read) .0 in (
+        subst (λ (t : List ℕ). Shown t (placeIn s 0 x) x) (sym e) (tree-shown s x (in-tree x h)),
+        good-short x (good-in (leaves s) x (set-valid .labels) (in-tree x h)),
+      )
+
+-- the three labels of number 8 stand in the list
+module _ (first list : List ℕ) (xs : List Label) (a b c : Label) (w : ClashedBy first list xs a b c) where
+  pub list-text : list ≡ joined xs
+  list-text = accepted-list list xs (w .listed) .0
+
+  pub eight : (isIn a xs ≡ true) × (isIn b xs ≡ true) × (isIn c xs ≡ true)
+  eight =
+      let o =
+      answer-promise (w .one) (w .other) xs (accepted-text first (w .one) (w .read) .1) (accepted-list list xs (w .listed) .2)
+      (disagree a b c) .0 (w .is) in
+      (o .1 .clash .inOne, o .1 .clash .inTwo, o .1 .clash .inThree)
+
+  pub label-listed : (x : Label) → isIn x xs ≡ true → Listed list (placeOfLabel xs 0 x) x × (goodLabel x ≡ true)
+  label-listed x h = (
+    subst (λ (t : List ℕ). Listed t (placeOfLabel xs 0 x) x) (sym list-text) (list-listed xs x h),
+    good-in xs x (accepted-list list xs (w .listed) .1) h,
+  )

@@ -1,0 +1,27 @@
+-- `job::lines::hand_over` meets its contract: all of the text, or nothing. Assumes nothing.
+use Rattle.job.proofs.AreaLaws.{handed, answer-fits, answer-short, output-fits, output-short}
+use native.Mathlib.Omega.{arith}
+use mathlib.Core.Path.{_∙_}
+use borrow.Author.Needs.{needs}
+use Rattle.job.proofs.lines.hand_over.Statement.{statement}
+use Rattle.job.proofs.lines.hand_over.Tie as tie
+
+returns : tie.Need-returns
+returns c =
+    let a = c .before .before .before .args in
+    (answer-short (a .text .now) _ (omega arith), output-short (a .text .now) (a .out .now) (omega arith))
+
+put-bytes-requires : tie.Need-put-bytes-requires
+put-bytes-requires c κs = search needs
+
+same-length : tie.Need-same-length
+same-length c = search needs
+
+returns-2 : tie.Need-returns-2
+returns-2 c =
+    let a = c .before .before .before .before .before .before .before .args in
+    let p = c .before .before .put-bytes .ensures in
+    (answer-fits (a .text .now) _ _ (omega arith) (p .ends), handed (a .text .now) (a .out .now) _ _ p ∙ output-fits (a .text .now) (a .out .now) (omega arith))
+
+pub hand-over-spec : {M : Type 1} → statement M
+hand-over-spec = tie.close (tie.spec returns put-bytes-requires same-length returns-2)

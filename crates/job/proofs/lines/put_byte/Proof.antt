@@ -1,0 +1,23 @@
+-- `job::lines::put_byte` meets its contract. Assumes nothing.
+use Rattle.job.proofs.AreaLaws.{put-one}
+use mathlib.Core.Path.{refl}
+use native.Mathlib.Omega.{arith}
+use borrow.Author.Needs.{needs}
+use Rattle.job.proofs.lines.put_byte.Statement.{statement}
+use Rattle.job.proofs.lines.put_byte.Tie as tie
+
+slice-write-area : tie.Need-slice-write-area
+slice-write-area c = search needs
+
+add-result : tie.Need-add-result
+add-result c = search needs
+
+same-length : tie.Need-same-length
+same-length c = search needs
+
+returns : tie.Need-returns
+returns c =
+    put-one _ _ _ _ refl (omega arith)
+
+pub put-byte-spec : {M : Type 1} → statement M
+put-byte-spec = tie.close (tie.spec slice-write-area add-result same-length returns)

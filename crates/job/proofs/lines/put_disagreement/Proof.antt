@@ -1,0 +1,141 @@
+-- `job::lines::put_disagreement` meets its contract: the words, a blank, three labels and a line end. Assumes nothing.
+use Rattle.job.proofs.AreaLaws.{put-then, put-as, item-short, label-short}
+use Rattle.job.proofs.LineLaws.{words-short, named-parts, named-short, item-named}
+use Rattle.job.specs.Areas.{Put, item}
+use Rattle.job.specs.Answered.{labelIn}
+use Rattle.trees.specs.declared.Reason.the-variants.{Disagree}
+use Rattle.trees.specs.declared.Body.the-variants.{K}
+use mathlib.Core.Path.{_∙_, _≡_, ap}
+use mathlib.Core.List.{List}
+use native.Mathlib.Omega.{arith}
+use Prim.Native.Nat.{ℕ, _+_, _≤_}
+use lib.ListN.{length}
+use borrow.Author.Needs.{needs}
+use Rattle.job.proofs.lines.put_disagreement.Statement.{statement}
+use Rattle.job.proofs.lines.put_disagreement.Tie as tie
+
+put-refusal-requires : tie.Need-put-refusal-requires
+put-refusal-requires c κs = search needs
+
+put-byte-requires : tie.Need-put-byte-requires
+put-byte-requires c κs =
+    omega (arith, c .before .before .before .put-refusal .ensures, words-short (record { reason = Disagree; body = K; place = 0 }), c .before .before .before .before .before .before .before .pre)
+
+label-in-requires : tie.Need-label-in-requires
+label-in-requires c κs = search needs
+
+put-item-requires : tie.Need-put-item-requires
+put-item-requires c κs =
+    let s1 = c .before .before .before .before .before in
+    let s2 = s1 .before .before .before .before in
+    let s3 = s2 .before .before .before .before in
+    let w = words-short (record { reason = Disagree; body = K; place = 0 }) in
+    omega (arith, s2 .put-refusal .ensures, s1 .put-byte .ensures, w, named-short _ _ _ (c .before .label-in .ensures), s3 .pre)
+
+label-in-requires-2 : tie.Need-label-in-requires-2
+label-in-requires-2 c κs = search needs
+
+put-item-requires-2 : tie.Need-put-item-requires-2
+put-item-requires-2 c κs =
+    let s1 = c .before .before .before .before .before in
+    let s2 = s1 .before .before in
+    let s3 = s2 .before .before .before .before in
+    let s4 = s3 .before .before .before .before in
+    let s5 = s4 .before .before .before .before in
+    let w = words-short (record { reason = Disagree; body = K; place = 0 }) in
+    omega (arith, s4 .put-refusal .ensures, s3 .put-byte .ensures, w, item-named 0 _ _ _ (s2 .label-in .ensures), s1 .put-item .ensures, named-short _ _ _ (c .before .label-in2 .ensures), s5 .pre)
+
+label-in-requires-3 : tie.Need-label-in-requires-3
+label-in-requires-3 c κs = search needs
+
+put-item-requires-3 : tie.Need-put-item-requires-3
+put-item-requires-3 c κs =
+    let s1 = c .before .before .before .before .before in
+    let s2 = s1 .before .before in
+    let s3 = s2 .before .before .before .before in
+    let s4 = s3 .before .before in
+    let s5 = s4 .before .before .before .before in
+    let s6 = s5 .before .before .before .before in
+    let s7 = s6 .before .before .before .before in
+    let w = words-short (record { reason = Disagree; body = K; place = 0 }) in
+    omega (
+      arith,
+      s6 .put-refusal .ensures,
+      s5 .put-byte .ensures,
+      w,
+      item-named 0 _ _ _ (s4 .label-in .ensures),
+      s3 .put-item .ensures,
+      item-named 1 _ _ _ (s2 .label-in2 .ensures),
+      s1 .put-item2 .ensures,
+      named-short _ _ _ (c .before .label-in3 .ensures),
+      s7 .pre,
+    )
+
+put-byte-requires-2 : tie.Need-put-byte-requires-2
+put-byte-requires-2 c κs =
+    let s1 = c .before .before .before in
+    let s2 = s1 .before .before in
+    let s3 = s2 .before .before .before .before in
+    let s4 = s3 .before .before in
+    let s5 = s4 .before .before .before .before in
+    let s6 = s5 .before .before in
+    let s7 = s6 .before .before .before .before in
+    let s8 = s7 .before .before .before .before in
+    let s9 = s8 .before .before .before .before in
+    let w = words-short (record { reason = Disagree; body = K; place = 0 }) in
+    omega (
+      arith,
+      s8 .put-refusal .ensures,
+      s7 .put-byte .ensures,
+      w,
+      item-named 0 _ _ _ (s6 .label-in .ensures),
+      s5 .put-item .ensures,
+      item-named 1 _ _ _ (s4 .label-in2 .ensures),
+      s3 .put-item2 .ensures,
+      item-named 1 _ _ _ (s2 .label-in3 .ensures),
+      s1 .put-item3 .ensures,
+      s9 .pre,
+    )
+
+same-length : tie.Need-same-length
+same-length c =
+    let s1 = c .before .before in
+    let s2 = s1 .before .before .before .before in
+    let s3 = s2 .before .before .before .before .before .before in
+    let s4 = s3 .before .before .before .before .before .before in
+    let s5 = s4 .before .before .before .before .before .before in
+    let s6 = s5 .before .before .before .before in
+    omega (arith, s6 .put-refusal .ensures, s5 .put-byte .ensures, s4 .put-item .ensures, s3 .put-item2 .ensures, s2 .put-item3 .ensures, s1 .put-byte2 .ensures)
+
+returns : tie.Need-returns
+returns c =
+    let s1 = c .before .before in
+    let s2 = s1 .before .before .before .before in
+    let s3 = s2 .before .before in
+    let s4 = s3 .before .before .before .before in
+    let s5 = s4 .before .before in
+    let s6 = s5 .before .before .before .before in
+    let s7 = s6 .before .before in
+    let s8 = s7 .before .before .before .before in
+    let s9 = s8 .before .before .before .before in
+    let s10 = s9 .before .before .before .before in
+    put-as _ _ (named-parts (s10 .args .job .now) (s10 .args .named))
+    (put-then (put-then (put-then (put-then (put-then (s9 .put-refusal .ensures) (s8 .put-byte .ensures))
+    (put-as _ _ (ap (item 0) (s7 .label-in .ensures)) (s6 .put-item .ensures)))
+    (put-as _ _ (ap (item 1) (s5 .label-in2 .ensures)) (s4 .put-item2 .ensures))) (put-as _ _ (ap (item 1) (s3 .label-in3 .ensures)) (s2 .put-item3 .ensures))) (s1 .put-byte2 .ensures))
+
+pub put-disagreement-spec : {M : Type 1} → statement M
+put-disagreement-spec =
+    tie.close
+    (tie.spec
+    put-refusal-requires
+    put-byte-requires
+    label-in-requires
+    put-item-requires
+    label-in-requires-2
+    put-item-requires-2
+    label-in-requires-3
+    put-item-requires-3
+    put-byte-requires-2
+    same-length
+    returns)

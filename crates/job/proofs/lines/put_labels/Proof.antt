@@ -1,0 +1,112 @@
+-- `job::lines::put_labels` meets its contract. The invariant: the labels passed are put, joined by commas. Assumes nothing.
+use borrow.Author.Needs.{needs}
+use Rattle.job.proofs.AreaLaws.{first-none}
+use Rattle.job.proofs.AreaLaws.{put-none, put-to, put-as, put-label, item-short, label-short}
+use Rattle.job.specs.Areas.{Put, labelsIn, item}
+use Rattle.job.specs.Answered.{labelIn}
+use Rattle.lists.specs.ReadList.{joined}
+use mathlib.Core.Path.{refl, _∙_, ap}
+use native.Mathlib.Omega.{arith}
+use lib.ListN.{length, take, getD}
+use Prim.Native.Nat.{ℕ, _+_, _-_, _*_, _≤_}
+use Rattle.job.proofs.lines.put_labels.Statement.{statement}
+use Rattle.job.proofs.lines.put_labels.Tie as tie
+
+abbrev Inv-loop : tie.InvT-loop
+Inv-loop text start size count area₀ at next₀ i₀ area next i =
+    (i ≤ count) × (next ≤ at + 17 * i) × Put area₀ at (joined (labelsIn text start size i)) next area
+
+abbrev μ-loop : tie.MeasureT-loop
+μ-loop text start size count area₀ at next₀ i₀ area next i =
+    count - i
+
+loop-holds : tie.Need-loop-holds Inv-loop μ-loop
+loop-holds c =
+    (omega arith, omega arith, first-none _ _ _ _ _)
+
+mul-label-in : tie.Need-mul-label-in Inv-loop μ-loop
+mul-label-in c =
+    omega arith
+
+element-copy-out-label-in : tie.Need-element-copy-out-label-in Inv-loop μ-loop
+element-copy-out-label-in c =
+    omega arith
+
+mul-label-in-2 : tie.Need-mul-label-in-2 Inv-loop μ-loop
+mul-label-in-2 c =
+    omega arith
+
+element-copy-out-label-in-2 : tie.Need-element-copy-out-label-in-2 Inv-loop μ-loop
+element-copy-out-label-in-2 c =
+    omega arith
+
+label-in-requires : tie.Need-label-in-requires Inv-loop μ-loop
+label-in-requires c κs =
+    search needs
+
+put-item-requires : tie.Need-put-item-requires Inv-loop μ-loop
+put-item-requires c κs =
+    let s1 = c .before .before .before .before .before in
+    let s2 = s1 .before .before .before in
+    omega (
+      arith,
+      ap (length {A = ℕ}) (c .before .label-in .ensures),
+      label-short (s2 .args .text .now)
+          (getD (s2 .args .start .now) (s1 .loop .i) 0) (getD (s2 .args .size .now) (s1 .loop .i) 0),
+      s1 .loop .inv .2 .whole,
+      s1 .loop .inv .1,
+      s2 .pre,
+    )
+
+add-i : tie.Need-add-i Inv-loop μ-loop
+add-i c =
+    omega arith
+
+loop-less : tie.Need-loop-less Inv-loop μ-loop
+loop-less c =
+    omega arith
+
+loop-again : tie.Need-loop-again Inv-loop μ-loop
+loop-again c =
+    let s1 = c .before .before in
+    let s2 = s1 .before .before in
+    let s3 = s2 .before .before .before .before in
+    let s4 = s3 .before .before .before in
+    let s = s4 in
+    let a = s .args in
+    let l = s3 .loop in
+    let i = l .i in
+    let x = labelIn (a .text .now) (getD (a .start .now) i 0) (getD (a .size .now) i 0) in
+    let p = put-as _ (item i x) (ap (item i) (s2 .label-in .ensures)) (s1 .put-item .ensures) in (
+      omega arith,
+      omega (arith, p .ends, item-short i x, label-short (a .text .now) (getD (a .start .now) i 0) (getD (a .size .now) i 0)),
+      put-label (a .text .now) (a .start .now) (a .size .now) i (l .inv .2) p,
+    )
+
+same-length : tie.Need-same-length Inv-loop μ-loop
+same-length c =
+    c .before .loop .inv .2 .whole
+
+returns : tie.Need-returns Inv-loop μ-loop
+returns c =
+    let s1 = c .before .before .before .before in
+    (put-as _ _ (ap (λ (k : ℕ). joined (labelsIn (s1 .args .text .now) (s1 .args .start .now) (s1 .args .size .now) k)) (omega arith)) (c .before .loop .inv .2), omega arith)
+
+pub put-labels-spec : {M : Type 1} → statement M
+put-labels-spec =
+    tie.close
+    (tie.spec
+    Inv-loop
+    μ-loop
+    loop-holds
+    mul-label-in
+    element-copy-out-label-in
+    mul-label-in-2
+    element-copy-out-label-in-2
+    label-in-requires
+    put-item-requires
+    add-i
+    loop-less
+    loop-again
+    same-length
+    returns)

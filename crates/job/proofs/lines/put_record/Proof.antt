@@ -1,0 +1,126 @@
+-- `job::lines::put_record` meets its contract: the parts of the three lines, one after another. Assumes nothing.
+use Rattle.job.proofs.AreaLaws.{put-then, put-as, length-labels}
+use Rattle.job.proofs.DecimalLaws.{decimal-short}
+use Rattle.job.proofs.LineLaws.{record-parts}
+use mathlib.Core.Path.{_∙_, sym}
+use native.Mathlib.Omega.{arith}
+use borrow.Author.Needs.{needs}
+use Rattle.job.proofs.lines.put_record.Statement.{statement}
+use Rattle.job.proofs.lines.put_record.Tie as tie
+
+slice-aggregate-put-bytes : tie.Need-slice-aggregate-put-bytes
+slice-aggregate-put-bytes c = search needs
+
+put-bytes-requires : tie.Need-put-bytes-requires
+put-bytes-requires c κs = search needs
+
+put-number-requires : tie.Need-put-number-requires
+put-number-requires c κs = search needs
+
+slice-aggregate-put-bytes-2 : tie.Need-slice-aggregate-put-bytes-2
+slice-aggregate-put-bytes-2 c = search needs
+
+put-bytes-requires-2 : tie.Need-put-bytes-requires-2
+put-bytes-requires-2 c κs =
+    let s1 = c .before .before .before .before in
+    let s2 = s1 .before .before .before .before in
+    let s3 = s2 .before .before .before .before .before .before in
+    omega (arith, s2 .put-bytes .ensures, s1 .put-number .ensures, decimal-short (s3 .args .count), s3 .pre)
+
+put-labels-requires : tie.Need-put-labels-requires
+put-labels-requires c κs =
+    let s1 = c .before .before .before in
+    let s2 = s1 .before .before .before in
+    let s3 = s2 .before .before in
+    let s4 = s3 .before .before .before .before in
+    let s5 = s4 .before .before .before .before .before .before in
+    (omega (arith, s2), omega (arith, s4 .put-bytes .ensures, s3 .put-number .ensures, s1 .put-bytes2 .ensures, decimal-short (s5 .args .count), s5 .pre))
+
+slice-aggregate-put-bytes-3 : tie.Need-slice-aggregate-put-bytes-3
+slice-aggregate-put-bytes-3 c = search needs
+
+put-bytes-requires-3 : tie.Need-put-bytes-requires-3
+put-bytes-requires-3 c κs =
+    let s1 = c .before .before .before .before in
+    let s2 = s1 .before .before .before .before in
+    let s3 = s2 .before .before .before .before .before in
+    let s4 = s3 .before .before .before .before in
+    let s5 = s4 .before .before .before .before .before .before in
+    omega (arith, s4 .put-bytes .ensures, s3 .put-number .ensures, s2 .put-bytes2 .ensures, s1 .put-labels .ensures .0 .whole, s1 .put-labels .ensures .1, decimal-short (s5 .args .count), s5 .pre)
+
+put-bytes-requires-4 : tie.Need-put-bytes-requires-4
+put-bytes-requires-4 c κs =
+    let s1 = c .before .before .before in
+    let s2 = s1 .before .before .before .before .before in
+    let s3 = s2 .before .before .before .before in
+    let s4 = s3 .before .before .before .before .before in
+    let s5 = s4 .before .before .before .before in
+    let s6 = s5 .before .before .before .before .before .before in
+    omega (
+      arith,
+      s5 .put-bytes .ensures,
+      s4 .put-number .ensures,
+      s3 .put-bytes2 .ensures,
+      s2 .put-labels .ensures .0 .whole,
+      s2 .put-labels .ensures .1,
+      s1 .put-bytes3 .ensures,
+      decimal-short (s6 .args .count),
+      s6 .pre,
+    )
+
+put-byte-requires : tie.Need-put-byte-requires
+put-byte-requires c κs =
+    let s1 = c .before .before .before in
+    let s2 = s1 .before .before .before .before in
+    let s3 = s2 .before .before .before .before .before in
+    let s4 = s3 .before .before .before .before in
+    let s5 = s4 .before .before .before .before .before in
+    let s6 = s5 .before .before .before .before in
+    let s7 = s6 .before .before .before .before .before .before in
+    omega (
+      arith,
+      s6 .put-bytes .ensures,
+      s5 .put-number .ensures,
+      s4 .put-bytes2 .ensures,
+      s3 .put-labels .ensures .0 .whole,
+      s3 .put-labels .ensures .1,
+      s2 .put-bytes3 .ensures,
+      s1 .put-bytes4 .ensures,
+      decimal-short (s7 .args .count),
+      s7 .pre,
+    )
+
+same-length : tie.Need-same-length
+same-length c = search needs
+
+returns : tie.Need-returns
+returns c =
+    let s1 = c .before .before in
+    let s2 = s1 .before .before .before .before in
+    let s3 = s2 .before .before .before .before in
+    let s4 = s3 .before .before .before .before .before in
+    let s5 = s4 .before .before .before .before in
+    let s6 = s5 .before .before .before .before .before in
+    let s7 = s6 .before .before .before .before in
+    let s8 = s7 .before .before .before .before .before .before in
+    let a = s8 .args in
+    put-as _ _ (record-parts _ (a .tree .now) (a .count) (sym (length-labels (a .first .now) (a .start .now) (a .size .now) (a .count))))
+    (put-then (put-then (put-then (put-then (put-then (put-then (s7 .put-bytes .ensures) (s6 .put-number .ensures))
+    (s5 .put-bytes2 .ensures)) (s4 .put-labels .ensures .0)) (s3 .put-bytes3 .ensures)) (s2 .put-bytes4 .ensures)) (s1 .put-byte .ensures))
+
+pub put-record-spec : {M : Type 1} → statement M
+put-record-spec =
+    tie.close
+    (tie.spec
+    slice-aggregate-put-bytes
+    put-bytes-requires
+    put-number-requires
+    slice-aggregate-put-bytes-2
+    put-bytes-requires-2
+    put-labels-requires
+    slice-aggregate-put-bytes-3
+    put-bytes-requires-3
+    put-bytes-requires-4
+    put-byte-requires
+    same-length
+    returns)

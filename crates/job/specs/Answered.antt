@@ -1,0 +1,74 @@
+-- What the functions over jobs answer, and what the lent output then holds: all of it is told by what a job comes to (`solveJob`)
+-- and by its printed lines (`printedOf`). Scope paper, "Job and printed result" and "Why a job is turned down".
+use Prim.Native.Nat.{ℕ, _+_, _-_, min}
+use mathlib.Core.Bool.{Bool, cond}
+use mathlib.Core.List.{List, [], _∷_, _++_}
+use lib.Dec.{leb}
+use lib.ListN.{length, drop}
+use Rattle.trees.specs.declared.Reason.{Reason}
+use Rattle.trees.specs.declared.Reason.the-variants.{TooShort as TooShortReason}
+use Rattle.trees.specs.declared.Body.{Body}
+use Rattle.trees.specs.declared.Body.the-variants.{O}
+use Rattle.trees.specs.declared.Refusal.{Refusal}
+use Rattle.trees.specs.Label.{Label, labelLimit}
+use Rattle.trees.specs.Stored.{partOf}
+use Rattle.lists.specs.ReadList.{joined}
+use Rattle.agreement.specs.Places.{placeOfLabel}
+use Rattle.mast.specs.Largest.{Solution, solved, clashed, turned}
+use Rattle.job.specs.declared.JobAnswer.{JobAnswer}
+use Rattle.job.specs.declared.JobAnswer.the-variants as job-answer
+use Rattle.job.specs.declared.Named.{Named}
+use Rattle.job.specs.declared.Part.{Part}
+use Rattle.job.specs.Printed.{printedOf, recordLines, solveJob}
+use Rattle.job.specs.declared.LineAnswer.{LineAnswer}
+use Rattle.job.specs.declared.LineAnswer.the-variants.{Written, TooShort}
+
+-- "An output is too short exactly if it has fewer bytes than the text that belongs in it"
+abbrev pub fits : List ℕ → ℕ → Bool
+fits text room = leb (length text) room
+
+-- a text for an output of `room` bytes
+unfoldable pub lineAnswer : List ℕ → ℕ → LineAnswer
+lineAnswer text room = cond (fits text room) (Written (length text)) TooShort
+
+-- the output holds the text, further bytes unchanged; where it is too short it keeps every byte
+unfoldable pub lineOutput : List ℕ → List ℕ → List ℕ
+lineOutput text out = cond (fits text (length out)) (text ++ drop (length text) out) out
+
+-- the label of `size` bytes at a place of a text, cut after 16 bytes; nothing where it runs past the end
+unfoldable pub labelIn : List ℕ → ℕ → ℕ → Label
+labelIn text start size = partOf start (min size labelLimit) text
+
+-- the line of number 8 with the labels that places and sizes in the job name
+unfoldable pub namedLine : List ℕ → Named → List ℕ
+unfolding printedOf labelIn
+namedLine job n =
+    printedOf
+    (clashed [] (labelIn job (n .first .start) (n .first .size)) (labelIn job (n .second .start) (n .second .size))
+    (labelIn job (n .third .start) (n .third .size)))
+
+-- the three lines for an output of `room` bytes: how many bytes they have, or number 9
+unfoldable pub recordAnswer : List ℕ → ℕ → JobAnswer
+recordAnswer lines room =
+    cond (fits lines room) (job-answer.Written (length lines))
+    (job-answer.Refused (record { reason = TooShortReason; body = O; place = 0 }))
+
+-- a label of the list, which stands at the end of the job
+unfoldable pub partOfLabel : ℕ → List Label → Label → Part
+unfolding placeOfLabel joined
+partOfLabel bytes xs x = record { start = bytes - length (joined xs) + placeOfLabel xs 0 x; size = length x }
+
+-- the answer to a job of this many bytes, for an output of `room` bytes
+unfoldable pub answered : ℕ → ℕ → Solution → JobAnswer
+unfolding recordAnswer partOfLabel recordLines
+answered bytes room (solved s X text) = recordAnswer (recordLines X text) room
+answered bytes room (clashed xs a b c) =
+    job-answer.Disagree (record { first = partOfLabel bytes xs a; second = partOfLabel bytes xs b; third = partOfLabel bytes xs c })
+answered bytes room (turned q) = job-answer.Refused q
+
+-- what the output then holds: the three lines, further bytes unchanged; "On refusal .. an output keeps every byte."
+unfoldable pub jobOutput : Solution → List ℕ → List ℕ
+unfolding lineOutput recordLines
+jobOutput (solved s X text) out = lineOutput (recordLines X text) out
+jobOutput (clashed xs a b c) out = out
+jobOutput (turned q) out = out

@@ -1,0 +1,33 @@
+-- Lines put together in an area, part by part. Intermediate: nothing public rests on this text.
+use Prim.Native.Nat.{ℕ, zero, suc, _+_}
+use mathlib.Core.Path.{_≡_}
+use mathlib.Core.Bool.{cond}
+use lib.Dec.{eqb}
+use mathlib.Core.List.{List, [], _∷_, _++_}
+use lib.ListN.{length, getD, take, drop}
+use Rattle.trees.specs.Label.{Label}
+use Rattle.job.specs.Answered.{labelIn}
+
+-- a text was put into an area from `at` on: the next byte goes to `next`, and what stood before `at` stands there still
+pub record Put (area : List ℕ) (at : ℕ) (text : List ℕ) (next : ℕ) (after : List ℕ) : Type 0 where
+  pub ends : next ≡ at + length text
+  pub front : take next after ≡ take at area ++ text
+  pub back : drop next after ≡ drop next area
+  pub whole : length after ≡ length area
+
+-- the label with number i, after a comma where it is not the first
+unfoldable pub item : ℕ → Label → List ℕ
+item zero x = x
+item (suc i) x = 44 ∷ x
+
+-- the first labels that places and sizes name
+unfoldable pub labelsIn : List ℕ → List ℕ → List ℕ → ℕ → List Label
+unfolding labelIn
+labelsIn text starts sizes zero = []
+labelsIn text starts sizes (suc n) =
+    labelsIn text starts sizes n ++ (labelIn text (getD starts n 0) (getD sizes n 0) ∷ [])
+
+-- the bytes before the first comma
+unfoldable pub untilComma : List ℕ → List ℕ
+untilComma [] = []
+untilComma (b ∷ rest) = cond (eqb b 44) [] (b ∷ untilComma rest)

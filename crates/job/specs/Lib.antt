@@ -1,0 +1,6 @@
+pub mod Answered
+pub mod Areas
+pub mod Contents
+pub mod Decimal
+pub mod Printed
+pub mod Steps

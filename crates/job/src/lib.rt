@@ -1,0 +1,182 @@
+// A job: contents and bodies in, printed lines out.
+//
+// No public function has a `requires`.
+use contents::Layout;
+use lists::LabelPlaces;
+use mast::LargestAnswer;
+use trees::Body;
+use trees::Reason;
+use trees::Refusal;
+ghost use mathlib.Core.Path.{_≡_};
+ghost use lib.ListN.{length};
+ghost use Prim.Native.Nat.{_+_, _≤_};
+ghost use lib.ListN.{take, drop};
+ghost use Rattle.mast.specs.Largest.{turned, solve};
+ghost use Rattle.job.specs.declared.JobAnswer as JobAnswer;
+ghost use Rattle.job.specs.Printed.{printedOf, recordLines, solveJob, treeRoom};
+ghost use Rattle.job.specs.Areas.{labelsIn, untilComma};
+ghost use Rattle.job.specs.Answered.{lineAnswer, lineOutput, namedLine, answered, jobOutput, recordAnswer};
+
+mod contents;
+mod decimal;
+mod lines;
+
+// How many bytes a line has that now stands in the output, or that the output is too short for it.
+pub enum LineAnswer {
+    Written(usize),
+    TooShort,
+}
+
+// A part of the job: where it starts, and its size.
+pub struct Part {
+    pub start: usize,
+    pub size: usize,
+}
+
+// Three labels, sorted, as parts of the job.
+pub struct Named {
+    pub first: Part,
+    pub second: Part,
+    pub third: Part,
+}
+
+// How many bytes the three lines have that now stand in the output; number 8 with its three labels; or why the job was
+// turned down.
+pub enum JobAnswer {
+    Written(usize),
+    Disagree(Named),
+    Refused(Refusal),
+}
+
+// The line of a refusal into `out`.
+pub fn refusal_line(refusal: Refusal, out: &mut [u8]) -> LineAnswer
+    ensures answer { λ r. ⌜ r ≡ lineAnswer (printedOf (turned refusal)) (length (now (out .entry))) ⌝ }
+    ensures output { λ _. ⌜ now (out .exit) ≡ lineOutput (printedOf (turned refusal)) (now (out .entry)) ⌝ }
+{
+    let mut line = [0u8; 128];
+    let n = lines::put_refusal_line(refusal, &mut line);
+    lines::hand_over(&line[..n], out)
+}
+
+// The line of number 8 into `out`: the labels are the parts of the job that the places and sizes name.
+pub fn disagreement_line(job: &[u8], named: Named, out: &mut [u8]) -> LineAnswer
+    ensures answer { λ r. ⌜ r ≡ lineAnswer (namedLine (now (job .entry)) named) (length (now (out .entry))) ⌝ }
+    ensures output { λ _. ⌜ now (out .exit) ≡ lineOutput (namedLine (now (job .entry)) named) (now (out .entry)) ⌝ }
+{
+    let mut line = [0u8; 128];
+    let n = lines::put_disagreement(job, named, &mut line);
+    lines::hand_over(&line[..n], out)
+}
+
+// The refusals that the job itself gives: its place is J 0, or O 0 of the output.
+fn refused(reason: Reason, body: Body) -> JobAnswer
+    ensures { λ r. ⌜ r ≡ JobAnswer.Refused (record { reason = reason; body = body; place = 0 }) ⌝ }
+{
+    JobAnswer::Refused(Refusal {
+        reason,
+        body,
+        place: 0,
+    })
+}
+
+// The three lines of a set into `out`.
+fn answer_set(first: &[u8], set: LabelPlaces, tree: &[u8], out: &mut [u8]) -> JobAnswer
+    requires { ⌜ set .count ≤ 80 ⌝ }
+    requires { ⌜ length (now tree) ≤ 1518 ⌝ }
+    ensures answer { λ r.
+        ⌜ r ≡ recordAnswer
+        (recordLines (labelsIn (now (first .entry)) (set .start) (set .size) (set .count)) (now (tree .entry)))
+        (length (now (out .entry))) ⌝ }
+    ensures output { λ _.
+        ⌜ now (out .exit) ≡ lineOutput
+        (recordLines (labelsIn (now (first .entry)) (set .start) (set .size) (set .count)) (now (tree .entry)))
+        (now (out .entry)) ⌝ }
+{
+    let mut area = [0u8; 3072];
+    let start = set.start;
+    let size = set.size;
+    let n = lines::put_record(first, &start, &size, set.count, tree, &mut area);
+    let given = lines::hand_over(&area[..n], out);
+    match given {
+        LineAnswer::Written(k) => JobAnswer::Written(k),
+        LineAnswer::TooShort => refused(Reason::TooShort, Body::O),
+    }
+}
+
+// How many bytes stand before the next comma or the end of the list.
+fn label_size(list: &[u8], at: usize) -> usize
+    ensures { λ r. ⌜ r ≡ length (untilComma (drop at (now (list .entry)))) ⌝ }
+{
+    let mut i = at;
+    while i < list.len() {
+        if list[i] == b',' {
+            return i - at;
+        }
+        i += 1;
+    }
+    i - at
+}
+
+// A label of the list, which begins at `base` in the job, as a part of the job.
+fn part_at(list: &[u8], base: usize, at: usize) -> Part
+    requires { ⌜ base + at ≤ 16384 ⌝ }
+    ensures { λ r. ⌜ r ≡ record { start = base + at; size = length (untilComma (drop at (now (list .entry)))) } ⌝ }
+{
+    let size = label_size(list, at);
+    Part {
+        start: base + at,
+        size,
+    }
+}
+
+// The answer to three bodies, of which the list begins at `base` in the job and ends it.
+fn answer_bodies(first: &[u8], second: &[u8], list: &[u8], base: usize, out: &mut [u8]) -> JobAnswer
+    requires { ⌜ base + length (now list) ≤ 8192 ⌝ }
+    ensures answer { λ r.
+        ⌜ r ≡ answered (base + length (now (list .entry))) (length (now (out .entry)))
+        (solve (now (first .entry)) (now (second .entry)) (now (list .entry)) treeRoom) ⌝ }
+    ensures output { λ _.
+        ⌜ now (out .exit) ≡ jobOutput
+        (solve (now (first .entry)) (now (second .entry)) (now (list .entry)) treeRoom)
+        (now (out .entry)) ⌝ }
+{
+    let mut tree = [0u8; 1518];
+    let result = mast::largest(first, second, list, &mut tree);
+    let answer = result.answer;
+    match answer {
+        LargestAnswer::Found(_, bytes) => {
+            let set = result.set;
+            answer_set(first, set, &tree[..bytes], out)
+        }
+        LargestAnswer::Disagree(a, b, c) => JobAnswer::Disagree(Named {
+            first: part_at(list, base, a),
+            second: part_at(list, base, b),
+            third: part_at(list, base, c),
+        }),
+        LargestAnswer::Refused(refusal) => JobAnswer::Refused(refusal),
+    }
+}
+
+// The answer to a job: its three lines in `out`, or why there is none; `out` then keeps every byte.
+pub fn answer_job(job: &[u8], out: &mut [u8]) -> JobAnswer
+    ensures answer { λ r.
+        ⌜ r ≡ answered (length (now (job .entry))) (length (now (out .entry))) (solveJob (now (job .entry))) ⌝ }
+    ensures output { λ _. ⌜ now (out .exit) ≡ jobOutput (solveJob (now (job .entry))) (now (out .entry)) ⌝ }
+{
+    if 8192 < job.len() {
+        return refused(Reason::JobTooLong, Body::J);
+    }
+    let layout = contents::contents(job);
+    let Layout::Bodies(at, s, t) = layout else {
+        return refused(Reason::Contents, Body::J);
+    };
+    let second_at = at + s;
+    let list_at = second_at + t;
+    answer_bodies(
+        &job[at..second_at],
+        &job[second_at..list_at],
+        &job[list_at..],
+        list_at,
+        out,
+    )
+}

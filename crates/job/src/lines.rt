@@ -1,0 +1,193 @@
+// Lines put together in an area, part by part, and handed over to a lent output.
+use crate::LineAnswer;
+use crate::Named;
+use crate::decimal::decimal;
+use trees::Body;
+use trees::Reason;
+use trees::Refusal;
+ghost use mathlib.Core.Path.{_≡_};
+ghost use mathlib.Core.List.{[], _∷_, _++_};
+ghost use Prim.Native.Nat.{_+_, _*_, _≤_};
+ghost use lib.ListN.{length};
+ghost use Rattle.job.specs.Decimal.{decimalOf};
+ghost use Rattle.lists.specs.ReadList.{joined};
+ghost use Rattle.mast.specs.Largest.{turned};
+ghost use Rattle.job.specs.Printed.{refusedWords, recordLines, printedOf};
+ghost use Rattle.job.specs.Answered.{lineAnswer, lineOutput, labelIn, namedLine};
+ghost use Rattle.job.specs.Areas.{Put, item, labelsIn};
+
+// Puts one byte at `at`, and says where the next goes.
+pub fn put_byte(b: u8, area: &mut [u8], at: usize) -> usize
+    requires { ⌜ at + 1 ≤ length (now area) ⌝ }
+    ensures { λ r. ⌜ Put (now (area .entry)) at (b ∷ []) r (now (area .exit)) ⌝ }
+{
+    area[at] = b;
+    at + 1
+}
+
+// Puts the bytes of x from `at` on.
+pub fn put_bytes(x: &[u8], area: &mut [u8], at: usize) -> usize
+    requires { ⌜ at + length (now x) ≤ length (now area) ⌝ }
+    ensures { λ r. ⌜ Put (now (area .entry)) at (now (x .entry)) r (now (area .exit)) ⌝ }
+{
+    let mut i: usize = 0;
+    while i < x.len() {
+        area[at + i] = x[i];
+        i += 1;
+    }
+    at + i
+}
+
+// Puts the decimal digits of n from `at` on.
+pub fn put_number(n: usize, area: &mut [u8], at: usize) -> usize
+    requires { ⌜ at + 20 ≤ length (now area) ⌝ }
+    ensures { λ r. ⌜ Put (now (area .entry)) at (decimalOf n) r (now (area .exit)) ⌝ }
+{
+    let mut digits = [0u8; 20];
+    let first = decimal(n, &mut digits);
+    put_bytes(&digits[first..], area, at)
+}
+
+// The label of `size` bytes at a place of a text, cut after 16 bytes; nothing where it runs past the end.
+pub fn label_in<'a>(text: &'a [u8], start: usize, size: usize) -> &'a [u8]
+    ensures { λ r. ⌜ now r ≡ labelIn (now (text .entry)) start size ⌝ }
+{
+    if size < 16 {
+        return trees::part(text, start, size);
+    }
+    trees::part(text, start, 16)
+}
+
+// Puts a label, after a comma where it is not the first.
+pub fn put_item(i: usize, x: &[u8], area: &mut [u8], at: usize) -> usize
+    requires { ⌜ at + 1 + length (now x) ≤ length (now area) ⌝ }
+    ensures { λ r. ⌜ Put (now (area .entry)) at (item i (now (x .entry))) r (now (area .exit)) ⌝ }
+{
+    if i == 0 {
+        return put_bytes(x, area, at);
+    }
+    let next = put_byte(b',', area, at);
+    put_bytes(x, area, next)
+}
+
+// Puts the first `count` labels that places and sizes name, joined by commas.
+pub fn put_labels(
+    text: &[u8],
+    start: &[usize; 80],
+    size: &[usize; 80],
+    count: usize,
+    area: &mut [u8],
+    at: usize,
+) -> usize
+    requires { ⌜ count ≤ 80 ⌝ }
+    requires { ⌜ at + 17 * count ≤ length (now area) ⌝ }
+    ensures { λ r.
+        ⌜ Put (now (area .entry)) at
+        (joined (labelsIn (now (text .entry)) (now (start .entry)) (now (size .entry)) count)) r (now (area .exit)) ⌝ }
+    ensures { λ r. ⌜ r ≤ at + 17 * count ⌝ }
+{
+    let mut next = at;
+    let mut i: usize = 0;
+    while i < count {
+        let x = label_in(text, start[i], size[i]);
+        next = put_item(i, x, area, next);
+        i += 1;
+    }
+    next
+}
+
+// Hands a text over: all of it, or nothing where the output is too short.
+pub fn hand_over(text: &[u8], out: &mut [u8]) -> LineAnswer
+    ensures answer { λ r. ⌜ r ≡ lineAnswer (now (text .entry)) (length (now (out .entry))) ⌝ }
+    ensures output { λ _. ⌜ now (out .exit) ≡ lineOutput (now (text .entry)) (now (out .entry)) ⌝ }
+{
+    let n = text.len();
+    if out.len() < n {
+        return LineAnswer::TooShort;
+    }
+    let end = put_bytes(text, out, 0);
+    LineAnswer::Written(end)
+}
+
+// The words of a refusal: `refused`, number, body letter, place.
+pub fn put_refusal(refusal: Refusal, area: &mut [u8]) -> usize
+    requires { ⌜ 64 ≤ length (now area) ⌝ }
+    ensures { λ r. ⌜ Put (now (area .entry)) 0 (refusedWords refusal) r (now (area .exit)) ⌝ }
+{
+    let reason = refusal.reason;
+    let body = refusal.body;
+    let a = put_bytes(b"refused ", area, 0);
+    let b = put_number(wide(trees::number(reason)), area, a);
+    let c = put_byte(b' ', area, b);
+    let d = put_byte(trees::letter(body), area, c);
+    let e = put_byte(b' ', area, d);
+    put_number(refusal.place, area, e)
+}
+
+// A byte as a number.
+fn wide(b: u8) -> usize
+    ensures { λ r. ⌜ r ≡ b ⌝ }
+{
+    b as usize
+}
+
+// The line of a refusal.
+pub fn put_refusal_line(refusal: Refusal, area: &mut [u8]) -> usize
+    requires { ⌜ 65 ≤ length (now area) ⌝ }
+    ensures { λ r. ⌜ Put (now (area .entry)) 0 (printedOf (turned refusal)) r (now (area .exit)) ⌝ }
+{
+    let end = put_refusal(refusal, area);
+    put_byte(b'\n', area, end)
+}
+
+// The line of number 8, with its three labels.
+pub fn put_disagreement(job: &[u8], named: Named, area: &mut [u8]) -> usize
+    requires { ⌜ 128 ≤ length (now area) ⌝ }
+    ensures { λ r.
+        ⌜ Put (now (area .entry)) 0 (namedLine (now (job .entry)) named)
+        r (now (area .exit)) ⌝ }
+{
+    let words = Refusal {
+        reason: Reason::Disagree,
+        body: Body::K,
+        place: 0,
+    };
+    let a = put_refusal(words, area);
+    let b = put_byte(b' ', area, a);
+    let p = named.first;
+    let x = label_in(job, p.start, p.size);
+    let c = put_item(0, x, area, b);
+    let q = named.second;
+    let y = label_in(job, q.start, q.size);
+    let d = put_item(1, y, area, c);
+    let s = named.third;
+    let z = label_in(job, s.start, s.size);
+    let e = put_item(1, z, area, d);
+    put_byte(b'\n', area, e)
+}
+
+// The three lines of an answer: `size`, `set` and `tree`.
+pub fn put_record(
+    first: &[u8],
+    start: &[usize; 80],
+    size: &[usize; 80],
+    count: usize,
+    tree: &[u8],
+    area: &mut [u8],
+) -> usize
+    requires { ⌜ count ≤ 80 ⌝ }
+    requires { ⌜ length (now tree) ≤ 1518 ⌝ }
+    requires { ⌜ 3072 ≤ length (now area) ⌝ }
+    ensures { λ r.
+        ⌜ Put (now (area .entry)) 0
+        (recordLines (labelsIn (now (first .entry)) (now (start .entry)) (now (size .entry)) count) (now (tree .entry)))
+        r (now (area .exit)) ⌝ }
+{
+    let a = put_bytes(b"size ", area, 0);
+    let b = put_number(count, area, a);
+    let c = put_bytes(b"\nset ", area, b);
+    let d = put_labels(first, start, size, count, area, c);
+    let e = put_bytes(b"\ntree ", area, d);
+    let f = put_bytes(tree, area, e);
+    put_byte(b'\n', area, f)
+}

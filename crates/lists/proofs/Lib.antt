@@ -1,0 +1,10 @@
+pub mod Accepts
+pub mod AcceptsRaw
+pub mod ListFaults
+pub mod ListFaultsWalk
+pub mod ListPlaces
+pub mod ListSimulation
+pub mod MachineLaws
+pub mod PartLaws
+pub mod Promises
+pub mod ReaderLoop

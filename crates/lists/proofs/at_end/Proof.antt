@@ -1,0 +1,57 @@
+-- `at_end` meets its contract: one line for each stage. Assumes nothing.
+use mathlib.Core.Path.{refl}
+use native.Mathlib.Omega.{arith}
+use Rattle.lists.specs.ListMachine.{endAt}
+use Rattle.lists.proofs.MachineLaws.{end-repeat, end-new}
+use borrow.Author.Needs.{needs}
+use Rattle.lists.proofs.at_end.Statement.{statement}
+use Rattle.lists.proofs.at_end.Tie as tie
+
+enum-told : tie.Need-enum-told
+enum-told c = search needs
+
+enum-told-2 : tie.Need-enum-told-2
+enum-told-2 c = search needs
+
+enum-known-stage : tie.Need-enum-known-stage
+enum-known-stage c = search needs
+
+keep-requires : tie.Need-keep-requires
+keep-requires c κs =
+    rw (c .before .before .before .stage .given .1) at (c .before .before .before .before .before .before .pre)
+
+returns : tie.Need-returns
+returns c =
+    rw (c .before .before .before .before .before .stage .given .1) (end-repeat _ _ _ _ _ _ _ _ _ (c .before .keep .ensures) _ _ (c .if1 .taken))
+
+add-t18 : tie.Need-add-t18
+add-t18 c =
+    omega (arith, rw (c .before .before .before .before .before .stage .given .1) at (c .before .before .before .before .before .before .before .before .pre))
+
+returns-2 : tie.Need-returns-2
+unfolding endAt
+returns-2 c =
+    rw (c .enum-told .given .1) refl
+
+returns-3 : tie.Need-returns-3
+unfolding endAt
+returns-3 c =
+    rw (c .enum-told2 .given .1) refl
+
+returns-4 : tie.Need-returns-4
+returns-4 c =
+    rw (c .before .before .before .before .before .stage .given .1) (end-new _ _ _ _ _ _ _ _ _ (c .before .keep .ensures) _ _ (c .if1 .left))
+
+pub at-end-spec : {M : Type 1} → statement M
+at-end-spec =
+    tie.close
+    (tie.spec
+    enum-told
+    enum-told-2
+    enum-known-stage
+    keep-requires
+    returns
+    add-t18
+    returns-2
+    returns-3
+    returns-4)

@@ -1,0 +1,115 @@
+-- intermediate: nothing public rests on this text. The list reader as its loop goes: stages, places in arrays, a repeat found at a
+-- label's end. proofs/ListSimulation.antt ties it to `readList`.
+use Prim.Native.Nat.{ℕ, _+_, _≤_, _<_}
+use mathlib.Core.Bool.{Bool, cond}
+use mathlib.Core.List.{List, [], _∷_}
+use lib.Dec.{ltb}
+use lib.ListN.{set}
+use Rattle.trees.specs.declared.Kind.{Kind}
+use Rattle.trees.specs.declared.Kind.the-variants.{Label as LabelByte, Open, Close, Comma, Semicolon, Other}
+use Rattle.trees.specs.declared.Reason.the-variants.{BadByte, EndsTooSoon, LabelTooLong, TooMany, Repeated}
+use Rattle.trees.specs.declared.Body.{Body}
+use Rattle.trees.specs.Bytes.{kindOf}
+use Rattle.trees.specs.Label.{labelLimit, isIn}
+use Rattle.trees.specs.Reading.{refused}
+use Rattle.lists.specs.declared.Stage.{Stage}
+use Rattle.lists.specs.declared.Stage.the-variants.{Start, Due, Inside}
+use Rattle.lists.specs.declared.Outcome.{Outcome}
+use Rattle.lists.specs.declared.Outcome.the-variants.{Next, Stop}
+use Rattle.lists.specs.declared.ListAnswer.{ListAnswer}
+use Rattle.lists.specs.declared.ListAnswer.the-variants.{Labels, Refused}
+use Rattle.lists.specs.declared.ListRead.{ListRead}
+use Rattle.lists.specs.ReadList.{listLimit, listRead, placesOf}
+use Rattle.lists.specs.TextParts.{part, partsOf}
+
+-- a step's outcome with the arrays after it
+pub record After : Type 0 where
+  pub outcome : Outcome
+  pub start : List ℕ
+  pub size : List ℕ
+
+abbrev pub after : Outcome → List ℕ → List ℕ → After
+after o start size = record { outcome = o; start = start; size = size }
+
+-- the end's answer with the arrays after it
+pub record AtEnd : Type 0 where
+  pub answer : ListAnswer
+  pub start : List ℕ
+  pub size : List ℕ
+
+abbrev pub ended : ListAnswer → List ℕ → List ℕ → AtEnd
+ended a start size = record { answer = a; start = start; size = size }
+
+-- a store at `count` stays in the arrays
+abbrev pub Room : Stage → Type 0
+Room Start = 0 ≤ listLimit
+Room (Due count) = count ≤ listLimit
+Room (Inside first len count) = count < listLimit
+
+-- the label of len bytes at first is one of the `count` before it
+unfoldable pub repeatOf : List ℕ → List ℕ → List ℕ → (count first len : ℕ) → Bool
+repeatOf text start size count first len = isIn (part text first len) (partsOf text count start size)
+
+unfoldable pub dueOf : Kind → (at count : ℕ) → Outcome
+dueOf LabelByte at count = cond (ltb count listLimit) (Next (Inside at 1 count)) (Stop TooMany at)
+dueOf Open at count = Stop BadByte at
+dueOf Close at count = Stop BadByte at
+dueOf Comma at count = Stop BadByte at
+dueOf Semicolon at count = Stop BadByte at
+dueOf Other at count = Stop BadByte at
+
+-- the label has ended; where it is new, `following` counts
+unfoldable pub closeOf : List ℕ → List ℕ → List ℕ → (count first len : ℕ) → Outcome → After
+unfolding repeatOf
+closeOf text start size count first len following =
+    after (cond (repeatOf text start size count first len) (Stop Repeated first) following) (set start count first) (set size count len)
+
+unfoldable pub insideOf : List ℕ → Kind → (at : ℕ) → (first len count : ℕ) → List ℕ → List ℕ → After
+unfolding closeOf
+insideOf text LabelByte at first len count start size =
+    after (cond (ltb len labelLimit) (Next (Inside first (len + 1) count)) (Stop LabelTooLong at)) start size
+insideOf text Open at first len count start size = closeOf text start size count first len (Stop BadByte at)
+insideOf text Close at first len count start size = closeOf text start size count first len (Stop BadByte at)
+insideOf text Comma at first len count start size = closeOf text start size count first len (Next (Due (count + 1)))
+insideOf text Semicolon at first len count start size = closeOf text start size count first len (Stop BadByte at)
+insideOf text Other at first len count start size = closeOf text start size count first len (Stop BadByte at)
+
+unfoldable pub stepOf : List ℕ → Kind → ℕ → Stage → List ℕ → List ℕ → After
+unfolding dueOf insideOf
+stepOf text k at Start start size = after (dueOf k at 0) start size
+stepOf text k at (Due count) start size = after (dueOf k at count) start size
+stepOf text k at (Inside first len count) start size = insideOf text k at first len count start size
+
+-- the text ends at place `at`
+unfoldable pub endAt : List ℕ → Body → Stage → ℕ → List ℕ → List ℕ → AtEnd
+unfolding repeatOf
+endAt text body Start at start size = ended (Labels 0) start size
+endAt text body (Due count) at start size =
+    ended (Refused (record { reason = EndsTooSoon; body = body; place = at })) start size
+endAt text body (Inside first len count) at start size =
+    ended
+    (cond (repeatOf text start size count first len) (Refused (record { reason = Repeated; body = body; place = first }))
+    (Labels (count + 1)))
+    (set start count first)
+    (set size count len)
+
+-- the answer with the places; a refusal has none
+unfoldable pub answerOf : ListAnswer → List ℕ → List ℕ → ListRead
+unfolding placesOf
+answerOf (Labels count) start size =
+    record { answer = Labels count; places = record { count = count; start = start; size = size } }
+answerOf (Refused r) start size = record { answer = Refused r; places = placesOf [] }
+
+-- the bytes from place `at` on
+unfoldable pub runFrom : List ℕ → Body → Stage → List ℕ → List ℕ → ℕ → List ℕ → ListRead
+unfolding stepOf endAt answerOf listRead
+runFrom text body stage start size at [] =
+    answerOf (endAt text body stage at start size .answer) (endAt text body stage at start size .start)
+    (endAt text body stage at start size .size)
+runFrom text body stage start size at (b ∷ rest) =
+    elim (stepOf text (kindOf b) at stage start size .outcome) [
+      | Next stage′ ↦
+          runFrom text body stage′ (stepOf text (kindOf b) at stage start size .start)
+          (stepOf text (kindOf b) at stage start size .size) (at + 1) rest
+      | Stop r place ↦ listRead body (refused r place)
+    ]

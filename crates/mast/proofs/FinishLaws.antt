@@ -1,0 +1,231 @@
+-- A leaf's start and size are its label's place and length; the forced labels one rank further; places stored and leaves flagged
+-- rank by rank are those of the forced labels. Assumes nothing.
+use Prim.Native.Nat.{ℕ, zero, suc, _+_, _-_, _<_, _≤_}
+use mathlib.Core.Path.{_≡_, refl, sym, _∙_, ap}
+use mathlib.Core.Bool.{Bool, true, false, cond, or-false}
+use mathlib.Core.Logic.{_⊎_, inl, inr}
+use mathlib.Core.List.{List, [], _∷_, _++_, map, append-nil, map-append}
+use native.Mathlib.Omega.{arith}
+use native.Mathlib.Numerals.{add-one}
+use lib.Dec.{eqb}
+use lib.ListN.{length, getD, set, take, drop, replicate, length-append, length-take, length-drop, length-set, length-map, getD-replicate, List·getD-append}
+use lib.Seq.{take-suc, take-all, length-take-le, getD-set-same, getD-set-other}
+use borrow.Author.Tests.{eqb-true, eqb-false, eq-eqb}
+use Rattle.trees.specs.Label.{Label, isIn, distinct}
+use Rattle.trees.specs.Tree.{Tree, leaf, node, leaves, Valid}
+use Rattle.trees.specs.Text.{written, textOf}
+use Rattle.trees.specs.Arrays.{nodesOf, nodeLimit, starts, sizes, arraysOf, isLeaf}
+use Rattle.trees.specs.Postorder.{postorder, subtree}
+use Rattle.trees.proofs.Bools.{bool-cases, clash}
+use Rattle.trees.proofs.ListLaws.{in-one, in-one-eq, in-append, in-right, distinct-left, distinct-right, distinct-apart}
+use Rattle.trees.proofs.ArrayLaws.{own-stands, good-at, label-inside, few-nodes}
+use Rattle.trees.proofs.PostorderLaws.{Third, in-first, in-second, at-last, third, third-first, third-second, third-last, length-postorder, subtree-in, holds-leaf, node-leaf, leaf-once, label-shown}
+use Rattle.lists.specs.declared.LabelPlaces.{LabelPlaces}
+use Rattle.lists.specs.ReadList.{padded, listLimit}
+use Rattle.lists.proofs.ListPlaces.{store}
+use Rattle.agreement.specs.Closer.{holds}
+use Rattle.agreement.proofs.HoldsLaws.{refute}
+use Rattle.agreement.specs.Places.{placeIn}
+use Rattle.agreement.specs.Weights.{forcedUnit}
+use Rattle.leaves.proofs.OwnLaws.{own-leaf}
+use Rattle.mast.specs.Engine.{LeafIs, Numbered, forcedFrom}
+use Rattle.mast.specs.Largest.{setPlaces}
+use Rattle.mast.specs.Finish.{placesFrom, Stored, Flagged}
+
+-- a leaf's start in the arrays of a tree whose text starts at p
+length-starts : (t : Tree) (p : ℕ) → length (starts t p) ≡ nodesOf t
+unfolding starts nodesOf
+length-starts (leaf x) p = refl
+length-starts (node a b) p =
+    simp (length-append) (omega (arith, length-starts a (p + 1), length-starts b (p + 1 + length (written a) + 1)))
+
+abbrev PlacedAt : Tree → ℕ → Type 0
+PlacedAt t p = (i : ℕ) → i < nodesOf t → (x : Label) → subtree (postorder t) i ≡ leaf x → getD (starts t p) i 0 ≡ placeIn t p x
+
+module _ (a b : Tree) (p i : ℕ) (x : Label) where
+  place-first : holds a x ≡ true → placeIn (node a b) p x ≡ placeIn a (p + 1) x
+  unfolding placeIn
+  place-first h = rw h refl
+
+  place-second : holds a x ≡ false → placeIn (node a b) p x ≡ placeIn b (p + 1 + length (written a) + 1) x
+  unfolding placeIn
+  place-second h = rw h refl
+
+  module _ (d : distinct (leaves (node a b)) ≡ true) (f : PlacedAt a (p + 1)) (g : PlacedAt b (p + 1 + length (written a) + 1))
+      (e : subtree (postorder (node a b)) i ≡ leaf x) where
+    placed-split : Third (nodesOf a) (nodesOf b) i → getD (starts (node a b) p) i 0 ≡ placeIn (node a b) p x
+    unfolding starts postorder leaves holds
+    placed-split (in-first h) =
+        let k : subtree (postorder a) i ≡ leaf x =
+        sym (third-first (postorder a) (postorder b) (node a b) (leaf []) i (omega (arith, length-postorder a))) ∙ e
+        in
+        third-first (starts a (p + 1)) (starts b (p + 1 + length (written a) + 1)) 0 0 i (omega (arith, length-starts a (p + 1)))
+        ∙ f i h x k ∙ sym (place-first (subtree-in a i h x (holds-leaf (subtree (postorder a) i) x k)))
+    placed-split (in-second j h m) =
+        let k : subtree (postorder b) j ≡ leaf x =
+        sym (third-second (postorder a) (postorder b) (node a b) (leaf []) (nodesOf a) i j (length-postorder a)
+        (omega (arith, length-postorder b)) m)
+        ∙ e
+        in
+        third-second (starts a (p + 1)) (starts b (p + 1 + length (written a) + 1)) 0 0 (nodesOf a) i j (length-starts a (p + 1))
+        (omega (arith, length-starts b (p + 1 + length (written a) + 1))) m
+        ∙ g j h x k
+        ∙ sym (place-second (refute (isIn x (leaves a)) (λ (q : isIn x (leaves a) ≡ true).
+        clash (subtree-in b j h x (holds-leaf (subtree (postorder b) j) x k)) (distinct-apart (leaves a) (leaves b) d x q))))
+    placed-split (at-last m) =
+        absurd
+        (node-leaf a b x
+        (sym (third-last (postorder a) (postorder b) (node a b) (leaf []) (nodesOf a) (nodesOf b) i (length-postorder a)
+        (length-postorder b) m)
+        ∙ e))
+
+placed : (t : Tree) → distinct (leaves t) ≡ true → (p : ℕ) → PlacedAt t p
+unfolding starts placeIn nodesOf leaves
+placed (leaf y) d p zero h x e = refl
+placed (leaf y) d p (suc i) h x e = absurd (omega arith)
+placed (node a b) d p i h x e =
+    placed-split a b p i x d (placed a (distinct-left (leaves a) (leaves b) d) (p + 1))
+    (placed b (distinct-right (leaves a) (leaves b) d) (p + 1 + length (written a) + 1)) e (third (nodesOf a) (nodesOf b) i h)
+
+-- in a valid tree's own arrays
+module _ (t : Tree) (v : Valid t) (u : ℕ) (x : Label) (l : LeafIs t u x) where
+  pub own-start : getD (arraysOf t .start) u 0 ≡ placeIn t 0 x
+  unfolding arraysOf
+  own-start =
+      List·getD-append (starts t 0) (replicate (nodeLimit - length (starts t 0)) 0) 0 u (omega (arith, length-starts t 0, l .below))
+      ∙ placed t (v .different) 0 u (l .below) x (l .is)
+
+  pub own-size : getD (arraysOf t .size) u 0 ≡ length x
+  unfolding arraysOf isLeaf
+  own-size =
+      let i = label-inside (arraysOf t) (textOf t) u (good-at (arraysOf t) (textOf t) (nodesOf t) (own-stands t v .good) u (l .below))
+      (eq-eqb (getD (arraysOf t .left) u 0) u (own-leaf t u x (l .below) (l .is))) in
+      let e = label-shown t (replicate (nodeLimit - length (starts t 0)) 0) (replicate (nodeLimit - length (sizes t)) 0) u (l .below) x (l .is) in
+      sym (length-take-le (getD (arraysOf t .size) u 0) (drop (getD (arraysOf t .start) u 0) (textOf t))
+      (omega (arith, i .inside, length-drop (getD (arraysOf t .start) u 0) (textOf t))))
+      ∙ ap length e
+
+leaf-label : (x y : Label) → leaf x ≡ leaf y → x ≡ y
+leaf-label x y e = cc
+
+-- the forced labels of a list with one label more
+cond-append : (b : Bool) (c : Label) (xs ys : List Label) → cond b (c ∷ (xs ++ ys)) (xs ++ ys) ≡ cond b (c ∷ xs) xs ++ ys
+cond-append true c xs ys = refl
+cond-append false c xs ys = refl
+
+abbrev ownForced : List ℕ → ℕ → Label → List Label
+ownForced w r c = cond (eqb (getD w r 0) forcedUnit) (c ∷ []) []
+
+forced-snoc : (w : List ℕ) (r : ℕ) (C : List Label) (c : Label)
+    → forcedFrom w r (C ++ (c ∷ [])) ≡ forcedFrom w r C ++ ownForced w (r + length C) c
+unfolding forcedFrom
+forced-snoc w r [] c = ap (λ (n : ℕ). ownForced w n c) (omega arith)
+forced-snoc w r (d ∷ C) c =
+    ap (λ (xs : List Label). cond (eqb (getD w r 0) forcedUnit) (d ∷ xs) xs)
+    (forced-snoc w (suc r) C c ∙ ap (λ (n : ℕ). forcedFrom w (suc r) C ++ ownForced w n c) (omega arith))
+    ∙ cond-append (eqb (getD w r 0) forcedUnit) d (forcedFrom w (suc r) C) (ownForced w (r + suc (length C)) c)
+
+-- the forced labels among the first r of C
+abbrev pub forcedTo : List ℕ → List Label → ℕ → List Label
+forcedTo w C r = forcedFrom w 0 (take r C)
+
+forced-next : (w : List ℕ) (C : List Label) (r : ℕ) → r < length C
+    → forcedTo w C (r + 1) ≡ forcedTo w C r ++ ownForced w r (getD C r [])
+forced-next w C r h =
+    rw (add-one r, take-suc C r [])
+    (forced-snoc w 0 (take r C) (getD C r []) ∙ ap (λ (n : ℕ). forcedTo w C r ++ ownForced w n (getD C r [])) (omega (arith, length-take r C)))
+
+pub forced-all : (w : List ℕ) (C : List Label) (r : ℕ) → length C ≤ r → forcedTo w C r ≡ forcedFrom w 0 C
+forced-all w C r h = ap (forcedFrom w 0) (take-all r C h)
+
+forced-few : (w : List ℕ) (r : ℕ) (C : List Label) → length (forcedFrom w r C) ≤ length C
+unfolding forcedFrom
+forced-few w r [] = omega arith
+forced-few w r (c ∷ C) = go (eqb (getD w r 0) forcedUnit) (forced-few w (suc r) C)
+  where
+    go : (b : Bool) → length (forcedFrom w (suc r) C) ≤ length C
+        → length (cond b (c ∷ forcedFrom w (suc r) C) (forcedFrom w (suc r) C)) ≤ suc (length C)
+    go true h = omega arith
+    go false h = omega arith
+
+pub forced-to-few : (w : List ℕ) (C : List Label) (r : ℕ) → length (forcedTo w C r) ≤ r
+forced-to-few w C r = omega (arith, forced-few w 0 (take r C), length-take r C)
+
+-- places with one label more
+places-eq : {n m : ℕ} {a b c d : List ℕ} → n ≡ m → a ≡ b → c ≡ d → placesFrom n a c ≡ placesFrom m b d
+places-eq e f g = rw (e, f, g) refl
+
+padded-map : (f : Label → ℕ) (X : List Label) (x : Label) → length X < listLimit
+    → set (padded (map f X)) (length X) (f x) ≡ padded (map f (X ++ (x ∷ [])))
+padded-map f X x h =
+    store (map f X) (f x) (length X) (length-map X f) h ∙ ap padded (sym (map-append f X (x ∷ [])))
+
+module _ (s : Tree) (X : List Label) (x : Label) (h : length X < listLimit) where
+  places-more : (b : Bool) (new : LabelPlaces) → Stored b (placeIn s 0 x) (length x) (setPlaces s X) new
+      → new ≡ setPlaces s (X ++ cond b (x ∷ []) [])
+  unfolding setPlaces
+  places-more true new k =
+      places-eq (k .count ∙ sym (length-append X (x ∷ []))) (k .start ∙ padded-map (placeIn s 0) X x h)
+      (k .size ∙ padded-map (length {A = ℕ}) X x h)
+  places-more false new k = places-eq (k .count) (k .start) (k .size) ∙ ap (setPlaces s) (sym (append-nil X))
+
+pub stored-count : (b : Bool) (at len : ℕ) (old new : LabelPlaces) → Stored b at len old new → new .count ≤ old .count + 1
+stored-count true at len old new k = omega (arith, k .count)
+stored-count false at len old new k = omega (arith, k .count)
+
+pub places-none : (s : Tree) (w : List ℕ) (C : List Label)
+    → placesFrom 0 (replicate listLimit 0) (replicate listLimit 0) ≡ setPlaces s (forcedTo w C 0)
+unfolding setPlaces forcedFrom
+places-none s w C = refl
+
+module _ (s : Tree) (v : Valid s) (w order : List ℕ) (C : List Label) (num : Numbered s C order) where
+  pub places-next : (r : ℕ) → r < length C → r < listLimit → (old new : LabelPlaces) → old ≡ setPlaces s (forcedTo w C r)
+      → Stored (eqb (getD w r 0) forcedUnit) (getD (arraysOf s .start) (getD order r 0) 0) (getD (arraysOf s .size) (getD order r 0) 0)
+      old new → new ≡ setPlaces s (forcedTo w C (r + 1))
+  places-next r h l old new e k =
+      places-more s (forcedTo w C r) (getD C r []) (omega (arith, forced-to-few w C r)) (eqb (getD w r 0) forcedUnit) new
+      (rw (e, own-start s v (getD order r 0) (getD C r []) (num r h), own-size s v (getD order r 0) (getD C r []) (num r h)) at k)
+      ∙ ap (setPlaces s) (sym (forced-next w C r h))
+
+-- flags with one leaf more
+module _ (s : Tree) (v : Valid s) (X : List Label) (x : Label) (p : ℕ) (l : LeafIs s p x) (kept : List Bool) (size : length kept ≡ nodeLimit)
+    (f : Flagged s X kept) where
+  flag-one : Flagged s (X ++ (x ∷ [])) (set kept p true)
+  flag-one u h y e = go (bool-cases (eqb u p))
+    where
+      same : u ≡ p → y ≡ x
+      same q = leaf-label y x (sym e ∙ ap (subtree (postorder s)) q ∙ l .is)
+
+      go : (eqb u p ≡ true) ⊎ (eqb u p ≡ false) → getD (set kept p true) u false ≡ isIn y (X ++ (x ∷ []))
+      go (inl q) =
+          let d = eqb-true u p q in
+          rw (d, same d, getD-set-same kept p true false (omega (arith, l .below, few-nodes s v)))
+          (sym (in-right x X (x ∷ []) (in-one x)))
+      go (inr q) =
+          let d = eqb-false u p q in
+          let z : isIn y (x ∷ []) ≡ false =
+          refute (isIn y (x ∷ []))
+          (λ (k : isIn y (x ∷ []) ≡ true).
+          d (leaf-once s (v .different) u p h (l .below) x (e ∙ ap leaf (in-one-eq y x k)) (l .is)))
+          in
+          getD-set-other kept p u true false d ∙ f u h y e ∙ sym (in-append y X (x ∷ []) ∙ (rw z (or-false (isIn y X))))
+
+  flag-more : (b : Bool) → Flagged s (X ++ cond b (x ∷ []) []) (cond b (set kept p true) kept)
+  flag-more true = flag-one
+  flag-more false = rw (append-nil X) f
+
+pub flags-none : (s : Tree) (v : Valid s) (w : List ℕ) (C : List Label) → Flagged s (forcedTo w C 0) (replicate nodeLimit false)
+unfolding forcedFrom isIn
+flags-none s v w C u h x e = getD-replicate nodeLimit u false false (omega (arith, few-nodes s v))
+
+module _ (s : Tree) (v : Valid s) (w order : List ℕ) (C : List Label) (num : Numbered s C order) where
+  pub flags-next : (r : ℕ) → r < length C → (kept new : List Bool) → length kept ≡ nodeLimit → Flagged s (forcedTo w C r) kept
+      → new ≡ cond (eqb (getD w r 0) forcedUnit) (set kept (getD order r 0) true) kept → Flagged s (forcedTo w C (r + 1)) new
+  flags-next r h kept new size f e =
+      rw (e, forced-next w C r h)
+      (flag-more s v (forcedTo w C r) (getD C r []) (getD order r 0) (num r h) kept size f (eqb (getD w r 0) forcedUnit))
+
+pub flags-length : (b : Bool) (kept new : List Bool) (u : ℕ) → length kept ≡ nodeLimit → new ≡ cond b (set kept u true) kept
+    → length new ≡ nodeLimit
+flags-length true kept new u h e = rw e (length-set kept u true ∙ h)
+flags-length false kept new u h e = rw e h

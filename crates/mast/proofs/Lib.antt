@@ -1,0 +1,13 @@
+pub mod ListPlaces
+pub mod RankLaws
+pub mod RecurrenceLaws
+pub mod RequiredLaws
+pub mod TableLaws
+pub mod MarkLaws
+pub mod FinishLaws
+pub mod SideLaws
+pub mod ChoiceLaws
+pub mod SolutionLaws
+pub mod BodyLaws
+pub mod OutcomeLaws
+pub mod Promises

@@ -1,0 +1,81 @@
+-- Demand 3 of the engine's answer to three texts and an output of `room` bytes, in the scope paper's order; the contract of `largest`
+-- says that `solve` is what comes back. Assumes nothing.
+use Prim.Native.Nat.{ℕ, _<_}
+use mathlib.Core.Path.{_≡_, refl}
+use mathlib.Core.Logic.{_↔_}
+use mathlib.Core.List.{List, _++_}
+use lib.ListN.{length, drop}
+use Rattle.trees.specs.declared.Body.the-variants.{K, S, T}
+use Rattle.trees.specs.declared.Refusal.{Refusal}
+use Rattle.trees.specs.Label.{Label}
+use Rattle.trees.specs.Tree.{Tree}
+use Rattle.agreement.specs.Sets.{setOf}
+use Rattle.agreement.specs.Restrict.{restrict}
+use Rattle.agreement.specs.Places.{keptText}
+use Rattle.agreement.specs.Answer.{Answer, largest, answer}
+use Rattle.mast.specs.Largest.{solved, clashed, turned, solutionOf, solve, outputOf, largestOf, setPlaces}
+use Rattle.trees.specs.declared.Reason.{Reason}
+use Rattle.trees.specs.Reading.{good, refused}
+use Rattle.newick.specs.ReadTree.{readTree}
+use Rattle.lists.specs.ReadList.{readList}
+use Rattle.agreement.specs.Closer.{Common}
+use Rattle.agreement.specs.Demand.{IsAnswer, Clash}
+use Rattle.agreement.specs.Outcome.{Outcome}
+use Rattle.mast.specs.Given.{Reads, SetGiven}
+use Rattle.mast.proofs.OutcomeLaws.{tooShort, outcome-decides, eight-exactly, set-exactly, nine-exactly}
+use Rattle.mast.specs.declared.LargestAnswer.the-variants.{Found}
+
+-- "Order: .. S, T, K": "A body that fails to read ends the job there"
+module _ (first second list : List ℕ) (room : ℕ) (r : Reason) (i : ℕ) where
+  pub first-body : readTree first ≡ refused r i → solve first second list room ≡ turned (record { reason = r; body = S; place = i })
+  unfolding solve
+  first-body e = rw e refl
+
+  pub second-body : (s : Tree) → readTree first ≡ good s → readTree second ≡ refused r i
+      → solve first second list room ≡ turned (record { reason = r; body = T; place = i })
+  unfolding solve
+  second-body s e f = rw (e, f) refl
+
+  pub third-body : (s t : Tree) → readTree first ≡ good s → readTree second ≡ good t → readList list ≡ refused r i
+      → solve first second list room ≡ turned (record { reason = r; body = K; place = i })
+  unfolding solve
+  third-body s t e f g = rw (e, f, g) refl
+
+module _ (first second list : List ℕ) (room : ℕ) (s t : Tree) (xs : List Label) (reads : Reads first second list s t xs) where
+  -- 6 or 7, then 8, then the set: whatever meets the paper's sentences on two trees and a list decides
+  pub outcome-promise : (A : Answer) → Outcome s t xs A → solve first second list room ≡ solutionOf s xs room A
+  outcome-promise = outcome-decides first second list room s t xs reads
+
+  -- 8 exactly if three required labels clash
+  pub eight-promise : Common s t (setOf xs)
+      → ((a : Label) × (b : Label) × (c : Label) × Clash s t xs a b c)
+      ↔ ((a : Label) × (b : Label) × (c : Label) × (solve first second list room ≡ clashed xs a b c))
+  eight-promise = eight-exactly first second list room s t xs reads
+
+  -- a set exactly if it is the largest, the first among equals, and the text of the common restriction fits
+  pub set-promise : (X : List Label) (text : List ℕ) → (solve first second list room ≡ solved s X text) ↔ SetGiven s t xs X text room
+  set-promise = set-exactly first second list room s t xs reads
+
+  -- 9 last, and "only for a real lack"
+  pub nine-promise : (solve first second list room ≡ turned tooShort)
+      ↔ ((X : List Label) × IsAnswer s t xs X × (room < length (keptText (restrict (setOf X) s))))
+  nine-promise = nine-exactly first second list room s t xs reads
+
+-- "an output keeps every byte"; "On success the output holds the normal text and its further bytes are unchanged"
+pub kept-on-refusal : (q : Refusal) (out : List ℕ) → outputOf (turned q) out ≡ out
+unfolding outputOf
+kept-on-refusal q out = refl
+
+pub kept-on-eight : (xs : List Label) (a b c : Label) (out : List ℕ) → outputOf (clashed xs a b c) out ≡ out
+unfolding outputOf
+kept-on-eight xs a b c out = refl
+
+pub written-on-success : (s : Tree) (X : List Label) (text out : List ℕ) → outputOf (solved s X text) out ≡ text ++ drop (length text) out
+unfolding outputOf
+written-on-success s X text out = refl
+
+-- "A size printed with no set of that size: the size is that set's length"
+pub size-promise : (s : Tree) (X : List Label) (text : List ℕ)
+    → (largestOf (solved s X text) .answer ≡ Found (length X) (length text)) × (largestOf (solved s X text) .set .count ≡ length X)
+unfolding largestOf setPlaces
+size-promise s X text = (refl, refl)

@@ -1,0 +1,174 @@
+-- Laws of the table: the value computed for a cell is that of the recurrence, and what holds before a cell holds after it.
+-- Assumes nothing.
+use Prim.Native.Nat.{ℕ, _+_, _*_, _<_, _≤_, max}
+use mathlib.Core.Path.{_≡_, refl, sym, _∙_, ap₂}
+use mathlib.Core.Bool.{Bool, true, false, cond, _&&_, and-false}
+use mathlib.Core.Logic.{_⊎_, inl, inr, ⊎-elim, ⊎-map}
+use mathlib.Core.List.{List}
+use native.Mathlib.Omega.{arith}
+use lib.Dec.{eqb, ltb}
+use lib.ListN.{length, getD, set, length-set}
+use lib.Seq.{getD-set-same, getD-set-other}
+use borrow.Author.Tests.{eq-eqb, ne-eqb, eqb-true, eqb-false, ltb-true, ltb-false}
+use Rattle.trees.specs.Label.{Label, sameLabel}
+use Rattle.trees.specs.Tree.{Tree, leaf, node, leaves, leafLimit}
+use Rattle.trees.specs.Postorder.{subtree, LaidNode, laid-leaf, laid-node}
+use Rattle.trees.proofs.Bools.{bool-cases}
+use Rattle.agreement.specs.Weights.{best, forcedUnit}
+use Rattle.mast.specs.Table.{capped, cell, Side, innerValue, pairValue}
+use Rattle.mast.specs.Table.{Setting, AllRight, RightWhereUnmarked, Done}
+use Rattle.mast.proofs.RecurrenceLaws.{best-leaves, best-leaf-node, best-node-leaf, best-inner}
+
+-- what arrays tell of node u
+pub data NodeCase (ts : List Tree) (l r u : ℕ) (t : Tree) : Type 0 where
+  is-leaf : (x : Label) → l ≡ u → t ≡ leaf x → NodeCase ts l r u t
+  is-node : l < u → r < u → t ≡ node (subtree ts l) (subtree ts r) → NodeCase ts l r u t
+
+pub node-case : {ts : List Tree} {l r u : ℕ} {t : Tree} → LaidNode ts l r u t → NodeCase ts l r u t
+node-case (laid-leaf {x} e) = is-leaf x e refl
+node-case (laid-node p q) = is-node p q refl
+
+-- the recurrence, at trees that are known by an equation
+module _ (w : Label → ℕ) (s t : Tree) where
+  two-leaves : (x y : Label) → s ≡ leaf x → t ≡ leaf y → cond (sameLabel x y) (w x) 0 ≡ best w s t
+  two-leaves x y p q = rw (p, q) (sym (best-leaves w x y))
+
+  leaf-node : (x : Label) (c d : Tree) → s ≡ leaf x → t ≡ node c d → max (best w s c) (best w s d) ≡ best w s t
+  leaf-node x c d p q = rw (p, q) (sym (best-leaf-node w x c d))
+
+  node-leaf : (a b : Tree) (y : Label) → s ≡ node a b → t ≡ leaf y → max (best w a t) (best w b t) ≡ best w s t
+  node-leaf a b y p q = rw (p, q) (sym (best-node-leaf w a b y))
+
+  two-nodes : (a b c d : Tree) → s ≡ node a b → t ≡ node c d
+      → ((x : Label) → w x ≤ forcedUnit) → length (leaves s) ≤ leafLimit
+      → max (max (best w a t) (best w b t))
+      (max (max (best w s c) (best w s d)) (max (capped (best w a c) (best w b d)) (capped (best w a d) (best w b c))))
+      ≡ best w s t
+  two-nodes a b c d p q light few = rw (p, q) (best-inner w light a b c d (rw p at few))
+
+-- the value that the code computes for cell (u, v)
+abbrev pub pairAt : Side → Side → List ℕ → List ℕ → ℕ → ℕ → ℕ
+pairAt s t weight cells u v =
+    pairValue (getD (s .left) u 0) (getD (s .right) u 0) (getD (s .rank) u 0) (t .left) (t .right) (t .rank) weight cells u v
+
+-- the value computed from right cells before it
+module _ (s t : Side) (weight : List ℕ) (ss ts : List Tree) (w : Label → ℕ) (h : Setting s t weight ss ts w) (cells : List ℕ)
+    (u v : ℕ) (hu : u < s .nodes) (hv : v < t .nodes)
+    (before : (p q : ℕ) → p < s .nodes → q < t .nodes → p * 159 + q < u * 159 + v
+    → cell cells p q ≡ best w (subtree ss p) (subtree ts q)) where
+  pub pair-right : pairAt s t weight cells u v ≡ best w (subtree ss u) (subtree ts v)
+  unfolding pairValue innerValue
+  pair-right = go (node-case (h .first u (rw (h .first-nodes) hu))) (node-case (h .second v (rw (h .second-nodes) hv)))
+    where
+      go : NodeCase ss (getD (s .left) u 0) (getD (s .right) u 0) u (subtree ss u)
+          → NodeCase ts (getD (t .left) v 0) (getD (t .right) v 0) v (subtree ts v)
+          → pairAt s t weight cells u v ≡ best w (subtree ss u) (subtree ts v)
+      go (is-leaf x e p) (is-leaf y f q) =
+          rw (eq-eqb _ _ e, eq-eqb _ _ f) (h .ranks u v hu hv x y p q ∙ two-leaves w _ _ x y p q)
+      go (is-leaf x e p) (is-node c d q) =
+          rw (eq-eqb _ _ e, ne-eqb (getD (t .left) v 0) v (omega arith))
+          (ap₂ max (before u _ hu (omega arith) (omega arith)) (before u _ hu (omega arith) (omega arith))
+          ∙ leaf-node w _ _ x _ _ p q)
+      go (is-node a b p) (is-leaf y f q) =
+          rw (eq-eqb _ _ f, ne-eqb (getD (s .left) u 0) u (omega arith))
+          (ap₂ max (before _ v (omega arith) hv (omega arith)) (before _ v (omega arith) hv (omega arith))
+          ∙ node-leaf w _ _ _ _ y p q)
+      go (is-node a b p) (is-node c d q) =
+          rw (
+            ne-eqb (getD (t .left) v 0) v (omega arith),
+            ne-eqb (getD (s .left) u 0) u (omega arith),
+            before (getD (s .left) u 0) v (omega arith) hv (omega arith),
+            before (getD (s .right) u 0) v (omega arith) hv (omega arith),
+            before u (getD (t .left) v 0) hu (omega arith) (omega arith),
+            before u (getD (t .right) v 0) hu (omega arith) (omega arith),
+            before (getD (s .left) u 0) (getD (t .left) v 0) (omega arith) (omega arith) (omega arith),
+            before (getD (s .right) u 0) (getD (t .right) v 0) (omega arith) (omega arith) (omega arith),
+            before (getD (s .left) u 0) (getD (t .right) v 0) (omega arith) (omega arith) (omega arith),
+            before (getD (s .right) u 0) (getD (t .left) v 0) (omega arith) (omega arith) (omega arith),
+          )
+          (two-nodes w _ _ _ _ _ _ p q (h .light) (h .few u hu))
+
+-- progress through the table
+module _ (m n : ℕ) (ss ts : List Tree) (w : Label → ℕ) (mark1 mark2 : List Bool) (cells : List ℕ) where
+  pub done-start : RightWhereUnmarked m n ss ts w mark1 mark2 cells → Done m n ss ts w mark1 mark2 0 cells
+  done-start h =
+      record {
+        size = h .size;
+        right = λ u v hu hv. ⊎-elim (λ (l : u * 159 + v < 0). absurd (omega arith)) (h .right u v hu hv);
+      }
+
+  pub done-all : n ≤ 159 → (k : ℕ) → m ≤ k → Done m n ss ts w mark1 mark2 (k * 159) cells → AllRight m n ss ts w cells
+  done-all few k l h =
+      record { size = h .size; right = λ u v hu hv. h .right u v hu hv (inl (omega arith)) }
+
+  -- the end of a row
+  pub done-row : n ≤ 159 → (u v : ℕ) → n ≤ v → Done m n ss ts w mark1 mark2 (u * 159 + v) cells
+      → Done m n ss ts w mark1 mark2 ((u + 1) * 159) cells
+  done-row few u v l h =
+      record {
+        size = h .size;
+        right =
+            λ p q hp hq. λ come. h .right p q hp hq (⊎-map (λ (k : p * 159 + q < (u + 1) * 159). omega arith) (λ k. k) come);
+      }
+
+  -- rows that are not marked
+  pub done-rows : n ≤ 159 → (u k : ℕ) → ((p : ℕ) → u ≤ p → p < k → getD mark1 p false ≡ false)
+      → Done m n ss ts w mark1 mark2 (u * 159) cells → Done m n ss ts w mark1 mark2 (k * 159) cells
+  done-rows few u k over h =
+      record { size = h .size; right = λ p q hp hq. λ come. h .right p q hp hq (⊎-elim (low p q hq) inr come) }
+    where
+      low : (p q : ℕ) → q < n → p * 159 + q < k * 159
+          → (p * 159 + q < u * 159) ⊎ ((getD mark1 p false && getD mark2 q false) ≡ false)
+      low p q hq l = go (bool-cases (ltb p u))
+        where
+          go : (ltb p u ≡ true) ⊎ (ltb p u ≡ false)
+              → (p * 159 + q < u * 159) ⊎ ((getD mark1 p false && getD mark2 q false) ≡ false)
+          go (inl below) = inl (omega (arith, ltb-true p u below))
+          go (inr from) = inr (rw (over p (ltb-false p u from) (omega arith)) refl)
+
+  -- columns that are not marked
+  pub done-columns : n ≤ 159 → (u v k : ℕ) → k ≤ n → ((q : ℕ) → v ≤ q → q < k → getD mark2 q false ≡ false)
+      → Done m n ss ts w mark1 mark2 (u * 159 + v) cells → Done m n ss ts w mark1 mark2 (u * 159 + k) cells
+  done-columns few u v k hk over h =
+      record { size = h .size; right = λ p q hp hq. λ come. h .right p q hp hq (⊎-elim (low p q hq) inr come) }
+    where
+      low : (p q : ℕ) → q < n → p * 159 + q < u * 159 + k
+          → (p * 159 + q < u * 159 + v) ⊎ ((getD mark1 p false && getD mark2 q false) ≡ false)
+      low p q hq l = go (bool-cases (ltb (p * 159 + q) (u * 159 + v)))
+        where
+          go : (ltb (p * 159 + q) (u * 159 + v) ≡ true) ⊎ (ltb (p * 159 + q) (u * 159 + v) ≡ false)
+              → (p * 159 + q < u * 159 + v) ⊎ ((getD mark1 p false && getD mark2 q false) ≡ false)
+          go (inl below) = inl (ltb-true _ _ below)
+          go (inr from) =
+              let here = ltb-false (p * 159 + q) (u * 159 + v) from in
+              inr (rw (over q (omega (arith, here)) (omega (arith, here))) (and-false (getD mark1 p false)))
+
+-- one cell
+module _ (s t : Side) (weight : List ℕ) (ss ts : List Tree) (w : Label → ℕ) (h : Setting s t weight ss ts w)
+    (few : t .nodes ≤ 159) (mark1 mark2 : List Bool) (cells : List ℕ) (u v : ℕ)
+    (small : u < 159) (hu : u < s .nodes) (hv : v < t .nodes)
+    (done : Done (s .nodes) (t .nodes) ss ts w mark1 mark2 (u * 159 + v) cells) where
+  pub done-next : (x : ℕ) → x ≡ pairAt s t weight cells u v
+      → Done (s .nodes) (t .nodes) ss ts w mark1 mark2 (u * 159 + (v + 1)) (set cells (u * 159 + v) x)
+  done-next x e =
+      record {
+        size = length-set cells (u * 159 + v) x ∙ done .size;
+        right = λ p q hp hq. λ come. go p q hp hq come (bool-cases (eqb (p * 159 + q) (u * 159 + v)));
+      }
+    where
+      value : pairAt s t weight cells u v ≡ best w (subtree ss u) (subtree ts v)
+      value = pair-right s t weight ss ts w h cells u v hu hv (λ p q hp hq l. done .right p q hp hq (inl l))
+
+      go : (p q : ℕ) → p < s .nodes → q < t .nodes
+          → (p * 159 + q < u * 159 + (v + 1)) ⊎ ((getD mark1 p false && getD mark2 q false) ≡ false)
+          → (eqb (p * 159 + q) (u * 159 + v) ≡ true) ⊎ (eqb (p * 159 + q) (u * 159 + v) ≡ false)
+          → cell (set cells (u * 159 + v) x) p q ≡ best w (subtree ss p) (subtree ts q)
+      go p q hp hq come (inl same) =
+          let place = eqb-true (p * 159 + q) (u * 159 + v) same in
+          let pu : p ≡ u = omega arith in
+          let qv : q ≡ v = omega arith in
+          rw (pu, qv) (getD-set-same cells (u * 159 + v) x 0 (omega (arith, done .size)) ∙ (e ∙ value))
+      go p q hp hq come (inr other) =
+          getD-set-other cells (u * 159 + v) (p * 159 + q) x 0 (eqb-false _ _ other)
+          ∙ done .right p q hp hq
+          (⊎-map (λ (k : p * 159 + q < u * 159 + (v + 1)). omega (arith, eqb-false (p * 159 + q) (u * 159 + v) other)) (λ k. k) come)

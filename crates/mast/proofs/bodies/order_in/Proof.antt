@@ -1,0 +1,21 @@
+-- The bodies that were read have the arrays that the order asks for. Assumes nothing.
+use borrow.Author.Needs.{needs}
+use Rattle.mast.proofs.BodyLaws.{first-leaves, second-leaves}
+use Rattle.mast.proofs.bodies.order_in.Statement.{statement}
+use Rattle.mast.proofs.bodies.order_in.Tie as tie
+
+common-order-requires : tie.Need-common-order-requires
+common-order-requires c κs = search needs
+
+returns : tie.Need-returns
+returns c = (
+  c .common-order .ensures .0,
+  λ list places h.
+      record {
+        given = h;
+        order = c .common-order .ensures .1 (h .bodies .s) (h .bodies .t) (first-leaves _ _ _ _ _ _ (h .bodies)) (second-leaves _ _ _ _ _ _ (h .bodies));
+      },
+)
+
+pub order-in-spec : {M : Type 1} → statement M
+order-in-spec = tie.close (tie.spec common-order-requires returns)

@@ -1,0 +1,88 @@
+-- The writer's answer to the restricted arrays decides: their text is that of the set's restriction. Assumes nothing.
+use mathlib.Core.Path.{sym, _∙_, ap}
+use borrow.Author.Needs.{needs}
+use Rattle.mast.proofs.SolutionLaws.{placed-result, restricted-text, not-written, set-written, set-refused, set-output}
+use Rattle.trees.specs.Arrays.{treeOf}
+use Rattle.mast.specs.Engine.{forcedFrom}
+use Rattle.mast.proofs.finish.solution.Statement.{statement}
+use Rattle.mast.proofs.finish.solution.Tie as tie
+
+kept-leaves-requires : tie.Need-kept-leaves-requires
+kept-leaves-requires c κs = search needs
+
+restrict-tree-requires : tie.Need-restrict-tree-requires
+restrict-tree-requires c κs = search needs
+
+write-tree-requires : tie.Need-write-tree-requires
+write-tree-requires c κs = search needs
+
+enum-known-written : tie.Need-enum-known-written
+enum-known-written c = search needs
+
+without-set-requires : tie.Need-without-set-requires
+without-set-requires c κs = search needs
+
+same-length : tie.Need-same-length
+same-length c = search needs
+
+returns : tie.Need-returns
+returns c =
+    let p = c .before .before .before .before in
+    let q = p .before .before in
+    let f = q .before in
+    let a = f .before .before .before .args in (
+      λ s C k.
+          c .without-set .ensures
+          ∙ set-refused s (forcedFrom (a .weight .now) 0 C) (treeOf (q .restrict-tree .result) (a .text .now)) (a .out .now)
+          (restricted-text s C (a .tree) (a .text .now) (a .order1 .now) (a .m) k _ _ (f .kept-leaves .ensures s C (k .valid) (k .count) (k .numbered)) _
+          (q .restrict-tree .ensures .0))
+          (λ n e. not-written (p .write-tree .result) (c .before .match .keys2) n (p .write-tree .ensures .0 ∙ e)),
+      λ s C k.
+          p .write-tree .ensures .1
+          ∙ set-output s (forcedFrom (a .weight .now) 0 C) (treeOf (q .restrict-tree .result) (a .text .now)) (a .out .now)
+          (restricted-text s C (a .tree) (a .text .now) (a .order1 .now) (a .m) k _ _ (f .kept-leaves .ensures s C (k .valid) (k .count) (k .numbered)) _
+          (q .restrict-tree .ensures .0)),
+    )
+
+set-places-requires : tie.Need-set-places-requires
+set-places-requires c κs = search needs
+
+same-length-2 : tie.Need-same-length-2
+same-length-2 c = search needs
+
+returns-2 : tie.Need-returns-2
+returns-2 c =
+    let at-written = c .before .before .before .before .before .before in
+    let at-before = at-written .before .before .before in
+    let p = at-before .before in
+    let q = p .before .before in
+    let f = q .before in
+    let a = f .before .before .before .args in (
+      λ s C k.
+          placed-result _ _ (forcedFrom (a .weight .now) 0 C) _
+          (c .set-places .ensures s C (k .valid) (ap (λ t. t .start) (k .arrays-is)) (ap (λ t. t .size) (k .arrays-is)) (k .count) (k .numbered))
+          ∙ set-written s (forcedFrom (a .weight .now) 0 C) (treeOf (q .restrict-tree .result) (a .text .now)) (a .out .now)
+          (restricted-text s C (a .tree) (a .text .now) (a .order1 .now) (a .m) k _ _ (f .kept-leaves .ensures s C (k .valid) (k .count) (k .numbered)) _
+          (q .restrict-tree .ensures .0))
+          _ (sym (p .write-tree .ensures .0) ∙ at-written .written .given .1),
+      λ s C k.
+          p .write-tree .ensures .1
+          ∙ set-output s (forcedFrom (a .weight .now) 0 C) (treeOf (q .restrict-tree .result) (a .text .now)) (a .out .now)
+          (restricted-text s C (a .tree) (a .text .now) (a .order1 .now) (a .m) k _ _ (f .kept-leaves .ensures s C (k .valid) (k .count) (k .numbered)) _
+          (q .restrict-tree .ensures .0)),
+    )
+
+pub solution-spec : {M : Type 1} → statement M
+solution-spec =
+    tie.close
+    (tie.spec
+    kept-leaves-requires
+    restrict-tree-requires
+    write-tree-requires
+    enum-known-written
+    without-set-requires
+    same-length
+    returns
+    set-places-requires
+    same-length-2
+    returns-2)

@@ -1,0 +1,62 @@
+-- Three bodies that were read, as the engine hands them on. Intermediate: nothing public rests on this text.
+use Prim.Native.Nat.{ℕ, _≤_}
+use mathlib.Core.Path.{_≡_}
+use mathlib.Core.List.{List}
+use Rattle.trees.specs.declared.TreeArrays.{TreeArrays}
+use Rattle.trees.specs.Label.{Label}
+use Rattle.trees.specs.Tree.{Tree}
+use Rattle.trees.specs.Arrays.{arraysOf}
+use Rattle.newick.specs.declared.TreeAnswer.{TreeAnswer}
+use Rattle.newick.specs.declared.TreeAnswer.the-variants.{Leaves, Refused as TreeRefused}
+use Rattle.lists.specs.declared.ListAnswer.{ListAnswer}
+use Rattle.lists.specs.declared.ListAnswer.the-variants.{Labels, Refused as ListRefused}
+use Rattle.lists.specs.declared.LabelPlaces.{LabelPlaces}
+use Rattle.lists.specs.ReadList.{placesOf}
+use Rattle.agreement.specs.Closer.{Common}
+use Rattle.agreement.specs.Sets.{setOf}
+use Rattle.agreement.specs.Answer.{answer, disagree}
+use Rattle.mast.specs.declared.LargestAnswer.{LargestAnswer}
+use Rattle.mast.specs.declared.LargestAnswer.the-variants.{Found, Refused}
+use Rattle.mast.specs.Given.{Reads}
+use Rattle.mast.specs.Engine.{Ordered}
+
+-- the answer to a body that was turned down; one that was read does not come here
+unfoldable pub unreadTree : TreeAnswer → LargestAnswer
+unreadTree (Leaves n) = Found n 0
+unreadTree (TreeRefused q) = Refused q
+
+unfoldable pub unreadList : ListAnswer → LargestAnswer
+unreadList (Labels n) = Found n 0
+unreadList (ListRefused q) = Refused q
+
+-- they are read, and these are their arrays and places
+pub record Bodies (first second list : List ℕ) (tree1 tree2 : TreeArrays) (places : LabelPlaces) : Type 0 where
+  pub s : Tree
+  pub t : Tree
+  pub K : List Label
+  pub reads : Reads first second list s t K
+  pub first-arrays : tree1 ≡ arraysOf s
+  pub second-arrays : tree2 ≡ arraysOf t
+  pub list-places : places ≡ placesOf K
+
+-- both trees hold every label of the list
+pub record HeldBodies (first second list : List ℕ) (tree1 tree2 : TreeArrays) (places : LabelPlaces) : Type 0 where
+  pub bodies : Bodies first second list tree1 tree2 places
+  pub held : Common (bodies .s) (bodies .t) (setOf (bodies .K))
+
+-- with the common labels by their leaves
+pub record OrderedBodies (first second list : List ℕ) (tree1 tree2 : TreeArrays) (places : LabelPlaces) (order1 order2 : List ℕ) (m : ℕ)
+    : Type 0 where
+  pub given : HeldBodies first second list tree1 tree2 places
+  pub order : Ordered (given .bodies .s) (given .bodies .t) order1 order2 m
+
+-- three labels of the list clash
+pub record ClashingBodies (first second list : List ℕ) : Type 0 where
+  pub s : Tree
+  pub t : Tree
+  pub K : List Label
+  pub reads : Reads first second list s t K
+  pub a : Label
+  pub b : Label
+  pub c : Label
+  pub clash : answer s t K ≡ disagree a b c

@@ -1,0 +1,53 @@
+-- What the last steps of the engine hand to each other: places and flags by rank, and bodies that were read.
+-- Intermediate: nothing public rests on this text.
+use Prim.Native.Nat.{ℕ, _+_, _<_}
+use mathlib.Core.Path.{_≡_}
+use mathlib.Core.Bool.{Bool, true, false, cond}
+use mathlib.Core.List.{List}
+use lib.ListN.{length, getD, set}
+use Rattle.trees.specs.declared.TreeArrays.{TreeArrays}
+use Rattle.trees.specs.Label.{Label, isIn}
+use Rattle.trees.specs.Tree.{Tree, leaf, Valid}
+use Rattle.trees.specs.Text.{textOf}
+use Rattle.trees.specs.Arrays.{nodesOf, nodeLimit, arraysOf}
+use Rattle.trees.specs.Postorder.{postorder, subtree}
+use Rattle.lists.specs.declared.LabelPlaces.{LabelPlaces}
+use Rattle.agreement.specs.Sets.{setOf}
+use Rattle.agreement.specs.Restrict.{restrict}
+use Rattle.agreement.specs.Places.{keptText}
+use Rattle.mast.specs.declared.LargestAnswer.{LargestAnswer}
+use Rattle.mast.specs.declared.LargestResult.{LargestResult}
+use Rattle.mast.specs.Engine.{Numbered}
+use Rattle.mast.specs.Largest.{Solution, fitted}
+
+-- the first m entries are node numbers: what keeps indices in range
+abbrev pub InRange : List ℕ → ℕ → Type 0
+InRange order m = (r : ℕ) → r < m → getD order r 0 < nodeLimit
+
+abbrev pub placesFrom : ℕ → List ℕ → List ℕ → LabelPlaces
+placesFrom n start size = record { count = n; start = start; size = size }
+
+-- a label's place, stored behind n others exactly if it is forced
+pub record Stored (forced : Bool) (at len : ℕ) (old new : LabelPlaces) : Type 0 where
+  pub count : new .count ≡ cond forced (old .count + 1) (old .count)
+  pub start : new .start ≡ cond forced (set (old .start) (old .count) at) (old .start)
+  pub size : new .size ≡ cond forced (set (old .size) (old .count) len) (old .size)
+
+-- the flags of the leaves of tree t tell whether the set X has their labels
+abbrev pub Flagged : Tree → List Label → List Bool → Type 0
+Flagged t X kept = (u : ℕ) → u < nodesOf t → (x : Label) → subtree (postorder t) u ≡ leaf x → getD kept u false ≡ isIn x X
+
+-- the arrays and the text of tree t, and its leaves by the rank of their labels in C
+pub record ByRank (t : Tree) (C : List Label) (tree : TreeArrays) (text order : List ℕ) (m : ℕ) : Type 0 where
+  pub valid : Valid t
+  pub arrays-is : tree ≡ arraysOf t
+  pub text-is : text ≡ textOf t
+  pub count : m ≡ length C
+  pub numbered : Numbered t C order
+
+-- what a set comes to in an output of `room` bytes
+abbrev pub fittedSet : Tree → List Label → ℕ → Solution
+fittedSet s X room = fitted s X (keptText (restrict (setOf X) s)) room
+
+abbrev pub resultFrom : LargestAnswer → LabelPlaces → LargestResult
+resultFrom a p = record { answer = a; set = p }

@@ -1,0 +1,27 @@
+-- Texts that are read, and demand 3 of a set that comes back, sentence by sentence. Scope paper, "Conditions of acceptance".
+use Prim.Native.Nat.{ℕ, _≤_}
+use mathlib.Core.Path.{_≡_}
+use mathlib.Core.List.{List}
+use lib.ListN.{length}
+use Rattle.trees.specs.Label.{Label}
+use Rattle.trees.specs.Tree.{Tree}
+use Rattle.trees.specs.Reading.{good}
+use Rattle.newick.specs.ReadTree.{readTree}
+use Rattle.lists.specs.ReadList.{readList}
+use Rattle.agreement.specs.Sets.{setOf}
+use Rattle.agreement.specs.Restrict.{restrict}
+use Rattle.agreement.specs.Places.{keptText}
+use Rattle.agreement.specs.Demand.{IsAnswer}
+
+-- the texts are read as these two trees and this list
+pub record Reads (first second list : List ℕ) (s t : Tree) (K : List Label) : Type 0 where
+  pub first-is : readTree first ≡ good s
+  pub second-is : readTree second ≡ good t
+  pub list-is : readList list ≡ good K
+
+-- a set comes back: the answer, with the text of the restriction of either tree, which fits
+pub record SetGiven (s t : Tree) (xs X : List Label) (text : List ℕ) (room : ℕ) : Type 0 where
+  pub isAnswer : IsAnswer s t xs X
+  pub first-text : text ≡ keptText (restrict (setOf X) s)
+  pub second-text : text ≡ keptText (restrict (setOf X) t)
+  pub fit : length text ≤ room

@@ -1,0 +1,84 @@
+-- The engine's answer to three texts and an output. Scope paper: "Job and printed result", "Why a job is turned down".
+use Prim.Native.Nat.{ℕ, _-_}
+use mathlib.Core.Bool.{cond}
+use mathlib.Core.List.{List, [], _∷_, _++_, map}
+use lib.Dec.{leb}
+use lib.ListN.{length, drop}
+use Rattle.trees.specs.declared.Reason.{Reason}
+use Rattle.trees.specs.declared.Reason.the-variants.{FirstLacks, SecondLacks, TooShort}
+use Rattle.trees.specs.declared.Body.{Body}
+use Rattle.trees.specs.declared.Body.the-variants.{S, T, K, O}
+use Rattle.trees.specs.declared.Refusal.{Refusal}
+use Rattle.trees.specs.Label.{Label}
+use Rattle.trees.specs.Tree.{Tree}
+use Rattle.trees.specs.Reading.{Reading, good, refused}
+use Rattle.newick.specs.ReadTree.{readTree}
+use Rattle.lists.specs.declared.LabelPlaces.{LabelPlaces}
+use Rattle.lists.specs.ReadList.{readList, padded, placesOf}
+use Rattle.agreement.specs.Sets.{setOf}
+use Rattle.agreement.specs.Restrict.{restrict}
+use Rattle.agreement.specs.Answer.{Answer, firstLacks, secondLacks, disagree, largest, answer}
+use Rattle.agreement.specs.Places.{placeIn, placeOfNumber, placeOfLabel, keptText}
+use Rattle.mast.specs.declared.LargestAnswer.{LargestAnswer}
+use Rattle.mast.specs.declared.LargestAnswer.the-variants.{Found, Disagree, Refused}
+use Rattle.mast.specs.declared.LargestResult.{LargestResult}
+
+-- what a job comes to
+pub data Solution : Type 0 where
+  -- the first tree, the set in label order and the normal text of its common restriction
+  solved : Tree → List Label → List ℕ → Solution
+  -- number 8: the list and three of its labels
+  clashed : List Label → Label → Label → Label → Solution
+  turned : Refusal → Solution
+
+-- the text of the set's restriction goes into an output of `room` bytes, "too short exactly if it has fewer bytes than the text"
+unfoldable pub fitted : Tree → List Label → List ℕ → ℕ → Solution
+fitted s X text room =
+    cond (leb (length text) room) (solved s X text) (turned (record { reason = TooShort; body = O; place = 0 }))
+
+unfoldable pub solutionOf : Tree → List Label → ℕ → Answer → Solution
+unfolding fitted
+solutionOf s xs room (firstLacks n) = turned (record { reason = FirstLacks; body = K; place = placeOfNumber xs n })
+solutionOf s xs room (secondLacks n) = turned (record { reason = SecondLacks; body = K; place = placeOfNumber xs n })
+solutionOf s xs room (disagree a b c) = clashed xs a b c
+solutionOf s xs room (largest X) = fitted s X (keptText (restrict (setOf X) s)) room
+
+unfoldable pub solveList : Tree → Tree → ℕ → Reading (List Label) → Solution
+unfolding solutionOf
+solveList s t room (good xs) = solutionOf s xs room (answer s t xs)
+solveList s t room (refused r i) = turned (record { reason = r; body = K; place = i })
+
+unfoldable pub solveSecond : Tree → ℕ → Reading Tree → Reading (List Label) → Solution
+unfolding solveList
+solveSecond s room (good t) list = solveList s t room list
+solveSecond s room (refused r i) list = turned (record { reason = r; body = T; place = i })
+
+-- "Order: .. S, T, K, then 6 or 7, then 8, then 9 for the output. A body that fails to read ends the job there."
+unfoldable pub solveFirst : ℕ → Reading Tree → Reading Tree → Reading (List Label) → Solution
+unfolding solveSecond
+solveFirst room (good s) second list = solveSecond s room second list
+solveFirst room (refused r i) second list = turned (record { reason = r; body = S; place = i })
+
+unfoldable pub solve : List ℕ → List ℕ → List ℕ → ℕ → Solution
+unfolding solveFirst
+solve first second list room = solveFirst room (readTree first) (readTree second) (readList list)
+
+-- where the labels of a set stand in the first tree's text, in label order
+unfoldable pub setPlaces : Tree → List Label → LabelPlaces
+setPlaces s X =
+    record { count = length X; start = padded (map (placeIn s 0) X); size = padded (map (length {A = ℕ}) X) }
+
+-- what comes back: size and text's length, with the set's places; the three labels' places in the list; or the refusal
+unfoldable pub largestOf : Solution → LargestResult
+unfolding setPlaces
+largestOf (solved s X text) = record { answer = Found (length X) (length text); set = setPlaces s X }
+largestOf (clashed xs a b c) =
+    record { answer = Disagree (placeOfLabel xs 0 a) (placeOfLabel xs 0 b) (placeOfLabel xs 0 c); set = placesOf [] }
+largestOf (turned q) = record { answer = Refused q; set = placesOf [] }
+
+-- what the output then holds: "On success the output holds the normal text and its further bytes are unchanged"; otherwise
+-- "an output keeps every byte"
+unfoldable pub outputOf : Solution → List ℕ → List ℕ
+outputOf (solved s X text) out = text ++ drop (length text) out
+outputOf (clashed xs a b c) out = out
+outputOf (turned q) out = out

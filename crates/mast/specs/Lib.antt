@@ -1,0 +1,10 @@
+pub mod Bodies
+pub mod Choice
+pub mod Engine
+pub mod Finish
+pub mod Given
+pub mod Largest
+pub mod Marks
+pub mod Ranks
+pub mod Required
+pub mod Table

@@ -1,0 +1,43 @@
+-- Common leaves collected from the last node of the first tree to its first, and ranks stored one after the other.
+-- Intermediate: nothing public rests on this text.
+use Prim.Native.Nat.{ℕ, zero, suc, _<_, _≤_}
+use mathlib.Core.Path.{_≡_}
+use mathlib.Core.Bool.{true, false}
+use mathlib.Core.List.{List, []}
+use lib.ListN.{length, getD, set, drop, replicate}
+use Rattle.trees.specs.Label.{Label, labelLess}
+use Rattle.trees.specs.Tree.{Tree}
+use Rattle.trees.specs.Postorder.{postorder, leafLabels}
+use Rattle.agreement.specs.Closer.{holds}
+use Rattle.agreement.specs.Sets.{sorted, keep}
+use Rattle.mast.specs.Engine.{Numbered}
+
+-- p is the place before the first label of C that is greater than x, or the end
+pub record Place (x : Label) (C : List Label) (p : ℕ) : Type 0 where
+  pub low : p ≤ length C
+  pub before : (r : ℕ) → r < p → labelLess x (getD C r []) ≡ false
+  pub at : p < length C → labelLess x (getD C p []) ≡ true
+
+-- the first m entries with u put in at place p
+pub record Opened (p m u : ℕ) (old new : List ℕ) : Type 0 where
+  pub size : length new ≡ length old
+  pub before : (r : ℕ) → r < p → getD new r 0 ≡ getD old r 0
+  pub at : getD new p 0 ≡ u
+  pub after : (r : ℕ) → p ≤ r → r < m → getD new (suc r) 0 ≡ getD old r 0
+
+-- the common labels among the nodes of s from u on, in label order
+unfoldable pub commonFrom : Tree → Tree → ℕ → List Label
+commonFrom s t u = sorted (keep (holds t) (leafLabels (drop u (postorder s))))
+
+-- the arrays have these labels by their leaves in both trees
+pub record Collected (s t : Tree) (u : ℕ) (order1 order2 : List ℕ) (m : ℕ) : Type 0 where
+  pub size1 : length order1 ≡ 80
+  pub size2 : length order2 ≡ 80
+  pub count : m ≡ length (commonFrom s t u)
+  pub first : Numbered s (commonFrom s t u) order1
+  pub second : Numbered t (commonFrom s t u) order2
+
+-- the ranks after r entries of the order
+unfoldable pub ranksOf : List ℕ → ℕ → List ℕ
+ranksOf order zero = replicate 159 80
+ranksOf order (suc r) = set (ranksOf order r) (getD order r 0) r

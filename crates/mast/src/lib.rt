@@ -1,0 +1,88 @@
+// The engine: the largest agreement set of two trees that holds a required list, the first in label order among equals.
+//
+// No public function has a `requires`.
+use lists::LabelPlaces;
+use lists::ListAnswer;
+use newick::TreeAnswer;
+use trees::Body;
+use trees::Refusal;
+ghost use mathlib.Core.Path.{_≡_};
+ghost use mathlib.Core.List.{[]};
+ghost use lib.ListN.{length};
+ghost use Rattle.lists.specs.ReadList.{placesOf};
+ghost use Rattle.mast.specs.Largest.{solve, largestOf, outputOf};
+ghost use Rattle.mast.specs.Finish.{resultFrom};
+ghost use Rattle.mast.specs.Bodies.{unreadTree, unreadList};
+
+mod bodies;
+mod finish;
+mod greedy;
+mod marks;
+mod ranks;
+mod required;
+mod table;
+
+// The size of the set and the length of its tree's text; the places in the list of three required labels that have different
+// closer pairs (number 8); or why the job was turned down.
+pub enum LargestAnswer {
+    Found(usize, usize),
+    Disagree(usize, usize, usize),
+    Refused(Refusal),
+}
+
+// The answer with the set beside it: where its labels stand in the first tree's text, in label order. A refusal has no label.
+pub struct LargestResult {
+    pub answer: LargestAnswer,
+    pub set: LabelPlaces,
+}
+
+// The answer to a tree text that was turned down; one that was read does not come here.
+fn unread_tree(answer: TreeAnswer) -> LargestResult
+    ensures { λ r. ⌜ r ≡ resultFrom (unreadTree answer) (placesOf []) ⌝ }
+{
+    match answer {
+        TreeAnswer::Leaves(n) => finish::without_set(LargestAnswer::Found(n, 0)),
+        TreeAnswer::Refused(refusal) => finish::without_set(LargestAnswer::Refused(refusal)),
+    }
+}
+
+// The answer to a list that was turned down; one that was read does not come here.
+fn unread_list(answer: ListAnswer) -> LargestResult
+    ensures { λ r. ⌜ r ≡ resultFrom (unreadList answer) (placesOf []) ⌝ }
+{
+    match answer {
+        ListAnswer::Labels(n) => finish::without_set(LargestAnswer::Found(n, 0)),
+        ListAnswer::Refused(refusal) => finish::without_set(LargestAnswer::Refused(refusal)),
+    }
+}
+
+// The largest set of common leaves that holds the required ones and on which the trees agree, the first in label order among
+// equals: its size and places, and the normal text of its restriction in `out`. Refusals are told in the order S, T, K, 6 or 7,
+// 8, 9, and `out` then keeps every byte.
+pub fn largest(first: &[u8], second: &[u8], required: &[u8], out: &mut [u8]) -> LargestResult
+    ensures answer { λ r.
+        ⌜ r ≡ largestOf (solve (now (first .entry)) (now (second .entry)) (now (required .entry)) (length (now (out .entry)))) ⌝ }
+    ensures output { λ _. ⌜ now (out .exit)
+        ≡ outputOf (solve (now (first .entry)) (now (second .entry)) (now (required .entry)) (length (now (out .entry))))
+        (now (out .entry)) ⌝ }
+{
+    let one = newick::read_tree(first, Body::S);
+    let answer1 = one.answer;
+    let TreeAnswer::Leaves(_) = answer1 else {
+        return unread_tree(answer1);
+    };
+    let two = newick::read_tree(second, Body::T);
+    let answer2 = two.answer;
+    let TreeAnswer::Leaves(_) = answer2 else {
+        return unread_tree(answer2);
+    };
+    let list = lists::read_list(required, Body::K);
+    let answer3 = list.answer;
+    let ListAnswer::Labels(_) = answer3 else {
+        return unread_list(answer3);
+    };
+    let tree1 = one.tree;
+    let tree2 = two.tree;
+    let places = list.places;
+    bodies::answer_bodies(first, tree1, second, tree2, required, places, out)
+}

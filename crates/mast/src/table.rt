@@ -1,0 +1,200 @@
+// The table over pairs of nodes: cell (u, v), at u * 159 + v, has the greatest weight of a set on which the subtrees of
+// node u of the first tree and node v of the second agree (source paper 001, Lemma 3.1).
+//
+// Nodes are numbered children first, and a leaf is its own left child. A leaf has the rank of its label among the common
+// labels, or 80. Names that end in 1 are of the first tree, in 2 of the second. Arrays are lent: by value they would cost more
+// than the work.
+ghost use mathlib.Core.Path.{_≡_};
+ghost use mathlib.Core.Bool.{Bool};
+ghost use mathlib.Core.List.{List};
+ghost use Prim.Native.Nat.{ℕ, _+_, _*_, _<_, _≤_, max};
+ghost use lib.ListN.{getD};
+ghost use Rattle.trees.specs.Label.{Label};
+ghost use Rattle.trees.specs.Tree.{Tree};
+ghost use Rattle.mast.specs.Table.{capped, cell, leafValue, innerValue, pairValue};
+ghost use Rattle.mast.specs.Table.{Shape, side, Setting, Done, RightWhereUnmarked, AllRight};
+ghost use Rattle.mast.specs.Marks.{Links};
+use crate::marks::link;
+
+fn larger(a: u16, b: u16) -> u16
+    ensures { λ r. ⌜ r ≡ max a b ⌝ }
+{
+    if a < b { b } else { a }
+}
+
+// The sum, or 65535 where it would pass that.
+fn add_capped(a: u16, b: u16) -> u16
+    ensures { λ r. ⌜ r ≡ capped a b ⌝ }
+{
+    if 65535 - a < b { 65535 } else { a + b }
+}
+
+fn cell_at(cells: &[u16; 25281], u: usize, v: usize) -> u16
+    requires { ⌜ u < 159 ⌝ }
+    requires { ⌜ v < 159 ⌝ }
+    ensures { λ r. ⌜ r ≡ cell (now (cells .entry)) u v ⌝ }
+{
+    let i = u * 159 + v;
+    cells[i]
+}
+
+// The larger of cells (u, v) and (p, q).
+fn larger_cell(cells: &[u16; 25281], u: usize, v: usize, p: usize, q: usize) -> u16
+    requires { ⌜ (u < 159) × (v < 159) × (p < 159) × (q < 159) ⌝ }
+    ensures { λ r. ⌜ r ≡ max (cell (now (cells .entry)) u v) (cell (now (cells .entry)) p q) ⌝ }
+{
+    larger(cell_at(cells, u, v), cell_at(cells, p, q))
+}
+
+// The sum of cells (u, v) and (p, q), capped.
+fn cell_sum(cells: &[u16; 25281], u: usize, v: usize, p: usize, q: usize) -> u16
+    requires { ⌜ (u < 159) × (v < 159) × (p < 159) × (q < 159) ⌝ }
+    ensures { λ r. ⌜ r ≡ capped (cell (now (cells .entry)) u v) (cell (now (cells .entry)) p q) ⌝ }
+{
+    add_capped(cell_at(cells, u, v), cell_at(cells, p, q))
+}
+
+// Two leaves: the weight of their label, or 0 where the labels differ.
+fn leaf_value(weight: &[u16; 81], rank: usize, other: usize) -> u16
+    requires { ⌜ rank ≤ 80 ⌝ }
+    ensures { λ r. ⌜ r ≡ leafValue (now (weight .entry)) rank other ⌝ }
+{
+    if rank == other { weight[rank] } else { 0 }
+}
+
+// Two inner nodes, u with children a and b, v with children c and d: below one child of either, or the children paired.
+fn inner_value(
+    cells: &[u16; 25281],
+    u: usize,
+    v: usize,
+    a: usize,
+    b: usize,
+    c: usize,
+    d: usize,
+) -> u16
+    requires { ⌜ (u < 159) × (v < 159) × (a ≤ u) × (b ≤ u) × (c ≤ v) × (d ≤ v) ⌝ }
+    ensures { λ r. ⌜ r ≡ innerValue (now (cells .entry)) u v a b c d ⌝ }
+{
+    let first = larger_cell(cells, a, v, b, v);
+    let second = larger_cell(cells, u, c, u, d);
+    let paired = larger(cell_sum(cells, a, c, b, d), cell_sum(cells, a, d, b, c));
+    // in this order the compiled code has no branch that is hard to foresee
+    larger(larger(first, second), paired)
+}
+
+// Cell (u, v) from the cells before it. Node u of the first tree has children a and b and, as a leaf, this rank.
+fn pair_value(
+    a: usize,
+    b: usize,
+    rank: usize,
+    left2: &[usize; 159],
+    right2: &[usize; 159],
+    rank2: &[usize; 159],
+    weight: &[u16; 81],
+    cells: &[u16; 25281],
+    u: usize,
+    v: usize,
+) -> u16
+    requires { ⌜ (u < 159) × (a ≤ u) × (b ≤ u) × (rank ≤ 80) ⌝ }
+    requires { ⌜ (v < 159) × (getD (now left2) v 0 ≤ v) × (getD (now right2) v 0 ≤ v) ⌝ }
+    ensures { λ r. ⌜ r ≡ pairValue a b rank (now (left2 .entry)) (now (right2 .entry)) (now (rank2 .entry))
+        (now (weight .entry)) (now (cells .entry)) u v ⌝ }
+{
+    let c = left2[v];
+    let d = right2[v];
+    if a == u {
+        if c == v {
+            leaf_value(weight, rank, rank2[v])
+        } else {
+            larger_cell(cells, u, c, u, d)
+        }
+    } else {
+        if c == v {
+            larger_cell(cells, a, v, b, v)
+        } else {
+            inner_value(cells, u, v, a, b, c, d)
+        }
+    }
+}
+
+// The marked cells of row u: `next2` has the first marked column from each on.
+fn fill_row(
+    left1: &[usize; 159],
+    right1: &[usize; 159],
+    rank1: &[usize; 159],
+    left2: &[usize; 159],
+    right2: &[usize; 159],
+    rank2: &[usize; 159],
+    nodes2: usize,
+    weight: &[u16; 81],
+    next2: &[usize; 160],
+    cells: &mut [u16; 25281],
+    u: usize,
+)
+    requires { ⌜ (u < 159) × (getD (now left1) u 0 ≤ u) × (getD (now right1) u 0 ≤ u) × (getD (now rank1) u 0 ≤ 80) ⌝ }
+    requires { ⌜ Shape (side (now left2) (now right2) (now rank2) nodes2) ⌝ }
+    requires { ⌜ ((v : ℕ) → v ≤ nodes2 → v ≤ getD (now next2) v 0) ⌝ }
+    ensures { λ _. ⌜ ((nodes1 : ℕ) (ss ts : List Tree) (w : Label → ℕ) (mark1 mark2 : List Bool) → u < nodes1
+        → Setting (side (now (left1 .entry)) (now (right1 .entry)) (now (rank1 .entry)) nodes1)
+        (side (now (left2 .entry)) (now (right2 .entry)) (now (rank2 .entry)) nodes2) (now (weight .entry)) ss ts w
+        → Links 0 nodes2 mark2 (now (next2 .entry))
+        → Done nodes1 nodes2 ss ts w mark1 mark2 (u * 159) (now (cells .entry))
+        → Done nodes1 nodes2 ss ts w mark1 mark2 ((u + 1) * 159) (now (cells .exit))) ⌝ }
+{
+    let a = left1[u];
+    let b = right1[u];
+    let rank = rank1[u];
+    let row = u * 159;
+    let mut v = next2[0];
+    while v < nodes2 {
+        let x = pair_value(a, b, rank, left2, right2, rank2, weight, cells, u, v);
+        cells[row + v] = x;
+        v = next2[v + 1];
+    }
+}
+
+// Computes the cells (u, v) with u and v marked again, children before parents: if every other cell is right, then all are.
+pub(crate) fn fill(
+    left1: &[usize; 159],
+    right1: &[usize; 159],
+    rank1: &[usize; 159],
+    nodes1: usize,
+    left2: &[usize; 159],
+    right2: &[usize; 159],
+    rank2: &[usize; 159],
+    nodes2: usize,
+    weight: &[u16; 81],
+    mark1: &[bool; 159],
+    mark2: &[bool; 159],
+    cells: &mut [u16; 25281],
+)
+    requires { ⌜ Shape (side (now left1) (now right1) (now rank1) nodes1) ⌝ }
+    requires { ⌜ Shape (side (now left2) (now right2) (now rank2) nodes2) ⌝ }
+    ensures { λ _. ⌜ ((ss ts : List Tree) (w : Label → ℕ)
+        → Setting (side (now (left1 .entry)) (now (right1 .entry)) (now (rank1 .entry)) nodes1)
+        (side (now (left2 .entry)) (now (right2 .entry)) (now (rank2 .entry)) nodes2) (now (weight .entry)) ss ts w
+        → RightWhereUnmarked nodes1 nodes2 ss ts w (now (mark1 .entry)) (now (mark2 .entry)) (now (cells .entry))
+        → AllRight nodes1 nodes2 ss ts w (now (cells .exit))) ⌝ }
+{
+    let mut next1 = [0usize; 160];
+    let mut next2 = [0usize; 160];
+    link(mark1, nodes1, &mut next1);
+    link(mark2, nodes2, &mut next2);
+    let mut u = next1[0];
+    while u < nodes1 {
+        fill_row(
+            left1,
+            right1,
+            rank1,
+            left2,
+            right2,
+            rank2,
+            nodes2,
+            weight,
+            &next2,
+            cells,
+            u,
+        );
+        u = next1[u + 1];
+    }
+}

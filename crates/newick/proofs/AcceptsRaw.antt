@@ -1,0 +1,178 @@
+-- Reading without limits and without the test for repeats: it stops exactly at the first byte after which the text can no longer be
+-- continued to one of the grammar. Assumes nothing.
+use Prim.Native.Nat.{ℕ, _≤_}
+use mathlib.Core.Path.{_≡_, refl, sym, _∙_, ap, subst}
+use mathlib.Core.Bool.{true, false}
+use mathlib.Core.List.{List, [], _∷_, _++_, append-assoc}
+use native.Mathlib.Omega.{arith}
+use lib.ListN.{length}
+use Rattle.trees.specs.declared.Kind.{Kind}
+use Rattle.trees.specs.declared.Kind.the-variants.{Label as LabelByte, Open, Close, Comma, Semicolon, Other}
+use Rattle.trees.specs.Bytes.{isLabelByte, kindOf, openByte, closeByte, commaByte, semicolonByte}
+use Rattle.trees.specs.Label.{Label, looseLabels, allLabelBytes}
+use Rattle.trees.specs.Tree.{Tree, leaf, node, leaves}
+use Rattle.trees.specs.Text.{written, textOf}
+use Rattle.trees.specs.Faults.{Continues}
+use Rattle.newick.specs.ReadTree.{Opened, first, second, Phase, nodeDue, inLabel, afterNode, ended}
+use Rattle.newick.specs.Grammar.{TreeText}
+use Rattle.trees.proofs.Bools.{clash}
+use Rattle.trees.proofs.RawRuns.{Raw, on, halt, rawRun, raw-nil, raw-cons, raw-same, raw-label, stopped, on-same}
+use Rattle.trees.proofs.ReadingLaws.{KindView, is-label, is-open, is-close, is-comma, is-semicolon, is-other, kind-view}
+use Rattle.trees.proofs.ReadingLaws.{kind-label, close-plain, comma-plain, semicolon-plain, loose-head, loose-cons, loose-none}
+use Rattle.trees.proofs.ReadingLaws.{loose-append, loose-split}
+
+-- a place in the text: the phase and the open `(`
+abbrev pub Spot : Type 0
+Spot = Phase × List Opened
+
+-- a byte just after a whole node
+unfoldable pub rawAfter : Tree → List Opened → Kind → Raw Spot
+rawAfter t stack LabelByte = halt
+rawAfter t stack Open = halt
+rawAfter t [] Close = halt
+rawAfter t (first ∷ stack) Close = halt
+rawAfter t (second a ∷ stack) Close = on (afterNode (node a t), stack)
+rawAfter t [] Comma = halt
+rawAfter t (first ∷ stack) Comma = on (nodeDue, second t ∷ stack)
+rawAfter t (second a ∷ stack) Comma = halt
+rawAfter t [] Semicolon = on (ended t, [])
+rawAfter t (o ∷ stack) Semicolon = halt
+rawAfter t stack Other = halt
+
+unfoldable pub rawStep : Phase → List Opened → ℕ → Kind → Raw Spot
+unfolding rawAfter
+rawStep nodeDue stack b LabelByte = on (inLabel (b ∷ []), stack)
+rawStep nodeDue stack b Open = on (nodeDue, first ∷ stack)
+rawStep nodeDue stack b Close = halt
+rawStep nodeDue stack b Comma = halt
+rawStep nodeDue stack b Semicolon = halt
+rawStep nodeDue stack b Other = halt
+rawStep (inLabel x) stack b LabelByte = on (inLabel (x ++ (b ∷ [])), stack)
+rawStep (inLabel x) stack b Open = halt
+rawStep (inLabel x) stack b Close = rawAfter (leaf x) stack Close
+rawStep (inLabel x) stack b Comma = rawAfter (leaf x) stack Comma
+rawStep (inLabel x) stack b Semicolon = rawAfter (leaf x) stack Semicolon
+rawStep (inLabel x) stack b Other = halt
+rawStep (afterNode t) stack b k = rawAfter t stack k
+rawStep (ended t) stack b k = halt
+
+abbrev pub rawByte : Spot → ℕ → Raw Spot
+rawByte s b = rawStep (s .0) (s .1) b (kindOf b)
+
+abbrev pub run : Phase → List Opened → List ℕ → Raw Spot
+run p stack text = rawRun rawByte (p, stack) text
+
+-- the same, from the start of the text
+abbrev pub rawText : List ℕ → Raw Spot
+rawText text = run nodeDue [] text
+
+-- a label's text, from where a node is due, ends with a byte that is no label byte
+raw-leaf : (stack : List Opened) (x : Label) (c : ℕ) (rest : List ℕ) → 1 ≤ length x → allLabelBytes x ≡ true → isLabelByte c ≡ false
+    → run nodeDue stack (x ++ (c ∷ rest)) ≡ run (afterNode (leaf x)) stack (c ∷ rest)
+unfolding rawStep
+raw-leaf stack x c rest l h n =
+    raw-label rawByte (λ y. (inLabel y, stack)) (λ y b k. ap (rawStep (inLabel y) stack b) (kind-label b k)) (nodeDue, stack)
+    (λ b k. ap (rawStep nodeDue stack b) (kind-label b k)) x (c ∷ rest) l h
+    ∙ raw-same rawByte (inLabel x, stack) (afterNode (leaf x), stack) c rest (same (kindOf c) (kind-view c))
+  where
+    same : (k : Kind) → KindView c k → rawStep (inLabel x) stack c k ≡ rawStep (afterNode (leaf x)) stack c k
+    same LabelByte (is-label l) = clash l n
+    same Open (is-open e l) = refl
+    same Close (is-close e l) = refl
+    same Comma (is-comma e l) = refl
+    same Semicolon (is-semicolon e l) = refl
+    same Other (is-other l) = refl
+
+-- the text of a node with two children, followed by q
+pub written-node : (a b : Tree) (q : List ℕ) → written (node a b) ++ q ≡ openByte ∷ (written a ++ (commaByte ∷ (written b ++ (closeByte ∷ q))))
+unfolding written
+written-node a b q = simp append-assoc
+
+pub written-leaf : (x : Label) → written (leaf x) ≡ x
+unfolding written
+written-leaf x = refl
+
+-- a node's text is read as that node
+raw-node : (t : Tree) (stack : List Opened) (c : ℕ) (rest : List ℕ) → looseLabels (leaves t) ≡ true → isLabelByte c ≡ false
+    → run nodeDue stack (written t ++ (c ∷ rest)) ≡ run (afterNode t) stack (c ∷ rest)
+unfolding leaves rawStep kindOf
+raw-node (leaf x) stack c rest h n =
+    ap (λ (w : List ℕ). run nodeDue stack (w ++ (c ∷ rest))) (written-leaf x)
+    ∙ raw-leaf stack x c rest (loose-head x [] h .0) (loose-head x [] h .1) n
+raw-node (node a b) stack c rest h n =
+    ap (run nodeDue stack) (written-node a b (c ∷ rest))
+    ∙ raw-cons rawByte (nodeDue, stack) (nodeDue, first ∷ stack) openByte (written a ++ (commaByte ∷ (written b ++ (closeByte ∷ (c ∷ rest))))) refl
+    ∙ raw-node a (first ∷ stack) commaByte (written b ++ (closeByte ∷ (c ∷ rest))) (loose-split (leaves a) (leaves b) h .0) comma-plain
+    ∙ raw-cons rawByte (afterNode a, first ∷ stack) (nodeDue, second a ∷ stack) commaByte (written b ++ (closeByte ∷ (c ∷ rest))) refl
+    ∙ raw-node b (second a ∷ stack) closeByte (c ∷ rest) (loose-split (leaves a) (leaves b) h .1) close-plain
+    ∙ raw-cons rawByte (afterNode b, second a ∷ stack) (afterNode (node a b), stack) closeByte (c ∷ rest) refl
+
+-- a text of the grammar is read to its end
+pub raw-text : (t : Tree) → looseLabels (leaves t) ≡ true → rawText (textOf t) ≡ on (ended t, [])
+unfolding textOf rawStep kindOf
+raw-text t h =
+    raw-node t [] semicolonByte [] h semicolon-plain ∙ raw-cons rawByte (afterNode t, []) (ended t, []) semicolonByte [] refl
+    ∙ raw-nil rawByte (ended t, [])
+
+-- so trees with the same text are the same
+pub text-unique : (s t : Tree) → looseLabels (leaves s) ≡ true → looseLabels (leaves t) ≡ true → textOf s ≡ textOf t → s ≡ t
+text-unique s t h k e = go (ap (λ (z : Spot). z .0) (on-same (sym (raw-text s h) ∙ ap rawText e ∙ raw-text t k)))
+  where
+    go : ended s ≡ ended t → s ≡ t
+    go p = cc
+
+-- and where the reading stopped, no text of the grammar goes on
+pub tree-stopped : (p : List ℕ) → rawText p ≡ halt → Continues TreeText p → ⊥
+tree-stopped = stopped rawByte TreeText (nodeDue, []) (λ p w. ((ended (w .0), []), ap rawText (w .2) ∙ raw-text (w .0) (w .1)))
+
+-- the bytes and the complete labels of the open nodes
+abbrev pub stackText : List Opened → List ℕ
+stackText [] = []
+stackText (first ∷ stack) = stackText stack ++ (openByte ∷ [])
+stackText (second a ∷ stack) = stackText stack ++ (openByte ∷ (written a ++ (commaByte ∷ [])))
+
+abbrev pub stackLabels : List Opened → List Label
+stackLabels [] = []
+stackLabels (first ∷ stack) = stackLabels stack
+stackLabels (second a ∷ stack) = stackLabels stack ++ leaves a
+
+-- one way to close the open nodes after the node t, and the bytes that do it: 97 is the label `a`
+closed : Tree → List Opened → Tree
+closed t [] = t
+closed t (first ∷ stack) = closed (node t (leaf (97 ∷ []))) stack
+closed t (second a ∷ stack) = closed (node a t) stack
+
+closing : List Opened → List ℕ
+closing [] = semicolonByte ∷ []
+closing (first ∷ stack) = commaByte ∷ (97 ∷ (closeByte ∷ closing stack))
+closing (second a ∷ stack) = closeByte ∷ closing stack
+
+closed-text : (stack : List Opened) (t : Tree) → (stackText stack ++ written t) ++ closing stack ≡ textOf (closed t stack)
+unfolding closed closing textOf written
+closed-text [] t = refl
+closed-text (first ∷ stack) t = simp append-assoc (simp append-assoc at (closed-text stack (node t (leaf (97 ∷ [])))))
+closed-text (second a ∷ stack) t = simp append-assoc (simp append-assoc at (closed-text stack (node a t)))
+
+closed-loose : (stack : List Opened) (t : Tree) → looseLabels (stackLabels stack) ≡ true → looseLabels (leaves t) ≡ true
+    → looseLabels (leaves (closed t stack)) ≡ true
+unfolding closed leaves looseLabels allLabelBytes isLabelByte
+closed-loose [] t h k = k
+closed-loose (first ∷ stack) t h k =
+    closed-loose stack (node t (leaf (97 ∷ []))) h (loose-append (leaves t) ((97 ∷ []) ∷ []) k refl)
+closed-loose (second a ∷ stack) t h k =
+    let g = loose-split (stackLabels stack) (leaves a) h in closed-loose stack (node a t) (g .0) (loose-append (leaves a) (leaves t) (g .1) k)
+
+-- what was read can be continued, after a node, inside a label, and where a node is due
+pub after-continues : (stack : List Opened) (t : Tree) → looseLabels (stackLabels stack) ≡ true → looseLabels (leaves t) ≡ true
+    → Continues TreeText (stackText stack ++ written t)
+after-continues stack t h k = (closing stack, (closed t stack, closed-loose stack t h k, closed-text stack t))
+
+pub label-continues : (stack : List Opened) (x : Label) → looseLabels (stackLabels stack) ≡ true → 1 ≤ length x → allLabelBytes x ≡ true
+    → Continues TreeText (stackText stack ++ x)
+unfolding written leaves
+label-continues stack x h l k = after-continues stack (leaf x) h (loose-cons x [] l k loose-none)
+
+pub due-continues : (stack : List Opened) → looseLabels (stackLabels stack) ≡ true → Continues TreeText (stackText stack)
+unfolding allLabelBytes isLabelByte
+due-continues stack h =
+    let c = label-continues stack (97 ∷ []) h (omega arith) refl in ((97 ∷ []) ++ c .0, subst TreeText (append-assoc (stackText stack) (97 ∷ []) (c .0)) (c .1))

@@ -1,0 +1,222 @@
+-- What it is for the reading machine to follow the reading of a tree text, and that it still does after each kind of step
+-- that goes on. Assumes nothing.
+use Prim.Native.Nat.{ℕ, _+_, _-_, _≤_, _<_}
+use mathlib.Core.Path.{_≡_, refl, ap, sym, _∙_}
+use mathlib.Core.Bool.{true}
+use mathlib.Core.List.{List, [], _∷_, _++_, append-assoc}
+use native.Mathlib.Omega.{arith}
+use lib.ListN.{length, getD, set, length-append, length-set}
+use lib.Seq.{getD-set-same, getD-set-other}
+use Rattle.trees.specs.Bytes.{isLabelByte, openByte, closeByte, commaByte, semicolonByte}
+use Rattle.trees.specs.Label.{Label, labelLimit, allLabelBytes}
+use Rattle.trees.specs.Tree.{Tree, leaf, node, leaves}
+use Rattle.trees.specs.Text.{written, textOf}
+use Rattle.trees.specs.Arrays.{nodesOf, nodeLimit}
+use Rattle.trees.proofs.Bools.{and-left, and-right, and-intro}
+use Rattle.newick.specs.declared.Mode.{Mode}
+use Rattle.newick.specs.declared.Mode.the-variants.{Due, Inside, After, Done}
+use Rattle.newick.specs.declared.Scan.{Scan}
+use Rattle.newick.specs.ReadTree.{Opened, first, second, Phase, nodeDue, inLabel, afterNode, ended}
+use Rattle.newick.specs.Machine.{openLimit, Arrays, arrays, scan, leafScan, leafArrays}
+use Rattle.newick.proofs.OpenNodes.{inner, nodes-inner, textIn, nodesIn, leavesIn, opensIn, second-place, nodes-bound}
+use Rattle.newick.proofs.OpenNodes.{depth-bound, heading, opensHere, nodesHere, labelsBy, written-node, nodes-some}
+use Rattle.newick.proofs.Columns.{Column, columnIn, filled, Columns, refilled, comma-filled, same-length, leaf-columns}
+use Rattle.newick.proofs.Columns.{node-columns}
+use Rattle.newick.proofs.Entries.{pair-stored}
+
+-- the code's counts, where the phase adds h `(` and k nodes
+pub record Counts (s : List Opened) (h k : ℕ) (d o n : ℕ) : Type 0 where
+  pub depth : d ≡ length s
+  pub opens : o ≡ opensIn s + h
+  pub few : o ≤ openLimit
+  pub nodes : n ≡ nodesIn s + k
+
+-- the code's stack: 0 for a `(` that lacks its first child, else one more than that child's number
+abbrev pub StackHolds : List Opened → List ℕ → Type 0
+StackHolds [] k = Unit {0}
+StackHolds (first ∷ s) k = (getD k (length s) 0 ≡ 0) × StackHolds s k
+StackHolds (second t ∷ s) k = (getD k (length s) 0 ≡ nodesIn s + nodesOf t) × StackHolds s k
+
+pub record Stacked (s : List Opened) (k : List ℕ) : Type 0 where
+  pub wide : length k ≡ openLimit
+  pub holds : StackHolds s k
+
+stack-kept : (s : List Opened) (k : List ℕ) (i v : ℕ) → length s ≤ i → StackHolds s k → StackHolds s (set k i v)
+stack-kept [] k i v h f = f
+stack-kept (first ∷ s) k i v h f =
+    (getD-set-other k i (length s) v 0 (omega arith) ∙ f .0, stack-kept s k i v (omega arith) (f .1))
+stack-kept (second t ∷ s) k i v h f =
+    (getD-set-other k i (length s) v 0 (omega arith) ∙ f .0, stack-kept s k i v (omega arith) (f .1))
+
+-- the code's mode
+abbrev pub ModeIs : Phase → List Opened → Mode → Type 0
+ModeIs nodeDue s m = m ≡ Due
+ModeIs (inLabel x) s m =
+    (m ≡ Inside (length (textIn s)) (length x)) × (allLabelBytes x ≡ true) × (1 ≤ length x) × (length x ≤ labelLimit)
+ModeIs (afterNode t) s m = m ≡ After (nodesIn s + nodesOf t - 1)
+ModeIs (ended t) s m = (m ≡ Done) × (s ≡ [])
+
+-- the machine at place i, with `rest` to come, stands where the reading does
+pub record Follows (text : List ℕ) (ph : Phase) (s : List Opened) (seen : List Label) (st : Scan) (a : Arrays) (i : ℕ) (rest : List ℕ)
+    : Type 0 where
+  pub parted : text ≡ textIn s ++ (heading ph ++ rest)
+  pub place : i ≡ length (textIn s) + length (heading ph)
+  pub counts : Counts s (opensHere ph) (nodesHere ph) (st .depth) (st .opens) (st .nodes)
+  pub labels : seen ≡ labelsBy s ph
+  pub columns : Columns s ph (a .left) (a .right) (a .start) (a .size)
+  pub stack : Stacked s (a .stack)
+  pub within : (v : ℕ) → getD (a .start) v 0 + getD (a .size) v 0 ≤ i
+  pub mode : ModeIs ph s (st .mode)
+
+bytes-snoc : (x : List ℕ) (b : ℕ) → allLabelBytes x ≡ true → isLabelByte b ≡ true → allLabelBytes (x ++ (b ∷ [])) ≡ true
+unfolding allLabelBytes
+bytes-snoc [] b h k = rw k
+bytes-snoc (c ∷ x) b h k =
+    and-intro (isLabelByte c) (allLabelBytes (x ++ (b ∷ []))) (and-left (isLabelByte c) (allLabelBytes x) h)
+    (bytes-snoc x b (and-right (isLabelByte c) (allLabelBytes x) h) k)
+
+module _ {text : List ℕ} {s : List Opened} {seen : List Label} {st : Scan} {a : Arrays} {i : ℕ} {rest : List ℕ} where
+  -- a label begins
+  pub begin-follows : {b : ℕ} → isLabelByte b ≡ true → Follows text nodeDue s seen st a i (b ∷ rest)
+      → Follows text (inLabel (b ∷ [])) s seen (scan (Inside i 1) (st .depth) (st .opens) (st .nodes)) a (i + 1) rest
+  unfolding filled allLabelBytes
+  begin-follows h F =
+      record {
+        parted = F .parted;
+        place = omega (arith, F .place);
+        counts = F .counts;
+        labels = F .labels;
+        columns = refilled (λ (f : Column). refl) (F .columns);
+        stack = F .stack;
+        within = λ (v : ℕ). omega (arith, F .within v);
+        mode = (ap (λ (p : ℕ). Inside p 1) (omega (arith, F .place)), rw h refl, omega arith, omega arith);
+      }
+
+  -- a label goes on
+  pub more-follows : {x : Label} {b : ℕ} → isLabelByte b ≡ true → length x < labelLimit → Follows text (inLabel x) s seen st a i (b ∷ rest)
+      → Follows text (inLabel (x ++ (b ∷ []))) s seen
+      (scan (Inside (length (textIn s)) (length x + 1)) (st .depth) (st .opens) (st .nodes)) a (i + 1) rest
+  unfolding filled
+  more-follows {x = x} {b = b} h l F =
+      let more : length (x ++ (b ∷ [])) ≡ length x + 1 = length-append x (b ∷ []) in
+      record {
+        parted = F .parted ∙ ap (λ (r : List ℕ). textIn s ++ r) (sym (append-assoc x (b ∷ []) rest));
+        place = omega (arith, F .place, more);
+        counts = F .counts;
+        labels = F .labels;
+        columns = refilled (λ (f : Column). refl) (F .columns);
+        stack = F .stack;
+        within = λ (v : ℕ). omega (arith, F .within v);
+        mode = (ap (Inside (length (textIn s))) (sym more), bytes-snoc x b (F .mode .1) h, omega (arith, more), omega (arith, more, l));
+      }
+
+  -- a label that ends is a leaf
+  pub leaf-follows : {x : Label} → Follows text (inLabel x) s seen st a i rest
+      → Follows text (afterNode (leaf x)) s (seen ++ (x ∷ [])) (leafScan st) (leafArrays st a (length (textIn s)) (length x)) i rest
+  unfolding written nodesOf leaves inner
+  leaf-follows {x = x} F =
+      let C = F .counts in
+      let e : st .nodes ≡ nodesIn s = omega (arith, C .nodes) in
+      let room : st .nodes < nodeLimit = omega (arith, C .nodes, C .opens, C .few, nodes-bound s) in
+      record {
+        parted = F .parted;
+        place = F .place;
+        counts = record { depth = C .depth; opens = C .opens; few = C .few; nodes = omega (arith, C .nodes) };
+        labels = ap (λ (l : List Label). l ++ (x ∷ [])) (F .labels);
+        columns = leaf-columns (st .nodes) (F .columns) e room;
+        stack = F .stack;
+        within =
+            pair-stored (a .start) (a .size) (st .nodes) (length (textIn s)) (length x) i (same-length (F .columns) (omega (arith, e, room)))
+            (omega (arith, F .place)) (F .within);
+        mode = ap After (omega (arith, e));
+      }
+
+  -- `(` begins a node
+  pub open-follows : {b : ℕ} → b ≡ openByte → st .opens < openLimit → Follows text nodeDue s seen st a i (b ∷ rest)
+      → Follows text nodeDue (first ∷ s) seen (scan Due (st .depth + 1) (st .opens + 1) (st .nodes))
+      (arrays (set (a .stack) (st .depth) 0) (a .left) (a .right) (a .start) (a .size)) (i + 1) rest
+  unfolding filled textIn nodesIn leavesIn opensIn columnIn
+  open-follows eb l F =
+      let C = F .counts in
+      let inside : length s < length (a .stack) = omega (arith, F .stack .wide, l, C .opens, depth-bound s) in
+      record {
+        parted = F .parted ∙ rw eb (simp append-assoc);
+        place = omega (arith, F .place, length-append (textIn s) (openByte ∷ []));
+        counts = record { depth = omega (arith, C .depth); opens = omega (arith, C .opens); few = omega (arith, l); nodes = C .nodes };
+        labels = F .labels;
+        columns = refilled (λ (f : Column). refl) (F .columns);
+        stack = record {
+          wide = length-set (a .stack) (st .depth) 0 ∙ F .stack .wide;
+          holds = (
+            rw (C .depth) (getD-set-same (a .stack) (length s) 0 0 inside),
+            stack-kept s (a .stack) (st .depth) 0 (omega (arith, C .depth)) (F .stack .holds),
+          );
+        };
+        within = λ (v : ℕ). omega (arith, F .within v);
+        mode = refl;
+      }
+
+  -- `,` after the first child
+  pub comma-follows : {t : Tree} {b : ℕ} → b ≡ commaByte → Follows text (afterNode t) (first ∷ s) seen st a i (b ∷ rest)
+      → Follows text nodeDue (second t ∷ s) seen (scan Due (st .depth) (st .opens) (st .nodes))
+      (arrays (set (a .stack) (st .depth - 1) (nodesIn s + nodesOf t - 1 + 1)) (a .left) (a .right) (a .start) (a .size)) (i + 1) rest
+  unfolding textIn nodesIn leavesIn opensIn
+  comma-follows {t = t} eb F =
+      let C = F .counts in
+      let d : st .depth - 1 ≡ length s = omega (arith, C .depth) in
+      let m : nodesIn s + nodesOf t - 1 + 1 ≡ nodesIn s + nodesOf t = omega (arith, nodes-some t) in
+      let inside : length s < length (a .stack) = omega (arith, F .stack .wide, C .few, C .opens, depth-bound s) in
+      record {
+        parted = F .parted ∙ rw eb (simp append-assoc);
+        place = omega (arith, F .place, second-place t s, length-append (textIn s) (openByte ∷ []));
+        counts = record { depth = C .depth; opens = omega (arith, C .opens); few = C .few; nodes = omega (arith, C .nodes) };
+        labels = F .labels;
+        columns = refilled (λ (f : Column). comma-filled f s t) (F .columns);
+        stack = record {
+          wide = length-set (a .stack) (st .depth - 1) (nodesIn s + nodesOf t - 1 + 1) ∙ F .stack .wide;
+          holds = (
+            rw (d, m) (getD-set-same (a .stack) (length s) (nodesIn s + nodesOf t) 0 inside),
+            stack-kept s (a .stack) (st .depth - 1) (nodesIn s + nodesOf t - 1 + 1) (omega (arith, d)) (F .stack .holds .1),
+          );
+        };
+        within = λ (v : ℕ). omega (arith, F .within v);
+        mode = refl;
+      }
+
+  -- `)` after the second child: a node
+  pub close-follows : {c t : Tree} {b : ℕ} → b ≡ closeByte → Follows text (afterNode t) (second c ∷ s) seen st a i (b ∷ rest)
+      → Follows text (afterNode (node c t)) s seen (scan (After (st .nodes)) (st .depth - 1) (st .opens) (st .nodes + 1))
+      (arrays (a .stack) (set (a .left) (st .nodes) (getD (a .stack) (st .depth - 1) 0 - 1))
+      (set (a .right) (st .nodes) (nodesIn (second c ∷ s) + nodesOf t - 1)) (a .start) (a .size)) (i + 1) rest
+  unfolding textIn nodesIn leavesIn opensIn inner nodesOf written leaves
+  close-follows {c = c} {t = t} eb F =
+      let C = F .counts in
+      let d : st .depth - 1 ≡ length s = omega (arith, C .depth) in
+      let room : st .nodes < nodeLimit = omega (arith, C .nodes, C .opens, C .few, nodes-bound (second c ∷ s), nodes-inner t) in
+      record {
+        parted = F .parted ∙ rw eb (simp append-assoc);
+        place = omega (arith, F .place, second-place c s, written-node c t);
+        counts = record { depth = d; opens = omega (arith, C .opens); few = C .few; nodes = omega (arith, C .nodes) };
+        labels = F .labels ∙ append-assoc (leavesIn s) (leaves c) (leaves t);
+        columns = node-columns (st .nodes) (getD (a .stack) (st .depth - 1) 0) (F .columns) (C .nodes) room (rw d (F .stack .holds .0));
+        stack = record { wide = F .stack .wide; holds = F .stack .holds .1 };
+        within = λ (v : ℕ). omega (arith, F .within v);
+        mode = ap After (omega (arith, C .nodes, nodes-some t));
+      }
+
+-- `;` after the whole tree
+pub semicolon-follows : {text : List ℕ} {t : Tree} {seen : List Label} {st : Scan} {a : Arrays} {i b : ℕ} {rest : List ℕ} → b ≡ semicolonByte
+    → Follows text (afterNode t) [] seen st a i (b ∷ rest)
+    → Follows text (ended t) [] seen (scan Done (st .depth) (st .opens) (st .nodes)) a (i + 1) rest
+unfolding textOf filled
+semicolon-follows {t = t} eb F =
+    record {
+      parted = F .parted ∙ rw eb (simp append-assoc);
+      place = omega (arith, F .place, length-append (written t) (semicolonByte ∷ []));
+      counts = F .counts;
+      labels = F .labels;
+      columns = refilled (λ (f : Column). refl) (F .columns);
+      stack = F .stack;
+      within = λ (v : ℕ). omega (arith, F .within v);
+      mode = (refl, refl);
+    }

@@ -1,0 +1,16 @@
+pub mod Accepts
+pub mod AcceptsRaw
+pub mod Columns
+pub mod Entries
+pub mod Following
+pub mod Keys
+pub mod MachineLaws
+pub mod Moves
+pub mod OpenNodes
+pub mod Promises
+pub mod RepeatLaws
+pub mod ReturnTrip
+pub mod Simulation
+pub mod TreeFaults
+pub mod TreeFaultsTable
+pub mod TreeFaultsWalk

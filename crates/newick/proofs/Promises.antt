@@ -1,0 +1,60 @@
+-- What the reader of tree text promises, in the scope paper's order. The definitions are those of specs/ (ReadTree, Grammar) and of the
+-- crate `trees` (Tree, Text, Faults); each theorem is proved by citing one name. Assumes nothing.
+use Prim.Native.Nat.{ℕ, suc}
+use mathlib.Core.Path.{_≡_}
+use mathlib.Core.List.{List}
+use lib.ListN.{length}
+use Rattle.trees.specs.declared.Reason.{Reason}
+use Rattle.trees.specs.Bytes.{openByte}
+use Rattle.trees.specs.Tree.{Tree, leaves, Same, Valid, normal}
+use Rattle.trees.specs.Text.{textOf, normalText}
+use Rattle.trees.specs.Reading.{good, refused}
+use Rattle.trees.specs.Faults.{Fault, occurrences}
+use Rattle.newick.specs.ReadTree.{readTree}
+use Rattle.newick.specs.Grammar.{TreeText, OpenCrowd, TreeFault}
+use Rattle.trees.proofs.NormalLaws.{normal-same}
+use Rattle.newick.proofs.Accepts.{accepts, reads, text-injective, accepted-opens}
+use Rattle.newick.proofs.ReturnTrip.{normal-read}
+use Rattle.newick.proofs.TreeFaults.{refusal, fault-refused, accepted-clean}
+use Rattle.newick.proofs.TreeFaultsTable.{TableRows, table-rows}
+
+-- "A tree is a node followed by `;`, and nothing after it, not even a line end." "It has 1 to 16 bytes." "Labels of one tree are all
+-- different. A tree has 1 to 80 leaves": what is accepted is the text of a valid tree, and that tree is read.
+pub accepted-text : (text : List ℕ) (t : Tree) → readTree text ≡ good t → (text ≡ textOf t) × Valid t
+accepted-text = accepts
+
+-- And the text of each valid tree is accepted, as that tree (demand 2's return trip).
+pub valid-read : (t : Tree) → Valid t → readTree (textOf t) ≡ good t
+valid-read = reads
+
+-- "Equal trees have one normal text, and reading it gives the tree again": the normal tree, which is an equal tree.
+pub normal-text-read : (t : Tree) → Valid t → readTree (normalText t) ≡ good (normal t)
+normal-text-read = normal-read
+
+pub normal-tree-equal : (t : Tree) → Same (normal t) t
+normal-tree-equal = normal-same
+
+-- So a text stands for one tree only.
+pub one-tree : (s t : Tree) → Valid s → Valid t → textOf s ≡ textOf t → s ≡ t
+one-tree = text-injective
+
+-- "A tree has 1 to 80 leaves, so at most 79 `(`": one `(` less than leaves.
+pub opens-counted : (text : List ℕ) (t : Tree) → readTree text ≡ good t → length (leaves t) ≡ suc (occurrences openByte text)
+opens-counted = accepted-opens
+
+-- The rows 1 to 5 of the table, with their examples.
+pub examples : TableRows
+examples = table-rows
+
+-- "In one body the refusal with the smallest place is given. At the same place 4 goes before 5. An overlong label is not compared with
+-- others.": a refusal is the first of the text's faults.
+pub refused-first : (text : List ℕ) (r : Reason) (i : ℕ) → readTree text ≡ refused r i → TreeFault text r i
+refused-first = refusal
+
+-- And a text with a first fault is refused with it.
+pub first-refused : (text : List ℕ) (r : Reason) (i : ℕ) → TreeFault text r i → readTree text ≡ refused r i
+first-refused = fault-refused
+
+-- No row turns away a text that is accepted.
+pub accepted-faultless : (text : List ℕ) (t : Tree) → readTree text ≡ good t → (q : Reason) (j : ℕ) → Fault TreeText OpenCrowd text q j → ⊥
+accepted-faultless = accepted-clean

@@ -1,0 +1,92 @@
+-- `at_end` answers `answerOf`. Assumes nothing.
+use Prim.Native.Nat.{ℕ}
+use mathlib.Core.Path.{_≡_, refl, sym, _∙_}
+use mathlib.Core.List.{List, [], _∷_}
+use native.Mathlib.Omega.{arith}
+use lib.ListN.{length}
+use types.Run.{OneOf}
+use denote.Enum.Declared.{tagOf}
+use Rattle.newick.specs.declared.Scan.{Scan}
+use Rattle.newick.specs.declared.Mode.{Mode}
+use Rattle.newick.specs.declared.Mode.the-variants.{Due, Inside, After, Done}
+use Rattle.trees.specs.declared.Body.{Body}
+use Rattle.trees.specs.declared.Reason.the-variants.{EndsTooSoon}
+use Rattle.newick.specs.Machine.{answerOf, refusal}
+use Rattle.newick.proofs.Mode.{the-type}
+use Rattle.newick.proofs.Keys.{left-over}
+use Rattle.newick.proofs.MachineLaws.{ready-as, answer-as}
+use borrow.Author.Needs.{needs}
+use Rattle.newick.proofs.at_end.Statement.{statement}
+use Rattle.newick.proofs.at_end.Tie as tie
+
+-- the other modes end too soon
+rest : (m : Mode) (text : List ℕ) (body : Body) (st : Scan) (start size : List ℕ) → OneOf (0 ∷ 2 ∷ []) (tagOf the-type m)
+    → refusal body EndsTooSoon (length text) ≡ answerOf m text body st start size
+unfolding answerOf
+rest Due text body st start size h = refl
+rest (Inside first len) text body st start size h = absurd (left-over (0 ∷ 2 ∷ []) 1 refl h)
+rest (After u) text body st start size h = refl
+rest Done text body st start size h = absurd (left-over (0 ∷ 2 ∷ []) 3 refl h)
+
+enum-told : tie.Need-enum-told
+enum-told c = search needs
+
+add-t10 : tie.Need-add-t10
+add-t10 c =
+    omega (arith, ready-as _ _ _ _ (c .before .enum-told .given .1) (c .before .before .before .before .pre) .few)
+
+enum-known-mode : tie.Need-enum-known-mode
+enum-known-mode c = search needs
+
+repeated-requires : tie.Need-repeated-requires
+repeated-requires c κs =
+    let h = ready-as _ _ _ _ (c .before .mode .given .1) (c .before .before .before .before .pre) in
+    (omega (arith, h .0 .few, h .1), h .2)
+
+refuse-requires : tie.Need-refuse-requires
+refuse-requires c κs = search needs
+
+refuse-requires-2 : tie.Need-refuse-requires-2
+refuse-requires-2 c κs = search needs
+
+refuse-requires-3 : tie.Need-refuse-requires-3
+refuse-requires-3 c κs = search needs
+
+returns : tie.Need-returns
+unfolding answerOf
+returns c =
+    sym (answer-as _ _ _ _ _ (c .before .enum-told .given .1))
+
+returns-2 : tie.Need-returns-2
+unfolding answerOf
+returns-2 c =
+    let t = c .before in
+    c .refuse .ensures
+    ∙ sym (answer-as _ _ _ _ _ (c .before .before .before .before .mode .given .1) ∙ rw (sym (t .before .repeated .ensures) ∙ t .if1 .taken))
+
+returns-3 : tie.Need-returns-3
+unfolding answerOf
+returns-3 c =
+    let t = c .before in
+    c .refuse2 .ensures
+    ∙ sym (answer-as _ _ _ _ _ (c .before .before .before .before .mode .given .1) ∙ rw (sym (t .before .repeated .ensures) ∙ t .if1 .left))
+
+returns-4 : tie.Need-returns-4
+returns-4 c =
+    c .refuse3 .ensures ∙ rest _ _ _ _ _ _ (c .before .match .keys3)
+
+pub at-end-spec : {M : Type 1} → statement M
+at-end-spec =
+    tie.close
+    (tie.spec
+    enum-told
+    add-t10
+    enum-known-mode
+    repeated-requires
+    refuse-requires
+    refuse-requires-2
+    refuse-requires-3
+    returns
+    returns-2
+    returns-3
+    returns-4)

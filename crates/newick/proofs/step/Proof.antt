@@ -1,0 +1,86 @@
+-- `step` takes the step `moveOf` on the byte's kind, which the class table tells. Assumes nothing.
+use mathlib.Core.Path.{sym, ap, _∙_}
+use Rattle.newick.specs.Machine.{dueOf, insideOf, afterOf}
+use Rattle.newick.proofs.MachineLaws.{ready-as, kind-told, move-due, move-inside, move-after, move-done}
+use borrow.Author.Needs.{needs}
+use Rattle.newick.proofs.step.Statement.{statement}
+use Rattle.newick.proofs.step.Tie as tie
+
+shared-slice-read-kind-in : tie.Need-shared-slice-read-kind-in
+shared-slice-read-kind-in c = search needs
+
+kind-in-requires : tie.Need-kind-in-requires
+kind-in-requires c κs = search needs
+
+enum-told : tie.Need-enum-told
+enum-told c = search needs
+
+on-due-requires : tie.Need-on-due-requires
+on-due-requires c κs =
+    ready-as _ _ _ _ (c .before .enum-told .given .1) (c .before .before .before .before .before .before .pre .1)
+
+enum-known-mode : tie.Need-enum-known-mode
+enum-known-mode c = search needs
+
+on-inside-requires : tie.Need-on-inside-requires
+on-inside-requires c κs =
+    let m = c .before .before .before .before .before .before in
+    let h = ready-as _ _ _ _ (m .mode .given .1) (m .before .before .before .before .before .pre .1) in
+    (h .0, (h .1, h .2))
+
+enum-known-mode-2 : tie.Need-enum-known-mode-2
+enum-known-mode-2 c = search needs
+
+on-after-requires : tie.Need-on-after-requires
+on-after-requires c κs =
+    let m = c .before .before .before .before in
+    let h = ready-as _ _ _ _ (m .mode2 .given .1) (m .before .before .before .before .before .pre .1) in
+    (h .0, (h .1, h .2))
+
+enum-told-2 : tie.Need-enum-told-2
+enum-told-2 c = search needs
+
+returns : tie.Need-returns
+returns c =
+    let p = c .before .before .before .before in
+    let b = p .before .shared-slice-known2 .given (p .before .before .before .args .at) in
+    let k = kind-told _ _ _ (p .before .before .before .pre .0 .1) (b .fits) (p .kind-in .ensures) in
+    c .on-due .ensures _ _ _ _ ∙ ap (dueOf _ _ _) k ∙ sym (move-due _ _ _ _ _ _ (c .before .before .enum-told .given .1))
+
+returns-2 : tie.Need-returns-2
+returns-2 c =
+    let p = c .before .before .before .before .before .before .before .before .before in
+    let b = p .before .shared-slice-known2 .given (p .before .before .before .args .at) in
+    let k = kind-told _ _ _ (p .before .before .before .pre .0 .1) (b .fits) (p .kind-in .ensures) in
+    let m = c .before .before .before .before .before .before .before .mode in
+    c .on-inside .ensures ∙ ap (insideOf _ _ _ _ _ _) k ∙ sym (move-inside _ _ _ _ _ _ _ _ (m .given .1))
+
+returns-3 : tie.Need-returns-3
+returns-3 c =
+    let p = c .before .before .before .before .before .before .before in
+    let b = p .before .shared-slice-known2 .given (p .before .before .before .args .at) in
+    let k = kind-told _ _ _ (p .before .before .before .pre .0 .1) (b .fits) (p .kind-in .ensures) in
+    let m = c .before .before .before .before .before .mode2 in
+    c .on-after .ensures _ _ ∙ ap (afterOf _ _ _ _) k ∙ sym (move-after _ _ _ _ _ _ _ (m .given .1))
+
+returns-4 : tie.Need-returns-4
+returns-4 c =
+    sym (move-done _ _ _ _ _ _ (c .enum-told2 .given .1))
+
+pub step-spec : {M : Type 1} → statement M
+step-spec =
+    tie.close
+    (tie.spec
+    shared-slice-read-kind-in
+    kind-in-requires
+    enum-told
+    on-due-requires
+    enum-known-mode
+    on-inside-requires
+    enum-known-mode-2
+    on-after-requires
+    enum-told-2
+    returns
+    returns-2
+    returns-3
+    returns-4)

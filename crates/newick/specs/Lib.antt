@@ -1,0 +1,3 @@
+pub mod ReadTree
+pub mod Grammar
+pub mod Machine

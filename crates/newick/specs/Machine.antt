@@ -1,0 +1,183 @@
+-- The reading machine over lists of array entries, a definition for each function of the source that takes a step.
+-- Intermediate: nothing public rests on this text; proofs/Simulation.antt ties it to the reading of a tree text.
+use Prim.Native.Nat.{ℕ, zero, suc, _+_, _-_, _*_, _≤_, _<_}
+use mathlib.Core.Bool.{Bool, true, false, cond, _&&_, _||_}
+use mathlib.Core.List.{List}
+use lib.Dec.{eqb, ltb}
+use lib.ListN.{length, getD, set}
+use Rattle.trees.specs.declared.Kind.{Kind}
+use Rattle.trees.specs.declared.Kind.the-variants.{Label as LabelByte, Open, Close, Comma, Semicolon, Other}
+use Rattle.trees.specs.declared.Reason.{Reason}
+use Rattle.trees.specs.declared.Reason.the-variants.{BadByte, EndsTooSoon, LabelTooLong, TooMany, Repeated}
+use Rattle.trees.specs.declared.Body.{Body}
+use Rattle.trees.specs.Label.{labelLimit}
+use Rattle.trees.specs.Tree.{leafLimit}
+use Rattle.trees.specs.Arrays.{noArrays, nodeLimit}
+use Rattle.newick.specs.declared.Mode.{Mode}
+use Rattle.newick.specs.declared.Mode.the-variants.{Due, Inside, After, Done}
+use Rattle.newick.specs.declared.Scan.{Scan}
+use Rattle.newick.specs.declared.Move.{Move}
+use Rattle.newick.specs.declared.Move.the-variants.{On, Stop}
+use Rattle.newick.specs.declared.TreeAnswer.{TreeAnswer}
+use Rattle.newick.specs.declared.TreeAnswer.the-variants.{Leaves, Refused}
+use Rattle.newick.specs.declared.TreeRead.{TreeRead}
+
+-- a tree of 80 leaves has 79 `(`
+abbrev pub openLimit : ℕ
+openLimit = leafLimit - 1
+
+-- the arrays that the steps are lent
+pub record Arrays : Type 0 where
+  pub stack : List ℕ
+  pub left : List ℕ
+  pub right : List ℕ
+  pub start : List ℕ
+  pub size : List ℕ
+
+abbrev pub arrays : List ℕ → List ℕ → List ℕ → List ℕ → List ℕ → Arrays
+arrays k l r s z = record { stack = k; left = l; right = r; start = s; size = z }
+
+-- the state and the arrays after a step, or a refusal's reason and place
+pub data Outcome : Type 0 where
+  on : Scan → Arrays → Outcome
+  halt : Reason → ℕ → Outcome
+
+abbrev pub outcome : Move → Arrays → Outcome
+outcome (On st) a = on st a
+outcome (Stop r i) a = halt r i
+
+abbrev pub scan : Mode → ℕ → ℕ → ℕ → Scan
+scan m depth opens nodes = record { mode = m; depth = depth; opens = opens; nodes = nodes }
+
+-- the n bytes from a are those from b, the last compared first
+unfoldable pub sameBytes : List ℕ → ℕ → ℕ → ℕ → Bool
+sameBytes text a b zero = true
+sameBytes text a b (suc n) = eqb (getD text (a + n) 0) (getD text (b + n) 0) && sameBytes text a b n
+
+-- a label of `size` bytes from `start` is the one of `len` bytes from `first`
+abbrev pub sameLeaf : List ℕ → (start size first len : ℕ) → Bool
+sameLeaf text start size first len = eqb size len && sameBytes text first start len
+
+-- one of the first n nodes is a leaf with the label of `len` bytes from `first`
+unfoldable pub repeatOf : List ℕ → (start size : List ℕ) → ℕ → (first len : ℕ) → Bool
+unfolding sameBytes
+repeatOf text start size zero first len = false
+repeatOf text start size (suc n) first len =
+    sameLeaf text (getD start n 0) (getD size n 0) first len || repeatOf text start size n first len
+
+-- a byte where a node must begin
+unfoldable pub dueOf : Scan → Arrays → ℕ → Kind → Outcome
+dueOf st a i LabelByte = on (scan (Inside i 1) (st .depth) (st .opens) (st .nodes)) a
+dueOf st a i Open =
+    cond (ltb (st .opens) openLimit)
+    (on (scan Due (st .depth + 1) (st .opens + 1) (st .nodes))
+    (arrays (set (a .stack) (st .depth) 0) (a .left) (a .right) (a .start) (a .size)))
+    (halt TooMany i)
+dueOf st a i Close = halt BadByte i
+dueOf st a i Comma = halt BadByte i
+dueOf st a i Semicolon = halt BadByte i
+dueOf st a i Other = halt BadByte i
+
+-- `)` after node u: the innermost `(` must have its first child, and becomes a node
+unfoldable pub closeOf : Scan → Arrays → ℕ → ℕ → Outcome
+closeOf st a u i =
+    cond (eqb (st .depth) 0) (halt BadByte i)
+    (cond (eqb (getD (a .stack) (st .depth - 1) 0) 0) (halt BadByte i)
+    (on (scan (After (st .nodes)) (st .depth - 1) (st .opens) (st .nodes + 1))
+    (arrays (a .stack) (set (a .left) (st .nodes) (getD (a .stack) (st .depth - 1) 0 - 1)) (set (a .right) (st .nodes) u) (a .start)
+    (a .size))))
+
+-- `,` after node u: it is the first child of the innermost `(`, which must lack one
+unfoldable pub commaOf : Scan → Arrays → ℕ → ℕ → Outcome
+commaOf st a u i =
+    cond (eqb (st .depth) 0) (halt BadByte i)
+    (cond (eqb (getD (a .stack) (st .depth - 1) 0) 0)
+    (on (scan Due (st .depth) (st .opens) (st .nodes))
+    (arrays (set (a .stack) (st .depth - 1) (u + 1)) (a .left) (a .right) (a .start) (a .size)))
+    (halt BadByte i))
+
+-- a byte just after node u
+unfoldable pub afterOf : Scan → Arrays → ℕ → ℕ → Kind → Outcome
+unfolding closeOf commaOf
+afterOf st a u i LabelByte = halt BadByte i
+afterOf st a u i Open = halt BadByte i
+afterOf st a u i Close = closeOf st a u i
+afterOf st a u i Comma = commaOf st a u i
+afterOf st a u i Semicolon =
+    cond (eqb (st .depth) 0) (on (scan Done (st .depth) (st .opens) (st .nodes)) a) (halt BadByte i)
+afterOf st a u i Other = halt BadByte i
+
+-- a leaf is the node with the next number
+abbrev pub leafScan : Scan → Scan
+leafScan st = scan (After (st .nodes)) (st .depth) (st .opens) (st .nodes + 1)
+
+abbrev pub leafArrays : Scan → Arrays → ℕ → ℕ → Arrays
+leafArrays st a first len =
+    arrays (a .stack) (set (a .left) (st .nodes) (st .nodes)) (set (a .right) (st .nodes) (st .nodes))
+    (set (a .start) (st .nodes) first) (set (a .size) (st .nodes) len)
+
+-- the byte after a label
+unfoldable pub labelEnd : List ℕ → Scan → Arrays → (first len i : ℕ) → Kind → Outcome
+unfolding repeatOf afterOf
+labelEnd text st a first len i k =
+    cond (repeatOf text (a .start) (a .size) (st .nodes) first len) (halt Repeated first)
+    (afterOf (leafScan st) (leafArrays st a first len) (st .nodes) i k)
+
+-- a byte inside or just after a label
+unfoldable pub insideOf : List ℕ → Scan → Arrays → (first len i : ℕ) → Kind → Outcome
+unfolding labelEnd
+insideOf text st a first len i LabelByte =
+    cond (ltb len labelLimit) (on (scan (Inside first (len + 1)) (st .depth) (st .opens) (st .nodes)) a) (halt LabelTooLong i)
+insideOf text st a first len i Open = labelEnd text st a first len i Open
+insideOf text st a first len i Close = labelEnd text st a first len i Close
+insideOf text st a first len i Comma = labelEnd text st a first len i Comma
+insideOf text st a first len i Semicolon = labelEnd text st a first len i Semicolon
+insideOf text st a first len i Other = labelEnd text st a first len i Other
+
+-- one step by mode, on the byte at place i, of kind k
+unfoldable pub moveOf : Mode → List ℕ → Scan → Arrays → ℕ → Kind → Outcome
+unfolding dueOf insideOf afterOf
+moveOf Due text st a i k = dueOf st a i k
+moveOf (Inside first len) text st a i k = insideOf text st a first len i k
+moveOf (After u) text st a i k = afterOf st a u i k
+moveOf Done text st a i k = halt BadByte i
+
+abbrev pub refusal : Body → Reason → ℕ → TreeAnswer
+refusal body r i = Refused (record { reason = r; body = body; place = i })
+
+-- a refusal, with arrays of no node
+abbrev pub turnedDown : TreeAnswer → TreeRead
+turnedDown answer = record { answer = answer; tree = noArrays }
+
+-- the answer with the arrays that were filled
+abbrev pub withArrays : TreeAnswer → ℕ → (l r s z : List ℕ) → TreeRead
+withArrays answer nodes l r s z =
+    record { answer = answer; tree = record { nodes = nodes; left = l; right = r; start = s; size = z } }
+
+-- the answer where the text ends
+unfoldable pub answerOf : Mode → List ℕ → Body → Scan → (start size : List ℕ) → TreeAnswer
+unfolding repeatOf
+answerOf Due text body st start size = refusal body EndsTooSoon (length text)
+answerOf (Inside first len) text body st start size =
+    cond (repeatOf text start size (st .nodes) first len) (refusal body Repeated first)
+    (refusal body EndsTooSoon (length text))
+answerOf (After u) text body st start size = refusal body EndsTooSoon (length text)
+answerOf Done text body st start size = Leaves (st .opens + 1)
+
+-- the stack has room
+pub record Room (st : Scan) : Type 0 where
+  pub few : st .opens ≤ openLimit
+  pub deep : st .depth ≤ st .opens
+
+-- every leaf's label, and the label from `first`, lie in the text
+pub record Within (text : List ℕ) (start size : List ℕ) (first len : ℕ) : Type 0 where
+  pub leaves : (v : ℕ) → getD start v 0 + getD size v 0 ≤ length text
+  pub label : first + len ≤ length text
+
+-- what a step in this mode may rely on
+abbrev pub Ready : Mode → List ℕ → Scan → (start size : List ℕ) → Type 0
+Ready Due text st start size = Room st
+Ready (Inside first len) text st start size =
+    Room st × (st .nodes + st .depth ≤ 2 * st .opens) × Within text start size first len
+Ready (After u) text st start size = Room st × (st .nodes + st .depth ≤ 2 * st .opens + 1) × (u < nodeLimit)
+Ready Done text st start size = Room st

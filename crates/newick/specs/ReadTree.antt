@@ -1,0 +1,119 @@
+-- Reading a tree text from left to right: "The class of the byte and what may follow at that point decide each step."
+-- Scope paper, "Tree text" and rows 1 to 5 of "Why a job is turned down". A repeat is told at its first byte, so the first
+-- fault that is met is the one with the smallest place.
+use Prim.Native.Nat.{ℕ, _+_, _-_}
+use mathlib.Core.Bool.{Bool, true, false, cond}
+use mathlib.Core.List.{List, [], _∷_, _++_}
+use lib.Dec.{eqb}
+use lib.ListN.{length}
+use Rattle.trees.specs.declared.Kind.{Kind}
+use Rattle.trees.specs.declared.Kind.the-variants.{Label as LabelByte, Open, Close, Comma, Semicolon, Other}
+use Rattle.trees.specs.declared.Reason.{Reason}
+use Rattle.trees.specs.declared.Reason.the-variants.{BadByte, EndsTooSoon, LabelTooLong, TooMany, Repeated}
+use Rattle.trees.specs.declared.Body.{Body}
+use Rattle.trees.specs.Bytes.{kindOf}
+use Rattle.trees.specs.Label.{Label, labelLimit}
+use Rattle.trees.specs.Tree.{Tree, leaf, node, leaves, leafLimit}
+use Rattle.trees.specs.Reading.{Reading, good, refused, repeats}
+use Rattle.trees.specs.Arrays.{arraysOf, noArrays}
+use Rattle.newick.specs.declared.TreeAnswer.{TreeAnswer}
+use Rattle.newick.specs.declared.TreeAnswer.the-variants.{Leaves, Refused}
+use Rattle.newick.specs.declared.TreeRead.{TreeRead}
+
+-- an open `(`: its first child is being read, or was read and the second is being read
+pub data Opened : Type 0 where
+  first : Opened
+  second : Tree → Opened
+
+-- where the reader stands: a node must begin, inside a label with these bytes so far, just after a node, or after `;`
+pub data Phase : Type 0 where
+  nodeDue : Phase
+  inLabel : Label → Phase
+  afterNode : Tree → Phase
+  ended : Tree → Phase
+
+-- what is known so far: the open `(`, innermost first, how many `(` were read, and the labels that are complete
+pub record State : Type 0 where
+  pub phase : Phase
+  pub stack : List Opened
+  pub opens : ℕ
+  pub seen : List Label
+
+-- one step: the next state, or a refusal's reason at this byte
+pub data Step : Type 0 where
+  next : State → Step
+  stop : Reason → Step
+
+-- a byte just after a whole node
+unfoldable pub stepAfter : Tree → List Opened → ℕ → List Label → Kind → Step
+stepAfter t stack opens seen LabelByte = stop BadByte
+stepAfter t stack opens seen Open = stop BadByte
+stepAfter t [] opens seen Close = stop BadByte
+stepAfter t (first ∷ stack) opens seen Close = stop BadByte
+stepAfter t (second a ∷ stack) opens seen Close =
+    next (record { phase = afterNode (node a t); stack = stack; opens = opens; seen = seen })
+stepAfter t [] opens seen Comma = stop BadByte
+stepAfter t (first ∷ stack) opens seen Comma =
+    next (record { phase = nodeDue; stack = second t ∷ stack; opens = opens; seen = seen })
+stepAfter t (second a ∷ stack) opens seen Comma = stop BadByte
+stepAfter t [] opens seen Semicolon = next (record { phase = ended t; stack = []; opens = opens; seen = seen })
+stepAfter t (o ∷ stack) opens seen Semicolon = stop BadByte
+stepAfter t stack opens seen Other = stop BadByte
+
+-- a byte where a node must begin; `repeat` says whether the label that begins here was seen before
+unfoldable pub stepDue : List Opened → ℕ → List Label → (repeat : Bool) → ℕ → Kind → Step
+stepDue stack opens seen repeat b LabelByte =
+    cond repeat (stop Repeated) (next (record { phase = inLabel (b ∷ []); stack = stack; opens = opens; seen = seen }))
+stepDue stack opens seen repeat b Open =
+    cond (eqb opens (leafLimit - 1)) (stop TooMany)
+    (next (record { phase = nodeDue; stack = first ∷ stack; opens = opens + 1; seen = seen }))
+stepDue stack opens seen repeat b Close = stop BadByte
+stepDue stack opens seen repeat b Comma = stop BadByte
+stepDue stack opens seen repeat b Semicolon = stop BadByte
+stepDue stack opens seen repeat b Other = stop BadByte
+
+-- a byte inside or just after the label x
+unfoldable pub stepLabel : Label → List Opened → ℕ → List Label → ℕ → Kind → Step
+unfolding stepAfter
+stepLabel x stack opens seen b LabelByte =
+    cond (eqb (length x) labelLimit) (stop LabelTooLong)
+    (next (record { phase = inLabel (x ++ (b ∷ [])); stack = stack; opens = opens; seen = seen }))
+stepLabel x stack opens seen b Open = stop BadByte
+stepLabel x stack opens seen b Close = stepAfter (leaf x) stack opens (seen ++ (x ∷ [])) Close
+stepLabel x stack opens seen b Comma = stepAfter (leaf x) stack opens (seen ++ (x ∷ [])) Comma
+stepLabel x stack opens seen b Semicolon = stepAfter (leaf x) stack opens (seen ++ (x ∷ [])) Semicolon
+stepLabel x stack opens seen b Other = stop BadByte
+
+unfoldable pub step : Phase → List Opened → ℕ → List Label → (b : ℕ) → (rest : List ℕ) → Step
+unfolding stepDue stepLabel stepAfter
+step nodeDue stack opens seen b rest = stepDue stack opens seen (repeats seen (b ∷ rest)) b (kindOf b)
+step (inLabel x) stack opens seen b rest = stepLabel x stack opens seen b (kindOf b)
+step (afterNode t) stack opens seen b rest = stepAfter t stack opens seen (kindOf b)
+step (ended t) stack opens seen b rest = stop BadByte
+
+-- the text ends here
+unfoldable pub endOf : Phase → ℕ → Reading Tree
+endOf nodeDue at = refused EndsTooSoon at
+endOf (inLabel x) at = refused EndsTooSoon at
+endOf (afterNode t) at = refused EndsTooSoon at
+endOf (ended t) at = good t
+
+-- the bytes from place `at` on
+unfoldable pub readFrom : State → ℕ → List ℕ → Reading Tree
+unfolding step endOf
+readFrom s at [] = endOf (s .phase) at
+readFrom s at (b ∷ rest) =
+    elim (step (s .phase) (s .stack) (s .opens) (s .seen) b rest) [ next s′ ↦ readFrom s′ (at + 1) rest | stop r ↦ refused r at ]
+
+abbrev pub startState : State
+startState = record { phase = nodeDue; stack = []; opens = 0; seen = [] }
+
+unfoldable pub readTree : List ℕ → Reading Tree
+unfolding readFrom
+readTree text = readFrom startState 0 text
+
+-- the answer of the tree reader, told which body it reads
+unfoldable pub treeRead : Body → Reading Tree → TreeRead
+treeRead body (good t) = record { answer = Leaves (length (leaves t)); tree = arraysOf t }
+treeRead body (refused r at) =
+    record { answer = Refused (record { reason = r; body = body; place = at }); tree = noArrays }

@@ -1,0 +1,496 @@
+// The reader of tree text.
+//
+// No public function has a `requires`: a text of any length and any bytes is answered.
+use trees::Body;
+use trees::Kind;
+use trees::Reason;
+use trees::Refusal;
+use trees::TreeArrays;
+ghost use Prim.Native.Nat.{ℕ, _+_, _*_, _≤_, _<_};
+ghost use mathlib.Core.Path.{_≡_};
+ghost use mathlib.Core.List.{List};
+ghost use lib.ListN.{length, getD};
+ghost use Rattle.trees.specs.Bytes.{kindOf, classTable};
+ghost use Rattle.newick.specs.ReadTree.{readTree, treeRead};
+ghost use Rattle.newick.specs.declared.Mode.the-variants.{Due};
+ghost use Rattle.newick.specs.Machine.{sameBytes, sameLeaf, repeatOf, arrays, outcome, Room, Within, Ready};
+ghost use Rattle.newick.specs.Machine.{scan, dueOf, closeOf, commaOf, afterOf, labelEnd, insideOf, moveOf, answerOf};
+ghost use Rattle.newick.specs.Machine.{refusal, turnedDown, withArrays};
+
+// The most bytes of a label.
+const LABEL_LIMIT: usize = 16;
+
+// The most `(` of a tree, one less than its leaves.
+const OPEN_LIMIT: usize = 79;
+
+// How many leaves were read, or why the text was turned down.
+pub enum TreeAnswer {
+    Leaves(usize),
+    Refused(Refusal),
+}
+
+// The answer with the tree's arrays beside it; the arrays of a refusal have no node.
+pub struct TreeRead {
+    pub answer: TreeAnswer,
+    pub tree: TreeArrays,
+}
+
+// Where the scan stands: a node must begin; inside a label, with its first byte and its length so far; just after a node;
+// after `;`.
+enum Mode {
+    Due,
+    Inside(usize, usize),
+    After(usize),
+    Done,
+}
+
+// The state beside the arrays: how many `(` are open, how many were read, how many nodes are complete.
+struct Scan {
+    mode: Mode,
+    depth: usize,
+    opens: usize,
+    nodes: usize,
+}
+
+// What a byte leads to: the next state, or a refusal's reason and place.
+enum Move {
+    On(Scan),
+    Stop(Reason, usize),
+}
+
+// Whether the `n` bytes from `a` are those from `b`. Labels often differ at their ends, so the last are compared first.
+fn same_bytes(text: &[u8], a: usize, b: usize, n: usize) -> bool
+    requires { ⌜ (a + n ≤ length (now text)) × (b + n ≤ length (now text)) ⌝ }
+    ensures { λ r. ⌜ r ≡ sameBytes (now (text .entry)) a b n ⌝ }
+{
+    let mut i = n;
+    while 0 < i {
+        i -= 1;
+        if text[a + i] != text[b + i] {
+            return false;
+        }
+    }
+    true
+}
+
+// Whether node `v` is a leaf with the label of `len` bytes from `first`; an inner node has size 0.
+fn same_leaf(
+    text: &[u8],
+    start: &[usize; 159],
+    size: &[usize; 159],
+    v: usize,
+    first: usize,
+    len: usize,
+) -> bool
+    requires { ⌜ v < 159 ⌝ }
+    requires { ⌜ Within (now text) (now start) (now size) first len ⌝ }
+    ensures { λ r. ⌜ r
+        ≡ sameLeaf (now (text .entry)) (getD (now (start .entry)) v 0) (getD (now (size .entry)) v 0) first len ⌝ }
+{
+    if size[v] == len {
+        same_bytes(text, first, start[v], len)
+    } else {
+        false
+    }
+}
+
+// Whether one of the first `nodes` nodes is a leaf with the label of `len` bytes from `first`.
+fn repeated(
+    text: &[u8],
+    start: &[usize; 159],
+    size: &[usize; 159],
+    nodes: usize,
+    first: usize,
+    len: usize,
+) -> bool
+    requires { ⌜ nodes ≤ 159 ⌝ }
+    requires { ⌜ Within (now text) (now start) (now size) first len ⌝ }
+    ensures { λ r. ⌜ r ≡ repeatOf (now (text .entry)) (now (start .entry)) (now (size .entry)) nodes first len ⌝ }
+{
+    let mut v = nodes;
+    while 0 < v {
+        v -= 1;
+        if same_leaf(text, start, size, v, first, len) {
+            return true;
+        }
+    }
+    false
+}
+
+// A byte where a node must begin.
+fn on_due(st: Scan, kind: Kind, at: usize, stack: &mut [usize; 79]) -> Move
+    requires { ⌜ Room st ⌝ }
+    ensures { λ m. ⌜ ((l r s z : List ℕ) → outcome m (arrays (now (stack .exit)) l r s z)
+        ≡ dueOf st (arrays (now (stack .entry)) l r s z) at kind) ⌝ }
+{
+    let depth = st.depth;
+    match kind {
+        Kind::Label => Move::On(Scan {
+            mode: Mode::Inside(at, 1),
+            depth: depth,
+            opens: st.opens,
+            nodes: st.nodes,
+        }),
+        Kind::Open => {
+            if st.opens < OPEN_LIMIT {
+                stack[depth] = 0;
+                Move::On(Scan {
+                    mode: Mode::Due,
+                    depth: depth + 1,
+                    opens: st.opens + 1,
+                    nodes: st.nodes,
+                })
+            } else {
+                Move::Stop(Reason::TooMany, at)
+            }
+        }
+        _ => Move::Stop(Reason::BadByte, at),
+    }
+}
+
+// `)` after node `u`: the innermost `(` has its first child already, and becomes a node.
+fn on_close(
+    st: Scan,
+    u: usize,
+    at: usize,
+    stack: &[usize; 79],
+    left: &mut [usize; 159],
+    right: &mut [usize; 159],
+) -> Move
+    requires { ⌜ Room st ⌝ }
+    requires { ⌜ st .nodes + st .depth ≤ 2 * st .opens + 1 ⌝ }
+    ensures { λ m. ⌜ ((s z : List ℕ) → outcome m (arrays (now (stack .entry)) (now (left .exit)) (now (right .exit)) s z)
+        ≡ closeOf st (arrays (now (stack .entry)) (now (left .entry)) (now (right .entry)) s z) u at) ⌝ }
+{
+    let depth = st.depth;
+    if depth == 0 {
+        return Move::Stop(Reason::BadByte, at);
+    }
+    let child = stack[depth - 1];
+    if child == 0 {
+        return Move::Stop(Reason::BadByte, at);
+    }
+    let nodes = st.nodes;
+    left[nodes] = child - 1;
+    right[nodes] = u;
+    Move::On(Scan {
+        mode: Mode::After(nodes),
+        depth: depth - 1,
+        opens: st.opens,
+        nodes: nodes + 1,
+    })
+}
+
+// `,` after node `u`: the innermost `(` lacks its first child, and `u` is that child.
+fn on_comma(st: Scan, u: usize, at: usize, stack: &mut [usize; 79]) -> Move
+    requires { ⌜ Room st ⌝ }
+    requires { ⌜ u < 159 ⌝ }
+    ensures { λ m. ⌜ ((l r s z : List ℕ) → outcome m (arrays (now (stack .exit)) l r s z)
+        ≡ commaOf st (arrays (now (stack .entry)) l r s z) u at) ⌝ }
+{
+    let depth = st.depth;
+    if depth == 0 {
+        return Move::Stop(Reason::BadByte, at);
+    }
+    let child = stack[depth - 1];
+    if child != 0 {
+        return Move::Stop(Reason::BadByte, at);
+    }
+    stack[depth - 1] = u + 1;
+    Move::On(Scan {
+        mode: Mode::Due,
+        depth: depth,
+        opens: st.opens,
+        nodes: st.nodes,
+    })
+}
+
+// A byte just after node `u`.
+fn on_after(
+    st: Scan,
+    u: usize,
+    kind: Kind,
+    at: usize,
+    stack: &mut [usize; 79],
+    left: &mut [usize; 159],
+    right: &mut [usize; 159],
+) -> Move
+    requires { ⌜ Room st ⌝ }
+    requires { ⌜ (st .nodes + st .depth ≤ 2 * st .opens + 1) × (u < 159) ⌝ }
+    ensures { λ m. ⌜ ((s z : List ℕ) → outcome m (arrays (now (stack .exit)) (now (left .exit)) (now (right .exit)) s z)
+        ≡ afterOf st (arrays (now (stack .entry)) (now (left .entry)) (now (right .entry)) s z) u at kind) ⌝ }
+{
+    match kind {
+        Kind::Close => on_close(st, u, at, stack, left, right),
+        Kind::Comma => on_comma(st, u, at, stack),
+        Kind::Semicolon => {
+            if st.depth == 0 {
+                Move::On(Scan {
+                    mode: Mode::Done,
+                    depth: st.depth,
+                    opens: st.opens,
+                    nodes: st.nodes,
+                })
+            } else {
+                Move::Stop(Reason::BadByte, at)
+            }
+        }
+        _ => Move::Stop(Reason::BadByte, at),
+    }
+}
+
+// The byte after a label: a repeat is told at its first byte, else the label is a leaf.
+fn on_label_end(
+    text: &[u8],
+    st: Scan,
+    first: usize,
+    len: usize,
+    kind: Kind,
+    at: usize,
+    stack: &mut [usize; 79],
+    left: &mut [usize; 159],
+    right: &mut [usize; 159],
+    start: &mut [usize; 159],
+    size: &mut [usize; 159],
+) -> Move
+    requires { ⌜ Room st ⌝ }
+    requires { ⌜ st .nodes + st .depth ≤ 2 * st .opens ⌝ }
+    requires { ⌜ Within (now text) (now start) (now size) first len ⌝ }
+    ensures { λ m. ⌜ outcome m (arrays (now (stack .exit)) (now (left .exit)) (now (right .exit)) (now (start .exit)) (now (size .exit)))
+        ≡ labelEnd (now (text .entry)) st
+        (arrays (now (stack .entry)) (now (left .entry)) (now (right .entry)) (now (start .entry)) (now (size .entry)))
+        first len at kind ⌝ }
+{
+    let nodes = st.nodes;
+    if repeated(text, start, size, nodes, first, len) {
+        return Move::Stop(Reason::Repeated, first);
+    }
+    left[nodes] = nodes;
+    right[nodes] = nodes;
+    start[nodes] = first;
+    size[nodes] = len;
+    let next = Scan {
+        mode: Mode::After(nodes),
+        depth: st.depth,
+        opens: st.opens,
+        nodes: nodes + 1,
+    };
+    on_after(next, nodes, kind, at, stack, left, right)
+}
+
+// A byte inside or just after a label.
+fn on_inside(
+    text: &[u8],
+    st: Scan,
+    first: usize,
+    len: usize,
+    kind: Kind,
+    at: usize,
+    stack: &mut [usize; 79],
+    left: &mut [usize; 159],
+    right: &mut [usize; 159],
+    start: &mut [usize; 159],
+    size: &mut [usize; 159],
+) -> Move
+    requires { ⌜ Room st ⌝ }
+    requires { ⌜ st .nodes + st .depth ≤ 2 * st .opens ⌝ }
+    requires { ⌜ Within (now text) (now start) (now size) first len ⌝ }
+    ensures { λ m. ⌜ outcome m (arrays (now (stack .exit)) (now (left .exit)) (now (right .exit)) (now (start .exit)) (now (size .exit)))
+        ≡ insideOf (now (text .entry)) st
+        (arrays (now (stack .entry)) (now (left .entry)) (now (right .entry)) (now (start .entry)) (now (size .entry)))
+        first len at kind ⌝ }
+{
+    match kind {
+        Kind::Label => {
+            if len < LABEL_LIMIT {
+                Move::On(Scan {
+                    mode: Mode::Inside(first, len + 1),
+                    depth: st.depth,
+                    opens: st.opens,
+                    nodes: st.nodes,
+                })
+            } else {
+                Move::Stop(Reason::LabelTooLong, at)
+            }
+        }
+        _ => on_label_end(
+            text,
+            st,
+            first,
+            len,
+            kind,
+            at,
+            stack,
+            left,
+            right,
+            start,
+            size,
+        ),
+    }
+}
+
+// One byte, by where the scan stands.
+fn step(
+    text: &[u8],
+    table: &[u8; 256],
+    st: Scan,
+    at: usize,
+    stack: &mut [usize; 79],
+    left: &mut [usize; 159],
+    right: &mut [usize; 159],
+    start: &mut [usize; 159],
+    size: &mut [usize; 159],
+) -> Move
+    requires { ⌜ (at < length (now text)) × (now table ≡ classTable) ⌝ }
+    requires { ⌜ Ready (st .mode) (now text) st (now start) (now size) ⌝ }
+    ensures { λ m. ⌜ outcome m (arrays (now (stack .exit)) (now (left .exit)) (now (right .exit)) (now (start .exit)) (now (size .exit)))
+        ≡ moveOf (st .mode) (now (text .entry)) st
+        (arrays (now (stack .entry)) (now (left .entry)) (now (right .entry)) (now (start .entry)) (now (size .entry)))
+        at (kindOf (getD (now (text .entry)) at 0)) ⌝ }
+{
+    let kind = trees::kind_in(table, text[at]);
+    let mode = st.mode;
+    match mode {
+        Mode::Due => on_due(st, kind, at, stack),
+        Mode::Inside(first, len) => on_inside(
+            text,
+            st,
+            first,
+            len,
+            kind,
+            at,
+            stack,
+            left,
+            right,
+            start,
+            size,
+        ),
+        Mode::After(u) => on_after(st, u, kind, at, stack, left, right),
+        Mode::Done => Move::Stop(Reason::BadByte, at),
+    }
+}
+
+// The answer that turns the text down.
+fn refuse(body: Body, reason: Reason, place: usize) -> TreeAnswer
+    ensures { λ r. ⌜ r ≡ refusal body reason place ⌝ }
+{
+    TreeAnswer::Refused(Refusal {
+        reason: reason,
+        body: body,
+        place: place,
+    })
+}
+
+// The answer where the text ends.
+fn at_end(
+    text: &[u8],
+    body: Body,
+    st: Scan,
+    start: &[usize; 159],
+    size: &[usize; 159],
+) -> TreeAnswer
+    requires { ⌜ Ready (st .mode) (now text) st (now start) (now size) ⌝ }
+    ensures { λ a. ⌜ a ≡ answerOf (st .mode) (now (text .entry)) body st (now (start .entry)) (now (size .entry)) ⌝ }
+{
+    let mode = st.mode;
+    match mode {
+        Mode::Done => TreeAnswer::Leaves(st.opens + 1),
+        Mode::Inside(first, len) => {
+            if repeated(text, start, size, st.nodes, first, len) {
+                refuse(body, Reason::Repeated, first)
+            } else {
+                refuse(body, Reason::EndsTooSoon, text.len())
+            }
+        }
+        _ => refuse(body, Reason::EndsTooSoon, text.len()),
+    }
+}
+
+// A refusal, with arrays of no node.
+fn turned_down(answer: TreeAnswer) -> TreeRead
+    ensures { λ r. ⌜ r ≡ turnedDown answer ⌝ }
+{
+    TreeRead {
+        answer: answer,
+        tree: TreeArrays {
+            nodes: 0,
+            left: [0usize; 159],
+            right: [0usize; 159],
+            start: [0usize; 159],
+            size: [0usize; 159],
+        },
+    }
+}
+
+// The answer with the arrays that were filled.
+fn with_arrays(
+    answer: TreeAnswer,
+    nodes: usize,
+    left: [usize; 159],
+    right: [usize; 159],
+    start: [usize; 159],
+    size: [usize; 159],
+) -> TreeRead
+    ensures { λ r. ⌜ r ≡ withArrays answer nodes left right start size ⌝ }
+{
+    TreeRead {
+        answer: answer,
+        tree: TreeArrays {
+            nodes: nodes,
+            left: left,
+            right: right,
+            start: start,
+            size: size,
+        },
+    }
+}
+
+// Where each reading starts: a node must begin, and nothing is open.
+fn beginning() -> Scan
+    ensures { λ r. ⌜ r ≡ scan Due 0 0 0 ⌝ }
+{
+    Scan {
+        mode: Mode::Due,
+        depth: 0,
+        opens: 0,
+        nodes: 0,
+    }
+}
+
+// Reads a tree text, told which body it is: the leaf count with the tree's arrays, or the refusal with the smallest place.
+// No byte is read past the one that refuses the text.
+pub fn read_tree(text: &[u8], body: Body) -> TreeRead
+    ensures { λ r. ⌜ r ≡ treeRead body (readTree (now (text .entry))) ⌝ }
+{
+    let table = trees::classes();
+    let mut stack = [0usize; 79];
+    let mut left = [0usize; 159];
+    let mut right = [0usize; 159];
+    let mut start = [0usize; 159];
+    let mut size = [0usize; 159];
+    let mut st = beginning();
+    let mut i: usize = 0;
+    while i < text.len() {
+        let moved = step(
+            text,
+            &table,
+            st,
+            i,
+            &mut stack,
+            &mut left,
+            &mut right,
+            &mut start,
+            &mut size,
+        );
+        match moved {
+            Move::Stop(reason, place) => return turned_down(refuse(body, reason, place)),
+            Move::On(next) => st = next,
+        }
+        i += 1;
+    }
+    let answer = at_end(text, body, st, &start, &size);
+    let TreeAnswer::Leaves(_) = answer else {
+        return turned_down(answer);
+    };
+    with_arrays(answer, st.nodes, left, right, start, size)
+}

@@ -1,0 +1,45 @@
+// Reads one tree text from standard input and writes its normal text and a line end, or one refusal line with letter S.
+//
+// No accepted text passes 1,518 bytes, and each refusal is decided by the bytes before its place and the 17 that follow, so the
+// first 4,096 bytes decide the answer to an input of any length.
+use newick::TreeAnswer;
+use trees::Body;
+use trees::Refusal;
+use writer::WriteAnswer;
+
+fn print_refusal(refusal: Refusal) {
+    let reason = refusal.reason;
+    let body = refusal.body;
+    let letter = [trees::letter(body)];
+    io::write_all(1, b"refused ");
+    io::print_decimal(1, trees::number(reason) as u64);
+    io::write_all(1, b" ");
+    io::write_all(1, &letter);
+    io::write_all(1, b" ");
+    io::print_decimal(1, refusal.place as u64);
+    io::write_all(1, b"\n");
+}
+
+// The line for a text. The writer has room for every tree that was read, so it always writes.
+fn print_line(text: &[u8]) {
+    let read = newick::read_tree(text, Body::S);
+    let answer = read.answer;
+    if let TreeAnswer::Refused(refusal) = answer {
+        print_refusal(refusal);
+        return;
+    }
+    let tree = read.tree;
+    let mut area = io::buffer();
+    let out: &mut [u8] = &mut area;
+    let written = writer::write_tree(tree, text, out);
+    if let WriteAnswer::Written(n) = written {
+        io::write_all(1, trees::part(out, 0, n));
+        io::write_all(1, b"\n");
+    }
+}
+
+fn main() {
+    let mut input = io::buffer();
+    let n = io::read_full(0, &mut input);
+    print_line(&input[..n]);
+}

@@ -1,0 +1,15 @@
+pub mod ArrayLaws
+pub mod Bools
+pub mod ByteLaws
+pub mod FaultLaws
+pub mod LabelLaws
+pub mod ListLaws
+pub mod NormalLaws
+pub mod PlaceLaws
+pub mod PostorderLaws
+pub mod Promises
+pub mod RawRuns
+pub mod ReadingLaws
+pub mod SameLaws
+pub mod StoredLaws
+pub mod WrittenLaws

@@ -1,0 +1,55 @@
+-- The rows 1 to 5 of the scope paper's table, "Why a job is turned down", said of a text as a whole and not of a way to read it.
+-- A body's grammar, limits and repeats left aside, is given by `Whole`; `Crowd text i` says that row 4 stands at place i.
+use Prim.Native.Nat.{ℕ, suc, _+_, _-_, _<_, _≤_}
+use mathlib.Core.Path.{_≡_}
+use mathlib.Core.Logic.{_⊎_}
+use mathlib.Core.Bool.{Bool, true, false, cond}
+use mathlib.Core.List.{List, [], _∷_, _++_}
+use lib.Dec.{eqb}
+use lib.ListN.{length, getD, take, drop}
+use Rattle.trees.specs.declared.Reason.{Reason}
+use Rattle.trees.specs.declared.Reason.the-variants.{BadByte, EndsTooSoon, LabelTooLong, TooMany, Repeated}
+use Rattle.trees.specs.Bytes.{isLabelByte}
+use Rattle.trees.specs.Label.{Label, labelLimit}
+use Rattle.trees.specs.Reading.{labelRun}
+use Rattle.trees.specs.Refusals.{numberOf}
+
+-- a text that can be continued to one of the grammar
+abbrev pub Continues : (List ℕ → Type 0) → List ℕ → Type 0
+Continues Whole p = (q : List ℕ) × Whole (p ++ q)
+
+-- a label begins at place j: a label byte that may stand there, and no label byte just before it
+pub record LabelStarts (Whole : List ℕ → Type 0) (text : List ℕ) (j : ℕ) : Type 0 where
+  pub inside : j < length text
+  pub labelByte : isLabelByte (getD text j 0) ≡ true
+  pub first : (k : ℕ) → suc k ≡ j → isLabelByte (getD text k 0) ≡ false
+  pub allowed : Continues Whole (take (suc j) text)
+
+-- the label that begins at j
+abbrev pub labelFrom : List ℕ → ℕ → Label
+labelFrom text j = labelRun (drop j text)
+
+pub data Fault (Whole : List ℕ → Type 0) (Crowd : List ℕ → ℕ → Type 0) (text : List ℕ) : Reason → ℕ → Type 0 where
+  -- 1, "a byte cannot stand there"
+  bad-byte : (i : ℕ) → i < length text → Continues Whole (take i text) → (Continues Whole (take (suc i) text) → ⊥)
+      → Fault Whole Crowd text BadByte i
+  -- 2, "the text ends too soon", at its length
+  ends-too-soon : Continues Whole text → (Whole text → ⊥) → Fault Whole Crowd text EndsTooSoon (length text)
+  -- 3, "a label passes 16 bytes", at its 17th byte
+  label-too-long : (j : ℕ) → LabelStarts Whole text j → labelLimit < length (labelFrom text j)
+      → Fault Whole Crowd text LabelTooLong (j + labelLimit)
+  -- 4
+  too-many : (i : ℕ) → Crowd text i → Fault Whole Crowd text TooMany i
+  -- 5, "a label repeats in its body", at the repeat's first byte; an overlong one is not compared
+  repeated : (j k : ℕ) → k < j → LabelStarts Whole text j → LabelStarts Whole text k
+      → length (labelFrom text j) ≤ labelLimit → labelFrom text k ≡ labelFrom text j → Fault Whole Crowd text Repeated j
+
+-- "In one body the refusal with the smallest place is given. At the same place 4 goes before 5."
+pub record FirstFault (Whole : List ℕ → Type 0) (Crowd : List ℕ → ℕ → Type 0) (text : List ℕ) (r : Reason) (i : ℕ) : Type 0 where
+  pub here : Fault Whole Crowd text r i
+  pub first : (q : Reason) (j : ℕ) → Fault Whole Crowd text q j → (i < j) ⊎ ((i ≡ j) × (numberOf r ≤ numberOf q))
+
+-- how often a byte stands in a text
+unfoldable pub occurrences : ℕ → List ℕ → ℕ
+occurrences b [] = 0
+occurrences b (x ∷ xs) = cond (eqb b x) (suc (occurrences b xs)) (occurrences b xs)

@@ -1,0 +1,60 @@
+-- Labels as lists of bytes, and their order. Scope paper, "Tree text".
+use Prim.Native.Nat.{ℕ}
+use mathlib.Core.Bool.{Bool, true, false, cond, _&&_, _||_}
+use mathlib.Core.List.{List, [], _∷_}
+use lib.Dec.{eqb, ltb, leb}
+use lib.ListN.{length}
+use Rattle.trees.specs.declared.Order.{Order}
+use Rattle.trees.specs.declared.Order.the-variants.{Less, Equal, Greater}
+use Rattle.trees.specs.Bytes.{isLabelByte}
+
+abbrev pub Label : Type 0
+Label = List ℕ
+
+-- "It has 1 to 16 bytes"
+abbrev pub labelLimit : ℕ
+labelLimit = 16
+
+-- "Case matters": labels are equal byte for byte
+unfoldable pub sameLabel : Label → Label → Bool
+sameLabel [] [] = true
+sameLabel [] (b ∷ y) = false
+sameLabel (a ∷ x) [] = false
+sameLabel (a ∷ x) (b ∷ y) = eqb a b && sameLabel x y
+
+-- "Label order is by byte value, a shorter label before any longer one that begins with it"
+unfoldable pub labelLess : Label → Label → Bool
+labelLess [] [] = false
+labelLess [] (b ∷ y) = true
+labelLess (a ∷ x) [] = false
+labelLess (a ∷ x) (b ∷ y) = ltb a b || (eqb a b && labelLess x y)
+
+-- the three outcomes of a comparison
+unfoldable pub orderOf : Label → Label → Order
+orderOf x y = cond (labelLess x y) Less (cond (labelLess y x) Greater Equal)
+
+unfoldable pub isIn : Label → List Label → Bool
+isIn x [] = false
+isIn x (y ∷ ys) = sameLabel x y || isIn x ys
+
+-- no label stands twice
+unfoldable pub distinct : List Label → Bool
+distinct [] = true
+distinct (x ∷ xs) = cond (isIn x xs) false (distinct xs)
+
+unfoldable pub allLabelBytes : List ℕ → Bool
+allLabelBytes [] = true
+allLabelBytes (b ∷ x) = isLabelByte b && allLabelBytes x
+
+-- label bytes only, 1 to 16 of them
+unfoldable pub goodLabel : Label → Bool
+goodLabel x = leb 1 (length x) && leb (length x) labelLimit && allLabelBytes x
+
+unfoldable pub goodLabels : List Label → Bool
+goodLabels [] = true
+goodLabels (x ∷ xs) = goodLabel x && goodLabels xs
+
+-- label bytes only, one at least, however many
+unfoldable pub looseLabels : List Label → Bool
+looseLabels [] = true
+looseLabels (x ∷ xs) = leb 1 (length x) && allLabelBytes x && looseLabels xs

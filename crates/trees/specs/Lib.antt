@@ -1,0 +1,10 @@
+pub mod Arrays
+pub mod Bytes
+pub mod Faults
+pub mod Label
+pub mod Postorder
+pub mod Reading
+pub mod Refusals
+pub mod Stored
+pub mod Text
+pub mod Tree

@@ -1,0 +1,20 @@
+-- Labels kept apart from their text, and parts of a text.
+use Prim.Native.Nat.{ℕ, _+_, _-_}
+use mathlib.Core.Bool.{cond}
+use mathlib.Core.List.{List, [], _++_}
+use lib.Dec.{leb}
+use lib.ListN.{length, take, drop, replicate}
+use Rattle.trees.specs.declared.StoredLabel.{StoredLabel}
+use Rattle.trees.specs.Label.{Label, labelLimit}
+
+-- the label that is kept: of a length past 16 the array's 16 bytes count
+unfoldable pub storedBytes : StoredLabel → Label
+storedBytes l = take (l .len) (l .bytes)
+
+-- a label as it is kept: its bytes, then 0 up to 16
+unfoldable pub storedOf : Label → StoredLabel
+storedOf x = record { bytes = x ++ replicate (labelLimit - length x) 0; len = length x }
+
+-- the `size` bytes from `start`, or nothing where they run past the end
+unfoldable pub partOf : ℕ → ℕ → List ℕ → List ℕ
+partOf start size text = cond (leb (start + size) (length text)) (take size (drop start text)) []

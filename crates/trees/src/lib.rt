@@ -1,0 +1,491 @@
+// Labels, byte classes, refusals and tree arrays: the data that every crate above shares.
+//
+// No public function has a `requires`: each answers for all inputs.
+ghost use mathlib.Core.Path.{_≡_};
+ghost use Prim.Native.Nat.{_≤_};
+ghost use lib.ListN.{getD, length, take};
+ghost use Rattle.trees.specs.Bytes.{classTable, kindOfCode};
+ghost use Rattle.trees.specs.Label.{orderOf};
+ghost use Rattle.trees.specs.Refusals.{numberOf, letterOf};
+ghost use Rattle.trees.specs.Arrays.{shownLabel};
+ghost use Rattle.trees.specs.Stored.{storedBytes, storedOf, partOf};
+
+// What a byte of a tree text can be. Each of the 256 byte values has one kind.
+pub enum Kind {
+    Label,
+    Open,
+    Close,
+    Comma,
+    Semicolon,
+    Other,
+}
+
+// Where one label stands against another in label order.
+pub enum Order {
+    Less,
+    Equal,
+    Greater,
+}
+
+// Why a job is turned down; the numbers are in specs/Refusals.antt.
+pub enum Reason {
+    BadByte,
+    EndsTooSoon,
+    LabelTooLong,
+    TooMany,
+    Repeated,
+    FirstLacks,
+    SecondLacks,
+    Disagree,
+    TooShort,
+    Contents,
+    JobTooLong,
+}
+
+// The body that a refusal speaks of.
+pub enum Body {
+    S,
+    T,
+    K,
+    J,
+    O,
+}
+
+// A refusal: its reason, the body and the byte offset in that body.
+pub struct Refusal {
+    pub reason: Reason,
+    pub body: Body,
+    pub place: usize,
+}
+
+// A label kept apart from its text: the first `len` bytes count.
+pub struct StoredLabel {
+    pub bytes: [u8; 16],
+    pub len: usize,
+}
+
+// A tree as arrays: children before parents, the root last, a leaf its own left child.
+// A leaf's label is the `size` bytes of the text from `start`.
+pub struct TreeArrays {
+    pub nodes: usize,
+    pub left: [usize; 159],
+    pub right: [usize; 159],
+    pub start: [usize; 159],
+    pub size: [usize; 159],
+}
+
+// The class of each byte value: 1 a label byte, 2 `(`, 3 `)`, 4 `,`, 5 `;`, 0 any other.
+const CLASSES: [u8; 256] = [
+    0,
+    0,
+    0,
+    0,
+    0,
+    0,
+    0,
+    0,
+    0,
+    0,
+    0,
+    0,
+    0,
+    0,
+    0,
+    0,
+    0,
+    0,
+    0,
+    0,
+    0,
+    0,
+    0,
+    0,
+    0,
+    0,
+    0,
+    0,
+    0,
+    0,
+    0,
+    0,
+    0,
+    0,
+    0,
+    0,
+    0,
+    0,
+    0,
+    0,
+    2,
+    3,
+    0,
+    0,
+    4,
+    1,
+    1,
+    0,
+    1,
+    1,
+    1,
+    1,
+    1,
+    1,
+    1,
+    1,
+    1,
+    1,
+    0,
+    5,
+    0,
+    0,
+    0,
+    0,
+    0,
+    1,
+    1,
+    1,
+    1,
+    1,
+    1,
+    1,
+    1,
+    1,
+    1,
+    1,
+    1,
+    1,
+    1,
+    1,
+    1,
+    1,
+    1,
+    1,
+    1,
+    1,
+    1,
+    1,
+    1,
+    1,
+    1,
+    0,
+    0,
+    0,
+    0,
+    1,
+    0,
+    1,
+    1,
+    1,
+    1,
+    1,
+    1,
+    1,
+    1,
+    1,
+    1,
+    1,
+    1,
+    1,
+    1,
+    1,
+    1,
+    1,
+    1,
+    1,
+    1,
+    1,
+    1,
+    1,
+    1,
+    1,
+    1,
+    0,
+    0,
+    0,
+    0,
+    0,
+    0,
+    0,
+    0,
+    0,
+    0,
+    0,
+    0,
+    0,
+    0,
+    0,
+    0,
+    0,
+    0,
+    0,
+    0,
+    0,
+    0,
+    0,
+    0,
+    0,
+    0,
+    0,
+    0,
+    0,
+    0,
+    0,
+    0,
+    0,
+    0,
+    0,
+    0,
+    0,
+    0,
+    0,
+    0,
+    0,
+    0,
+    0,
+    0,
+    0,
+    0,
+    0,
+    0,
+    0,
+    0,
+    0,
+    0,
+    0,
+    0,
+    0,
+    0,
+    0,
+    0,
+    0,
+    0,
+    0,
+    0,
+    0,
+    0,
+    0,
+    0,
+    0,
+    0,
+    0,
+    0,
+    0,
+    0,
+    0,
+    0,
+    0,
+    0,
+    0,
+    0,
+    0,
+    0,
+    0,
+    0,
+    0,
+    0,
+    0,
+    0,
+    0,
+    0,
+    0,
+    0,
+    0,
+    0,
+    0,
+    0,
+    0,
+    0,
+    0,
+    0,
+    0,
+    0,
+    0,
+    0,
+    0,
+    0,
+    0,
+    0,
+    0,
+    0,
+    0,
+    0,
+    0,
+    0,
+    0,
+    0,
+    0,
+    0,
+    0,
+    0,
+    0,
+    0,
+    0,
+    0,
+    0,
+    0,
+    0,
+    0,
+    0,
+    0,
+    0,
+    0,
+    0,
+    0,
+    0,
+];
+
+// The class table, to be fetched once and lent to `kind_in`.
+pub fn classes() -> [u8; 256]
+    ensures { λ r. ⌜ r ≡ classTable ⌝ }
+{
+    CLASSES
+}
+
+// The kind that a class table tells of a byte.
+pub fn kind_in(table: &[u8; 256], b: u8) -> Kind
+    ensures { λ r. ⌜ r ≡ kindOfCode (getD (now (table .entry)) b 0) ⌝ }
+{
+    let i = b as usize;
+    let class = table[i];
+    match class {
+        1 => Kind::Label,
+        2 => Kind::Open,
+        3 => Kind::Close,
+        4 => Kind::Comma,
+        5 => Kind::Semicolon,
+        _ => Kind::Other,
+    }
+}
+
+// The number of a reason.
+pub fn number(r: Reason) -> u8
+    ensures { λ n. ⌜ n ≡ numberOf r ⌝ }
+{
+    match r {
+        Reason::BadByte => 1,
+        Reason::EndsTooSoon => 2,
+        Reason::LabelTooLong => 3,
+        Reason::TooMany => 4,
+        Reason::Repeated => 5,
+        Reason::FirstLacks => 6,
+        Reason::SecondLacks => 7,
+        Reason::Disagree => 8,
+        Reason::TooShort => 9,
+        Reason::Contents => 10,
+        Reason::JobTooLong => 11,
+    }
+}
+
+// The letter of a body.
+pub fn letter(b: Body) -> u8
+    ensures { λ n. ⌜ n ≡ letterOf b ⌝ }
+{
+    match b {
+        Body::S => b'S',
+        Body::T => b'T',
+        Body::K => b'K',
+        Body::J => b'J',
+        Body::O => b'O',
+    }
+}
+
+// Where `a` stands against `b` in label order: the first byte that differs decides, else the length.
+pub fn compare(a: &[u8], b: &[u8]) -> Order
+    ensures { λ r. ⌜ r ≡ orderOf (now (a .entry)) (now (b .entry)) ⌝ }
+{
+    let mut i: usize = 0;
+    while i < a.len() {
+        if b.len() <= i {
+            return Order::Greater;
+        }
+        if a[i] < b[i] {
+            return Order::Less;
+        }
+        if b[i] < a[i] {
+            return Order::Greater;
+        }
+        i += 1;
+    }
+    if i < b.len() {
+        Order::Less
+    } else {
+        Order::Equal
+    }
+}
+
+// The first `len` bytes, or all of them where they are fewer.
+fn first_bytes<'a>(bytes: &'a [u8], len: usize) -> &'a [u8]
+    ensures { λ r. ⌜ now r ≡ take len (now (bytes .entry)) ⌝ }
+{
+    if len <= bytes.len() {
+        &bytes[..len]
+    } else {
+        bytes
+    }
+}
+
+// The same for labels kept apart from their text.
+pub fn compare_stored(a: StoredLabel, b: StoredLabel) -> Order
+    ensures { λ r. ⌜ r ≡ orderOf (storedBytes a) (storedBytes b) ⌝ }
+{
+    let x = a.bytes;
+    let y = b.bytes;
+    compare(first_bytes(&x, a.len), first_bytes(&y, b.len))
+}
+
+// The `size` bytes from `start` as a part of the caller's text, or nothing where they run past the end.
+pub fn part<'a>(text: &'a [u8], start: usize, size: usize) -> &'a [u8]
+    ensures { λ r. ⌜ now r ≡ partOf start size (now (text .entry)) ⌝ }
+{
+    if text.len() < start {
+        return &text[..0];
+    }
+    if text.len() - start < size {
+        return &text[..0];
+    }
+    &text[start..start + size]
+}
+
+// A leaf's label as the part of the caller's text that holds it; nothing where u is no leaf with a label in the text.
+pub fn leaf_label<'a>(text: &'a [u8], tree: TreeArrays, u: usize) -> &'a [u8]
+    ensures { λ r. ⌜ now r ≡ shownLabel tree (now (text .entry)) u ⌝ }
+{
+    let nodes = tree.nodes;
+    if nodes <= u {
+        return &text[..0];
+    }
+    if 159 < nodes {
+        return &text[..0];
+    }
+    let left = tree.left[u];
+    if left != u {
+        return &text[..0];
+    }
+    let size = tree.size[u];
+    if 16 < size {
+        return &text[..0];
+    }
+    let start = tree.start[u];
+    part(text, start, size)
+}
+
+// A label as it is kept apart from its text, 0 after its last byte.
+fn stored(label: &[u8]) -> StoredLabel
+    requires { ⌜ length (now label) ≤ 16 ⌝ }
+    ensures { λ r. ⌜ r ≡ storedOf (now (label .entry)) ⌝ }
+{
+    let mut bytes = [0u8; 16];
+    let mut i: usize = 0;
+    while i < label.len() {
+        bytes[i] = label[i];
+        i += 1;
+    }
+    StoredLabel { bytes, len: i }
+}
+
+// A leaf's label, kept apart from the text.
+pub fn stored_leaf(text: &[u8], tree: TreeArrays, u: usize) -> StoredLabel
+    ensures { λ r. ⌜ r ≡ storedOf (shownLabel tree (now (text .entry)) u) ⌝ }
+{
+    stored(leaf_label(text, tree, u))
+}

@@ -1,0 +1,105 @@
+-- The invariant: each label passed has its leaf number. Assumes nothing.
+use mathlib.Core.Path.{ap, _≡_, _∙_}
+use mathlib.Core.List.{List}
+use Prim.Native.Nat.{ℕ, _≤_, _<_, _-_}
+use native.Mathlib.Omega.{arith}
+use borrow.Author.Needs.{needs}
+use lib.ListN.{length, getD, length-set, length-replicate}
+use Rattle.leaves.specs.Find.{foundLeaf}
+use Rattle.triples.specs.Loops.{labelIn}
+use Rattle.triples.proofs.LoopLaws.{store-next}
+use Rattle.triples.proofs.leaf_numbers.Statement.{statement}
+use Rattle.triples.proofs.leaf_numbers.Tie as tie
+
+abbrev Inv-loop : tie.InvT-loop
+Inv-loop text list left start size nodes list-start list-size count leaf₀ k₀ leaf k =
+    (k ≤ count) × (length leaf ≡ 80) × ((i : ℕ) → i < k → getD leaf i 0 ≡ foundLeaf text left start size
+    (labelIn list list-start list-size i) nodes)
+
+abbrev μ-loop : tie.MeasureT-loop
+μ-loop text list left start size nodes list-start list-size count leaf₀ k₀ leaf k =
+    count - k
+
+loop-holds : tie.Need-loop-holds Inv-loop μ-loop
+loop-holds c =
+    (omega arith, simp length-replicate, λ v h. absurd (omega arith))
+
+mul-from : tie.Need-mul-from Inv-loop μ-loop
+mul-from c =
+    omega arith
+
+array-read-from : tie.Need-array-read-from Inv-loop μ-loop
+array-read-from c =
+    omega arith
+
+mul-bytes : tie.Need-mul-bytes Inv-loop μ-loop
+mul-bytes c =
+    omega arith
+
+array-read-bytes : tie.Need-array-read-bytes Inv-loop μ-loop
+array-read-bytes c =
+    omega arith
+
+part-requires : tie.Need-part-requires Inv-loop μ-loop
+part-requires c κs =
+    search needs
+
+find-leaf-requires : tie.Need-find-leaf-requires Inv-loop μ-loop
+find-leaf-requires c κs =
+    search needs
+
+mul-leaf : tie.Need-mul-leaf Inv-loop μ-loop
+mul-leaf c =
+    omega arith
+
+array-write-leaf : tie.Need-array-write-leaf Inv-loop μ-loop
+array-write-leaf c =
+    omega arith
+
+add-k : tie.Need-add-k Inv-loop μ-loop
+add-k c =
+    omega arith
+
+loop-less : tie.Need-loop-less Inv-loop μ-loop
+loop-less c =
+    omega arith
+
+loop-again : tie.Need-loop-again Inv-loop μ-loop
+unfolding labelIn
+loop-again c =
+    let c4 = c .before .before .before .before in
+    let c6 = c4 .before .before in
+    let c14 = c6 .before .before .before .before .before .before .before .before in
+    let l = c6 .loop .inv .1 in
+    let a = c14 .args in (
+      omega arith,
+      simp length-set l,
+      store-next (λ i x. x ≡ foundLeaf (a .text .now) (a .tree .left) (a .tree .start) (a .tree .size)
+          (labelIn (a .list .now) (a .places .start) (a .places .size) i) (a .tree .nodes)) (c6 .loop .leaf) (c6 .loop .k) _ (omega
+          (arith, l)) (c6 .loop .inv .2) (c .find-leaf .ensures ∙ ap (λ (p : List ℕ). foundLeaf (a .text .now) (a .tree .left)
+          (a .tree .start) (a .tree .size) p (a .tree .nodes)) (c4 .part .ensures)),
+    )
+
+returns : tie.Need-returns Inv-loop μ-loop
+returns c =
+    λ u h. c .before .loop .inv .2 u (omega arith)
+
+pub leaf-numbers-spec : {M : Type 1} → statement M
+leaf-numbers-spec =
+    tie.close
+    (tie.spec
+    Inv-loop
+    μ-loop
+    loop-holds
+    mul-from
+    array-read-from
+    mul-bytes
+    array-read-bytes
+    part-requires
+    find-leaf-requires
+    mul-leaf
+    array-write-leaf
+    add-k
+    loop-less
+    loop-again
+    returns)

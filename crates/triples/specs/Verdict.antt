@@ -1,0 +1,44 @@
+-- The verdict on two tree texts and a list of labels. Scope paper, "Agreement" and rows 1 to 8 of "Why a job is turned down".
+use Prim.Native.Nat.{ℕ}
+use mathlib.Core.List.{List}
+use Rattle.trees.specs.declared.Reason.{Reason}
+use Rattle.trees.specs.declared.Reason.the-variants.{FirstLacks, SecondLacks}
+use Rattle.trees.specs.declared.Body.{Body}
+use Rattle.trees.specs.declared.Body.the-variants.{S, T, K}
+use Rattle.trees.specs.declared.Refusal.{Refusal}
+use Rattle.trees.specs.Label.{Label}
+use Rattle.trees.specs.Tree.{Tree}
+use Rattle.trees.specs.Reading.{Reading, good, refused}
+use Rattle.newick.specs.ReadTree.{readTree}
+use Rattle.lists.specs.ReadList.{readList}
+use Rattle.agreement.specs.Answer.{Answer, firstLacks, secondLacks, disagree, largest, answer}
+use Rattle.agreement.specs.Places.{placeOfNumber, placeOfLabel}
+use Rattle.triples.specs.declared.Agreement.{Agreement}
+use Rattle.triples.specs.declared.Agreement.the-variants.{Agreed, Disagree, Refused}
+
+-- the trees agree on the list exactly if the answer that has to hold it is a set
+unfoldable pub verdictOf : List Label → Answer → Agreement
+verdictOf xs (firstLacks n) = Refused (record { reason = FirstLacks; body = K; place = placeOfNumber xs n })
+verdictOf xs (secondLacks n) = Refused (record { reason = SecondLacks; body = K; place = placeOfNumber xs n })
+verdictOf xs (disagree a b c) = Disagree (placeOfLabel xs 0 a) (placeOfLabel xs 0 b) (placeOfLabel xs 0 c)
+verdictOf xs (largest X) = Agreed
+
+unfoldable pub verdictOnList : Tree → Tree → Reading (List Label) → Agreement
+unfolding verdictOf
+verdictOnList s t (good xs) = verdictOf xs (answer s t xs)
+verdictOnList s t (refused r i) = Refused (record { reason = r; body = K; place = i })
+
+unfoldable pub verdictOnSecond : Tree → Reading Tree → Reading (List Label) → Agreement
+unfolding verdictOnList
+verdictOnSecond s (good t) list = verdictOnList s t list
+verdictOnSecond s (refused r i) list = Refused (record { reason = r; body = T; place = i })
+
+-- "Order: S, T, K, then 6 or 7, then 8"; "A body that fails to read ends the job there"
+unfoldable pub verdictOn : Reading Tree → Reading Tree → Reading (List Label) → Agreement
+unfolding verdictOnSecond
+verdictOn (good s) second list = verdictOnSecond s second list
+verdictOn (refused r i) second list = Refused (record { reason = r; body = S; place = i })
+
+unfoldable pub verdict : List ℕ → List ℕ → List ℕ → Agreement
+unfolding verdictOn
+verdict first second list = verdictOn (readTree first) (readTree second) (readList list)

@@ -1,0 +1,60 @@
+// Runs a stored stream of jobs through `job` and writes each answer as `agree` would. A case is the job's length as two bytes,
+// and the job.
+use job::JobAnswer;
+use job::LineAnswer;
+ghost use Prim.Native.Nat.{_<_};
+
+fn write_line(out: &[u8], written: LineAnswer) {
+    if let LineAnswer::Written(n) = written {
+        io::write_all(1, trees::part(out, 0, n));
+    }
+}
+
+fn wide(b: u8) -> usize
+    ensures { λ r. ⌜ r < 256 ⌝ }
+{
+    b as usize
+}
+
+// The answer to one job.
+fn run_job(text: &[u8]) {
+    let mut area = io::buffer();
+    let out: &mut [u8] = &mut area;
+    let answer = job::answer_job(text, out);
+    match answer {
+        JobAnswer::Written(bytes) => write_line(out, LineAnswer::Written(bytes)),
+        JobAnswer::Disagree(named) => {
+            let written = job::disagreement_line(text, named, out);
+            write_line(out, written)
+        }
+        JobAnswer::Refused(refusal) => {
+            let written = job::refusal_line(refusal, out);
+            write_line(out, written)
+        }
+    }
+}
+
+// The next case of the stream; false where there is none.
+fn run_case() -> bool {
+    let mut head = [0u8; 2];
+    let got = io::read_full(0, &mut head);
+    if got < 2 {
+        return false;
+    }
+    let size = wide(head[0]) * 256 + wide(head[1]);
+    let mut area = io::large_buffer();
+    let body: &mut [u8] = &mut area;
+    let n = io::read_full(0, &mut body[..size]);
+    run_job(trees::part(body, 0, n));
+    true
+}
+
+fn main() {
+    let mut left: usize = 100000;
+    while 0 < left {
+        if !run_case() {
+            return;
+        }
+        left -= 1;
+    }
+}

@@ -1,0 +1,5 @@
+pub mod NodeLaws
+pub mod PassLaws
+pub mod StepLaws
+pub mod WriteLaws
+pub mod Promises

@@ -1,0 +1,232 @@
+-- What the passes find: the number of leaves, the length of the written text and the smallest label below each node.
+-- Assumes nothing.
+use Prim.Native.Nat.{ℕ, zero, suc, _+_, _*_, _≤_, _<_, min}
+use mathlib.Core.Path.{_≡_, refl, sym, _∙_, ap, ap₂, subst}
+use mathlib.Core.Bool.{Bool, true, false, cond}
+use mathlib.Core.Logic.{_⊎_, inl, inr}
+use mathlib.Core.List.{List, [], _∷_, _++_}
+use native.Mathlib.Nat.{le-of-suc-le-suc, not-suc-le-zero, eq-or-lt-of-le}
+use native.Mathlib.Numerals.{add-one}
+use native.Mathlib.Omega.{arith}
+use borrow.Author.Tests.{ne-eqb}
+use lib.ListN.{length, getD, set, replicate, length-append, length-set, length-take, length-drop, getD-replicate}
+use lib.Seq.{getD-set-same, getD-set-other}
+use Rattle.trees.specs.declared.TreeArrays.{TreeArrays}
+use Rattle.trees.specs.Label.{Label, labelLess}
+use Rattle.trees.specs.Tree.{Tree, leaf, node, leaves, smallest, normal}
+use Rattle.trees.specs.Text.{written}
+use Rattle.trees.specs.Arrays.{isLeaf, labelAt, goodNodes}
+use Rattle.trees.proofs.Bools.{bool-cases}
+use Rattle.writer.specs.Passes.{pass, sumAt, labelIn, goesFirst, leastAt, below, nodeText, Leasts}
+use Rattle.writer.proofs.NodeLaws.{by-number, good-at, leaf-size, leaf-end, left-below, right-below, below-leaf, below-node}
+
+abbrev in-order : Bool → Tree → Tree → Tree
+in-order b x y = cond b (node x y) (node y x)
+
+-- `(`, `,` and `)`
+pair-length : (x y : List ℕ) → length (40 ∷ (x ++ (44 ∷ (y ++ (41 ∷ []))))) ≡ length x + length y + 3
+pair-length x y = omega (arith, length-append x (44 ∷ (y ++ (41 ∷ []))), length-append y (41 ∷ []))
+
+pub pass-length : (f : List ℕ → ℕ → ℕ) (t : List ℕ) (n : ℕ) → length (pass f t n) ≡ length t
+unfolding pass
+pass-length f t zero = refl
+pass-length f t (suc n) = length-set (pass f t n) n (f (pass f t n) n) ∙ pass-length f t n
+
+-- a turn of the loop
+pub pass-step : (f : List ℕ → ℕ → ℕ) (t s : List ℕ) (n v : ℕ) → s ≡ pass f t n → v ≡ f s n → set s n v ≡ pass f t (n + 1)
+unfolding pass
+pass-step f t s n v e d = ap (set s n) d ∙ ap (λ (x : List ℕ). set x n (f x n)) e ∙ rw (add-one n)
+
+-- what each entry has by those before it, every entry has
+pub pass-holds : (P : ℕ → ℕ → Type 0) (f : List ℕ → ℕ → ℕ) (t : List ℕ) (n : ℕ) → n ≤ length t
+    → ((s : List ℕ) (u : ℕ) → u < n → ((k : ℕ) → k < u → P k (getD s k 0)) → P u (f s u))
+    → (u : ℕ) → u < n → P u (getD (pass f t n) u 0)
+unfolding pass
+pass-holds P f t zero l step u h = absurd (not-suc-le-zero h)
+pass-holds P f t (suc n) l step u h =
+    go (pass-holds P f t n (omega arith) (λ s v hv. step s v (omega arith))) (eq-or-lt-of-le (le-of-suc-le-suc h))
+  where
+    last : ((v : ℕ) → v < n → P v (getD (pass f t n) v 0)) → P n (getD (set (pass f t n) n (f (pass f t n) n)) n 0)
+    last ih =
+        subst (P n) (sym (getD-set-same (pass f t n) n (f (pass f t n) n) 0 (omega (arith, pass-length f t n))))
+        (step (pass f t n) n (omega arith) ih)
+
+    go : ((v : ℕ) → v < n → P v (getD (pass f t n) v 0)) → (u ≡ n) ⊎ (u < n)
+        → P u (getD (set (pass f t n) n (f (pass f t n) n)) u 0)
+    go ih (inl e) = subst (λ (k : ℕ). P k (getD (set (pass f t n) n (f (pass f t n) n)) k 0)) (sym e) (last ih)
+    go ih (inr m) =
+        subst (P u) (sym (getD-set-other (pass f t n) n u (f (pass f t n) n) 0 (λ (e : u ≡ n). omega arith))) (ih u m)
+
+module _ (a : TreeArrays) (text : List ℕ) (n : ℕ) (g : goodNodes a text n ≡ true) where
+  -- a measure of trees that adds up at nodes is found by a pass of sums, at most the cap
+  pub sums-found : (f : Tree → ℕ) (w : List ℕ) (plus cap : ℕ)
+      → ((u : ℕ) → u < n → isLeaf a u ≡ true → f (leaf (labelAt a text u)) ≡ getD w u 0 + plus)
+      → ((x y : Tree) → f (node x y) ≡ f x + f y)
+      → (t : List ℕ) → n ≤ length t
+      → (u : ℕ) → u < n → getD (pass (sumAt (a .left) (a .right) w plus cap) t n) u 0 ≡ min cap (f (below a text u))
+  unfolding sumAt isLeaf
+  sums-found f w plus cap at-leaf at-node t l =
+      pass-holds (λ u v. v ≡ min cap (f (below a text u))) (sumAt (a .left) (a .right) w plus cap) t n l
+      (λ s u h all. go s u h all (bool-cases (isLeaf a u)))
+    where
+      go : (s : List ℕ) (u : ℕ) → u < n → ((k : ℕ) → k < u → getD s k 0 ≡ min cap (f (below a text k)))
+          → (isLeaf a u ≡ true) ⊎ (isLeaf a u ≡ false)
+          → sumAt (a .left) (a .right) w plus cap s u ≡ min cap (f (below a text u))
+      go s u h all (inl e) = rw e (ap (min cap) (sym (ap f (below-leaf a text u e) ∙ at-leaf u h e)))
+      go s u h all (inr e) =
+          let x : ℕ = getD (a .left) u 0 in
+          let y : ℕ = getD (a .right) u 0 in
+          let p : getD s x 0 ≡ min cap (f (below a text x)) = all x (left-below a text u (good-at a text n u g h) e) in
+          let q : getD s y 0 ≡ min cap (f (below a text y)) = all y (right-below a text u (good-at a text n u g h) e) in
+          let d : f (below a text u) ≡ f (below a text x) + f (below a text y) =
+          ap f (below-node a text n g u h e) ∙ at-node (below a text x) (below a text y) in
+          rw e (omega arith)
+
+  label-length : (u : ℕ) → u < n → isLeaf a u ≡ true → length (labelAt a text u) ≡ getD (a .size) u 0
+  unfolding labelAt
+  label-length u h e =
+      simp (length-take, length-drop) (omega (arith, leaf-end a text u (good-at a text n u g h) e))
+
+  pub leaves-found : (t : List ℕ) → n ≤ length t → n ≤ 159
+      → (u : ℕ) → u < n
+      → getD (pass (sumAt (a .left) (a .right) (replicate 159 0) 1 81) t n) u 0 ≡ min 81 (length (leaves (below a text u)))
+  unfolding leaves
+  leaves-found t l m =
+      sums-found (λ x. length (leaves x)) (replicate 159 0) 1 81
+      (λ u h e. ap (λ (k : ℕ). k + 1) (sym (getD-replicate 159 u 0 0 (omega arith))))
+      (λ x y. length-append (leaves x) (leaves y)) t l
+
+  pub lengths-found : (t : List ℕ) → n ≤ length t
+      → (u : ℕ) → u < n
+      → getD (pass (sumAt (a .left) (a .right) (a .size) 3 1521) t n) u 0 ≡ min 1521 (length (written (below a text u)) + 3)
+  unfolding written
+  lengths-found t l =
+      sums-found (λ x. length (written x) + 3) (a .size) 3 1521 (λ u h e. ap (λ (k : ℕ). k + 3) (label-length u h e))
+      (λ x y. omega (arith, pair-length (written x) (written y))) t l
+
+  -- at most 16 bytes a leaf, and at most three more
+  pub written-bound : (u : ℕ) → u < n → length (written (below a text u)) + 3 ≤ 19 * length (leaves (below a text u))
+  unfolding written leaves
+  written-bound = by-number (λ u. u < n → length (written (below a text u)) + 3 ≤ 19 * length (leaves (below a text u)))
+      (λ u all h. go u all h (bool-cases (isLeaf a u)))
+    where
+      go : (u : ℕ) → ((k : ℕ) → k < u → k < n → length (written (below a text k)) + 3 ≤ 19 * length (leaves (below a text k)))
+          → u < n → (isLeaf a u ≡ true) ⊎ (isLeaf a u ≡ false)
+          → length (written (below a text u)) + 3 ≤ 19 * length (leaves (below a text u))
+      go u all h (inl e) = rw (below-leaf a text u e) (omega (arith, label-length u h e, leaf-size a text u (good-at a text n u g h) e))
+      go u all h (inr e) =
+          let x : Tree = below a text (getD (a .left) u 0) in
+          let y : Tree = below a text (getD (a .right) u 0) in
+          let l : getD (a .left) u 0 < u = left-below a text u (good-at a text n u g h) e in
+          let r : getD (a .right) u 0 < u = right-below a text u (good-at a text n u g h) e in
+          rw (below-node a text n g u h e)
+          (omega (
+            arith,
+            all (getD (a .left) u 0) l (omega arith),
+            all (getD (a .right) u 0) r (omega arith),
+            length-append (leaves x) (leaves y),
+            pair-length (written x) (written y),
+          ))
+
+  pub leasts-found : (t : List ℕ) → n ≤ length t → Leasts a text (pass (leastAt text (a .left) (a .right) (a .start) (a .size)) t n) n
+  unfolding leastAt isLeaf labelAt smallest goesFirst
+  leasts-found t l =
+      pass-holds (λ u v. labelIn text (a .start) (a .size) v ≡ smallest (below a text u))
+      (leastAt text (a .left) (a .right) (a .start) (a .size)) t n l
+      (λ s u h all. go s u h all (bool-cases (isLeaf a u)))
+    where
+      pair : (i j : ℕ) (x y : Label) (b : Bool) → labelIn text (a .start) (a .size) i ≡ x → labelIn text (a .start) (a .size) j ≡ y
+          → labelIn text (a .start) (a .size) (cond b i j) ≡ cond b x y
+      pair i j x y true p q = p
+      pair i j x y false p q = q
+
+      go : (s : List ℕ) (u : ℕ) → u < n → ((k : ℕ) → k < u → labelIn text (a .start) (a .size) (getD s k 0) ≡ smallest (below a text k))
+          → (isLeaf a u ≡ true) ⊎ (isLeaf a u ≡ false)
+          → labelIn text (a .start) (a .size) (leastAt text (a .left) (a .right) (a .start) (a .size) s u) ≡ smallest (below a text u)
+      go s u h all (inl e) = rw (e, below-leaf a text u e) refl
+      go s u h all (inr e) =
+          let x : ℕ = getD (a .left) u 0 in
+          let y : ℕ = getD (a .right) u 0 in
+          let p : labelIn text (a .start) (a .size) (getD s x 0) ≡ smallest (below a text x) =
+          all x (left-below a text u (good-at a text n u g h) e) in
+          let q : labelIn text (a .start) (a .size) (getD s y 0) ≡ smallest (below a text y) =
+          all y (right-below a text u (good-at a text n u g h) e) in
+          let b : Bool = labelLess (labelIn text (a .start) (a .size) (getD s x 0)) (labelIn text (a .start) (a .size) (getD s y 0)) in
+          ap (λ (d : Bool). labelIn text (a .start) (a .size) (cond d u (cond b (getD s x 0) (getD s y 0)))) e
+          ∙ pair (getD s x 0) (getD s y 0) (smallest (below a text x)) (smallest (below a text y)) b p q
+          ∙ ap (λ (d : Bool). cond d (smallest (below a text x)) (smallest (below a text y))) (ap₂ labelLess p q)
+          ∙ sym (ap smallest (below-node a text n g u h e))
+
+  -- how an inner node is written: first the child that holds the smaller smallest label
+  pub node-written : (t : List ℕ) → Leasts a text t n → (u : ℕ) → u < n → isLeaf a u ≡ false → (b : Bool)
+      → b ≡ goesFirst text (a .start) (a .size) t (getD (a .left) u 0) (getD (a .right) u 0)
+      → nodeText a text u
+      ≡ 40 ∷ (nodeText a text (cond b (getD (a .left) u 0) (getD (a .right) u 0))
+      ++ (44 ∷ (nodeText a text (cond b (getD (a .right) u 0) (getD (a .left) u 0)) ++ (41 ∷ []))))
+  unfolding nodeText normal written goesFirst
+  node-written t least u h e b d =
+      let x : ℕ = getD (a .left) u 0 in
+      let y : ℕ = getD (a .right) u 0 in
+      let p : labelIn text (a .start) (a .size) (getD t x 0) ≡ smallest (below a text x) =
+      least x (omega (arith, left-below a text u (good-at a text n u g h) e)) in
+      let q : labelIn text (a .start) (a .size) (getD t y 0) ≡ smallest (below a text y) =
+      least y (omega (arith, right-below a text u (good-at a text n u g h) e)) in
+      ap (λ (s : Tree). written (normal s)) (below-node a text n g u h e)
+      ∙ ap (λ (c : Bool). written (in-order c (normal (below a text x)) (normal (below a text y))))
+      (sym (d ∙ ap₂ labelLess p q))
+      ∙ go x y b
+    where
+      go : (x y : ℕ) (c : Bool)
+          → written (in-order c (normal (below a text x)) (normal (below a text y)))
+          ≡ 40 ∷ (written (normal (below a text (cond c x y))) ++ (44 ∷ (written (normal (below a text (cond c y x))) ++ (41 ∷ []))))
+      go x y true = refl
+      go x y false = refl
+
+pub leaf-written : (a : TreeArrays) (text : List ℕ) (u : ℕ) → isLeaf a u ≡ true → nodeText a text u ≡ labelAt a text u
+unfolding nodeText normal written
+leaf-written a text u e = rw (below-leaf a text u e)
+
+-- the order of the children does not change the length
+pub normal-length : (t : Tree) → length (written (normal t)) ≡ length (written t)
+unfolding normal written
+normal-length (leaf x) = refl
+normal-length (node x y) = go (labelLess (smallest x) (smallest y)) (normal-length x) (normal-length y)
+  where
+    go : (b : Bool) → length (written (normal x)) ≡ length (written x) → length (written (normal y)) ≡ length (written y)
+        → length (written (in-order b (normal x) (normal y))) ≡ length (written (node x y))
+    go true p q = omega (arith, pair-length (written (normal x)) (written (normal y)), pair-length (written x) (written y))
+    go false p q = omega (arith, pair-length (written (normal y)) (written (normal x)), pair-length (written x) (written y))
+
+-- an inner node with its children in the order of writing
+pub record Pair (a : TreeArrays) (text : List ℕ) (u f s : ℕ) : Type 0 where
+  pub first : f < u
+  pub second : s < u
+  pub made : nodeText a text u ≡ 40 ∷ (nodeText a text f ++ (44 ∷ (nodeText a text s ++ (41 ∷ []))))
+  pub long : length (nodeText a text u) ≡ length (nodeText a text f) + length (nodeText a text s) + 3
+
+either-below : (b : Bool) (x y u : ℕ) → x < u → y < u → cond b x y < u
+either-below true x y u p q = p
+either-below false x y u p q = q
+
+module _ (a : TreeArrays) (text : List ℕ) (n : ℕ) (g : goodNodes a text n ≡ true) where
+  -- l and r are the children, b tells which goes first
+  pub pair-of : (t : List ℕ) → Leasts a text t n → (u : ℕ) → u < n
+      → (l r : ℕ) → l ≡ getD (a .left) u 0 → r ≡ getD (a .right) u 0 → (l ≡ u → ⊥) → (b : Bool)
+      → b ≡ goesFirst text (a .start) (a .size) t l r
+      → (f s : ℕ) → f ≡ cond b l r → s ≡ cond b r l → Pair a text u f s
+  unfolding isLeaf
+  pair-of t least u h l r el er ne b eb f s ef es =
+      let e : isLeaf a u ≡ false = ne-eqb (getD (a .left) u 0) u (λ (k : getD (a .left) u 0 ≡ u). ne (el ∙ k)) in
+      let x : getD (a .left) u 0 < u = left-below a text u (good-at a text n u g h) e in
+      let y : getD (a .right) u 0 < u = right-below a text u (good-at a text n u g h) e in
+      let f′ : f ≡ cond b (getD (a .left) u 0) (getD (a .right) u 0) = ef ∙ ap₂ (cond b) el er in
+      let s′ : s ≡ cond b (getD (a .right) u 0) (getD (a .left) u 0) = es ∙ ap₂ (cond b) er el in
+      let m : nodeText a text u ≡ 40 ∷ (nodeText a text f ++ (44 ∷ (nodeText a text s ++ (41 ∷ [])))) =
+      node-written a text n g t least u h e b (eb ∙ ap₂ (goesFirst text (a .start) (a .size) t) el er)
+      ∙ ap₂ (λ (p q : ℕ). 40 ∷ (nodeText a text p ++ (44 ∷ (nodeText a text q ++ (41 ∷ []))))) (sym f′) (sym s′) in
+      record {
+        first = subst (λ (k : ℕ). k < u) (sym f′) (either-below b (getD (a .left) u 0) (getD (a .right) u 0) u x y);
+        second = subst (λ (k : ℕ). k < u) (sym s′) (either-below b (getD (a .right) u 0) (getD (a .left) u 0) u y x);
+        made = m;
+        long = ap length m ∙ pair-length (nodeText a text f) (nodeText a text s);
+      }

@@ -1,0 +1,83 @@
+-- `writer::good_node` meets its contract. Assumes nothing.
+use Rattle.trees.specs.declared.TreeArrays.{TreeArrays}
+use Rattle.writer.specs.Passes.{arraysFrom}
+use Rattle.writer.proofs.StepLaws.{long-label, past-end, label-inside, children-test, children-late}
+use borrow.Author.Needs.{needs}
+use Rattle.writer.proofs.good_node.Statement.{statement}
+use Rattle.writer.proofs.good_node.Tie as tie
+
+abbrev arrays : tie.Start → TreeArrays
+arrays s = arraysFrom (s .args .nodes) (s .args .left .now) (s .args .right .now) (s .args .start .now) (s .args .size .now)
+
+entry-requires : tie.Need-entry-requires
+entry-requires c κs = search needs
+
+entry-requires-2 : tie.Need-entry-requires-2
+entry-requires-2 c κs = search needs
+
+entry-requires-3 : tie.Need-entry-requires-3
+entry-requires-3 c κs = search needs
+
+returns : tie.Need-returns
+returns c =
+    let l = c .before .before .before .before in
+    let s = l .before .before .before .before .before .before in
+    let n = c .before .before .entry2 in
+    long-label (arrays s) (s .args .text .now) (s .args .u) (l .entry .result) (l .entry .ensures) (n .result) (n .ensures)
+    (c .before .before .before .if1 .taken) (c .if2 .taken)
+
+returns-2 : tie.Need-returns-2
+returns-2 c =
+    let l = c .before .before .before .before .before in
+    let s = l .before .before .before .before .before .before in
+    let n = c .before .before .before .entry2 in
+    let p = c .before .before .entry3 in
+    past-end (arrays s) (s .args .text .now) (s .args .u) (l .entry .result) (l .entry .ensures) (p .result) (n .result) (p .ensures)
+    (n .ensures) (c .before .before .before .before .if1 .taken)
+    (c .before .if2 .left) (c .if3 .taken)
+
+sub-result : tie.Need-sub-result
+sub-result c = search needs
+
+returns-3 : tie.Need-returns-3
+returns-3 c =
+    let l = c .before .before .before .before .before in
+    let s = l .before .before .before .before .before .before in
+    let n = c .before .before .before .entry2 in
+    let p = c .before .before .entry3 in
+    label-inside (arrays s) (s .args .text .now) (s .args .u) (l .entry .result) (l .entry .ensures) (p .result) (n .result) (p .ensures)
+    (n .ensures) (c .before .before .before .before .if1 .taken)
+    (c .before .if2 .left) (c .if3 .left)
+
+entry-requires-4 : tie.Need-entry-requires-4
+entry-requires-4 c κs = search needs
+
+returns-4 : tie.Need-returns-4
+returns-4 c =
+    let l = c .before .before .before in
+    let s = l .before .before .before .before .before .before in
+    let r = c .before .entry4 in
+    children-test (arrays s) (s .args .text .now) (s .args .u) (l .entry .result) (l .entry .ensures) (r .result) (r .ensures)
+    (c .before .before .if1 .left) (c .if4 .taken)
+
+returns-5 : tie.Need-returns-5
+returns-5 c =
+    let l = c .before .before .before in
+    let s = l .before .before .before .before .before .before in
+    children-late (arrays s) (s .args .text .now) (s .args .u) (l .entry .result) (l .entry .ensures) (c .before .before .if1 .left)
+    (c .if4 .left)
+
+pub good-node-spec : {M : Type 1} → statement M
+good-node-spec =
+    tie.close
+    (tie.spec
+    entry-requires
+    entry-requires-2
+    entry-requires-3
+    returns
+    returns-2
+    sub-result
+    returns-3
+    entry-requires-4
+    returns-4
+    returns-5)

@@ -1,0 +1,160 @@
+-- `writer::write_nodes` meets its contract. The root's sums decide, and then its text is stored and closed by `;`. Assumes nothing.
+use Prim.Native.Nat.{ℕ, _+_, _-_, _≤_}
+use mathlib.Core.Path.{_≡_, sym, _∙_, subst}
+use mathlib.Core.List.{List}
+use native.Mathlib.Omega.{arith}
+use lib.ListN.{length, replicate, set}
+use borrow.Author.Needs.{needs}
+use Rattle.trees.specs.declared.TreeArrays.{TreeArrays}
+use Rattle.trees.specs.Tree.{Tree, leaves}
+use Rattle.trees.specs.Text.{normalText}
+use Rattle.trees.specs.Arrays.{Standing, oneTree, noTree, treeOf}
+use Rattle.writer.specs.declared.WriteAnswer.the-variants.{Written, Refused, NoTree}
+use Rattle.writer.specs.Write.{outputTooShort}
+use Rattle.writer.specs.Passes.{arraysFrom, below, nodeText, Leasts}
+use Rattle.writer.proofs.PassLaws.{leasts-found}
+use Rattle.writer.proofs.WriteLaws.{found-many, found-few, found-length, stands-tree, text-length}
+use Rattle.writer.proofs.WriteLaws.{done-as, done-none, done-short, done-stored}
+use Rattle.writer.proofs.write_nodes.Statement.{statement}
+use Rattle.writer.proofs.write_nodes.Tie as tie
+
+abbrev arrays : tie.Start → TreeArrays
+arrays b = arraysFrom (b .args .nodes) (b .args .left .now) (b .args .right .now) (b .args .start .now) (b .args .size .now)
+
+-- what the arrays stand for, and the tree below their last node
+abbrev stands : tie.Start → Standing
+stands b = treeOf (arrays b) (b .args .text .now)
+
+abbrev root : tie.Start → Tree
+root b = below (arrays b) (b .args .text .now) (b .args .nodes - 1)
+
+-- at most 80 leaves: the arrays stand for the root's tree
+abbrev few-start : tie.Else1 → tie.Start
+few-start c = c .before .before .before .before .before .before .before .before .before
+
+few-at : (c : tie.Else1) → length (leaves (root (few-start c))) ≤ 80
+few-at c =
+    let b = few-start c in
+    found-few (arrays b) (b .args .text .now) (b .pre .0 .0) (b .pre .0 .1) (b .pre .1)
+    (omega (arith, c .before .root-sum .ensures, c .if1 .left))
+
+tree-at : (c : tie.Else1) → stands (few-start c) ≡ oneTree (root (few-start c))
+tree-at c =
+    let b = few-start c in
+    stands-tree (arrays b) (b .args .text .now) (b .pre .0 .0) (b .pre .0 .1) (b .pre .1) (few-at c)
+
+-- the length of its text is known, and the output is long enough
+long-at : (c : tie.After-root-sum2) → c .root-sum2 .result ≡ length (normalText (root (few-start (c .before)))) + 2
+long-at c =
+    let b = few-start (c .before) in
+    c .root-sum2 .ensures
+    ∙ found-length (arrays b) (b .args .text .now) (b .pre .0 .0) (b .pre .0 .1) (b .pre .1) (few-at (c .before))
+
+abbrev fit-start : tie.Else2 → tie.Start
+fit-start c = few-start (c .before .before)
+
+fits-at : (c : tie.Else2) → length (normalText (root (fit-start c))) ≤ length (fit-start c .args .out .now)
+fits-at c = omega (arith, c .if2 .left, long-at (c .before))
+
+abbrev fit-of : tie.After-slice-known2 → tie.Else2
+fit-of c = c .before .before .before .before .before .before .before .before
+
+slice-aggregate-root-sum : tie.Need-slice-aggregate-root-sum
+slice-aggregate-root-sum c = search needs
+
+root-sum-requires : tie.Need-root-sum-requires
+root-sum-requires c κs = search needs
+
+returns : tie.Need-returns
+returns c =
+    let b = c .before .before .before .before .before .before .before .before .before in
+    let o = b .args .out .now in
+    done-as (stands b) noTree o NoTree o
+    (found-many (arrays b) (b .args .text .now) (b .pre .0 .0) (b .pre .0 .1) (b .pre .1)
+    (omega (arith, c .before .root-sum .ensures, c .if1 .taken)))
+    (done-none o)
+
+root-sum-requires-2 : tie.Need-root-sum-requires-2
+root-sum-requires-2 c κs = search needs
+
+sub-bytes : tie.Need-sub-bytes
+sub-bytes c = omega (arith, long-at c)
+
+returns-2 : tie.Need-returns-2
+unfolding outputTooShort
+returns-2 c =
+    let b = few-start (c .before .before) in
+    let o = b .args .out .now in
+    done-as (stands b) (oneTree (root b)) o (Refused outputTooShort) o (tree-at (c .before .before))
+    (done-short (root b) o (omega (arith, c .if2 .taken, long-at (c .before))))
+
+slice-aggregate-least-pass : tie.Need-slice-aggregate-least-pass
+slice-aggregate-least-pass c = search needs
+
+least-pass-requires : tie.Need-least-pass-requires
+least-pass-requires c κs = search needs
+
+sub-root : tie.Need-sub-root
+sub-root c = search needs
+
+slice-aggregate-put-node : tie.Need-slice-aggregate-put-node
+slice-aggregate-put-node c = search needs
+
+put-node-requires : tie.Need-put-node-requires
+unfolding nodeText
+put-node-requires c κs =
+    let f = c .before .before .before .before .before in
+    let b = fit-start f in (
+      b .pre .1,
+      (
+        subst (λ (t : List ℕ). Leasts (arrays b) (b .args .text .now) t (b .args .nodes))
+            (sym (c .before .before .before .least-pass .ensures))
+            (leasts-found (arrays b) (b .args .text .now) (b .args .nodes) (b .pre .1) (replicate 159 0) (b .pre .0 .1)),
+        (omega (arith, b .pre .0 .0), omega (arith, fits-at f, text-length (root b))),
+      ),
+    )
+
+slice-write-out : tie.Need-slice-write-out
+unfolding nodeText
+slice-write-out c =
+    let p = c .before .before .put-node in
+    omega (arith, p .kept .1 .1 .1 .1 .1 .1 .1 .0, p .ensures .0, fits-at (fit-of c), text-length (root (fit-start (fit-of c))))
+
+add-t13 : tie.Need-add-t13
+unfolding nodeText
+add-t13 c =
+    let b = fit-start (fit-of c) in
+    omega (arith, c .before .before .put-node .ensures .0, fits-at (fit-of c), text-length (root b), b)
+
+same-length : tie.Need-same-length
+same-length c = search needs
+
+returns-3 : tie.Need-returns-3
+unfolding nodeText
+returns-3 c =
+    let p = c .before .before .put-node in
+    let b = fit-start (fit-of c) in
+    let o = b .args .out .now in
+    done-as (stands b) (oneTree (root b)) o (Written (p .result + 1)) (set (p .last .1 .1 .1 .1 .1 .1 .1 .0) (p .result) 59)
+    (tree-at (fit-of c .before .before))
+    (done-stored (root b) o (p .last .1 .1 .1 .1 .1 .1 .1 .0) (p .result) (fits-at (fit-of c)) (p .ensures .0) (p .ensures .1))
+
+pub write-nodes-spec : {M : Type 1} → statement M
+write-nodes-spec =
+    tie.close
+    (tie.spec
+    slice-aggregate-root-sum
+    root-sum-requires
+    returns
+    root-sum-requires-2
+    sub-bytes
+    returns-2
+    slice-aggregate-least-pass
+    least-pass-requires
+    sub-root
+    slice-aggregate-put-node
+    put-node-requires
+    slice-write-out
+    add-t13
+    same-length
+    returns-3)

@@ -1,0 +1,45 @@
+-- What writing a tree answers and what the output then holds. Scope paper, "Why a job is turned down".
+use Prim.Native.Nat.{ℕ}
+use mathlib.Core.Bool.{cond}
+use mathlib.Core.List.{List, [], _++_}
+use mathlib.Core.Option.{Option, none, some}
+use lib.Dec.{leb}
+use lib.ListN.{length, drop}
+use Rattle.trees.specs.declared.Refusal.{Refusal}
+use Rattle.trees.specs.declared.Reason.the-variants.{TooShort}
+use Rattle.trees.specs.declared.Body.the-variants.{O}
+use Rattle.trees.specs.Text.{normalText}
+use Rattle.trees.specs.Arrays.{Standing, noLeaf, oneTree, noTree}
+use Rattle.writer.specs.declared.WriteAnswer.{WriteAnswer}
+use Rattle.writer.specs.declared.WriteAnswer.the-variants.{Written, Refused, NoTree}
+
+-- "The empty set of leaves has a text of no bytes"
+unfoldable pub standingText : Standing → Option (List ℕ)
+standingText noLeaf = some []
+standingText (oneTree t) = some (normalText t)
+standingText noTree = none
+
+-- number 9, O 0
+unfoldable pub outputTooShort : Refusal
+outputTooShort = record { reason = TooShort; body = O; place = 0 }
+
+-- "An output is too short exactly if it has fewer bytes than the text that belongs in it"
+unfoldable pub textAnswer : Option (List ℕ) → ℕ → WriteAnswer
+unfolding outputTooShort
+textAnswer none n = NoTree
+textAnswer (some x) n = cond (leb (length x) n) (Written (length x)) (Refused outputTooShort)
+
+-- "On success the output holds the normal text and its further bytes are unchanged", "an output keeps every byte"
+unfoldable pub textOutput : Option (List ℕ) → List ℕ → List ℕ
+textOutput none out = out
+textOutput (some x) out = cond (leb (length x) (length out)) (x ++ drop (length x) out) out
+
+-- the answer for an output of n bytes
+unfoldable pub writeAnswer : Standing → ℕ → WriteAnswer
+unfolding standingText textAnswer
+writeAnswer s n = textAnswer (standingText s) n
+
+-- the output afterwards
+unfoldable pub outputAfter : Standing → List ℕ → List ℕ
+unfolding standingText textOutput
+outputAfter s out = textOutput (standingText s) out

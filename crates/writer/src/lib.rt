@@ -1,0 +1,391 @@
+// The writer of tree text: the normal text of a tree that is given as arrays.
+//
+// No public function has a `requires`: arrays that stand for no tree are answered too, and no entry of them is trusted.
+use trees::Body;
+use trees::Reason;
+use trees::Refusal;
+use trees::TreeArrays;
+ghost use Prim.Native.Nat.{ℕ, _+_, _<_, _≤_, min};
+ghost use mathlib.Core.Path.{_≡_};
+ghost use mathlib.Core.Bool.{true, cond};
+ghost use lib.ListN.{length, getD, take, drop};
+ghost use lib.Seq.{sets};
+ghost use Rattle.trees.specs.Label.{labelLess};
+ghost use Rattle.trees.specs.Arrays.{goodNode, goodNodes, treeOf};
+ghost use Rattle.writer.specs.Write.{writeAnswer, outputAfter};
+ghost use Rattle.writer.specs.Passes.{arraysFrom, pass, sumAt, rootSum, goesFirst, leastAt, nodeText, Leasts};
+
+// How many bytes were written, or why none was: the output is too short, or the arrays stand for no tree of at most
+// 80 leaves.
+pub enum WriteAnswer {
+    Written(usize),
+    Refused(Refusal),
+    NoTree,
+}
+
+// An entry of an array, 0 past its end: no index has to be trusted.
+fn entry(xs: &[usize], i: usize) -> usize
+    ensures { λ r. ⌜ r ≡ getD (now (xs .entry)) i 0 ⌝ }
+{
+    if i < xs.len() { xs[i] } else { 0 }
+}
+
+// One of two numbers.
+fn pick(first: bool, a: usize, b: usize) -> usize
+    ensures { λ r. ⌜ r ≡ cond first a b ⌝ }
+{
+    if first { a } else { b }
+}
+
+// The sum, at most `cap`; nothing overflows on the way.
+fn capped(a: usize, b: usize, cap: usize) -> usize
+    ensures { λ r. ⌜ r ≡ min cap (a + b) ⌝ }
+{
+    if cap <= a {
+        return cap;
+    }
+    if cap - a <= b {
+        return cap;
+    }
+    a + b
+}
+
+// The bytes of the text from `start`, at most `size` of them.
+fn part<'a>(text: &'a [u8], start: usize, size: usize) -> &'a [u8]
+    ensures { λ r. ⌜ now r ≡ take size (drop start (now (text .entry))) ⌝ }
+{
+    let n = text.len();
+    if n < start {
+        return &text[n..n];
+    }
+    if n - start < size {
+        return &text[start..n];
+    }
+    &text[start..start + size]
+}
+
+// Label order.
+fn less(a: &[u8], b: &[u8]) -> bool
+    ensures { λ r. ⌜ r ≡ labelLess (now (a .entry)) (now (b .entry)) ⌝ }
+{
+    let mut i: usize = 0;
+    while i < b.len() {
+        if i == a.len() {
+            return true;
+        }
+        let x = a[i];
+        let y = b[i];
+        if x < y {
+            return true;
+        }
+        if y < x {
+            return false;
+        }
+        i += 1;
+    }
+    false
+}
+
+// Whether node u is a leaf whose label lies in the text and is not too long, or has two children with smaller
+// numbers.
+fn good_node(
+    text: &[u8],
+    nodes: usize,
+    left: &[usize],
+    right: &[usize],
+    start: &[usize],
+    size: &[usize],
+    u: usize,
+) -> bool
+    ensures { λ r.
+        ⌜ r ≡ goodNode (arraysFrom nodes (now (left .entry)) (now (right .entry)) (now (start .entry)) (now (size .entry)))
+        (now (text .entry)) u ⌝ }
+{
+    let l = entry(left, u);
+    if l == u {
+        let n = entry(size, u);
+        let s = entry(start, u);
+        if 16 < n {
+            return false;
+        }
+        if text.len() < n {
+            return false;
+        }
+        return s <= text.len() - n;
+    }
+    let r = entry(right, u);
+    if l < u { r < u } else { false }
+}
+
+// Whether every node is good.
+fn good_nodes(
+    text: &[u8],
+    nodes: usize,
+    left: &[usize],
+    right: &[usize],
+    start: &[usize],
+    size: &[usize],
+) -> bool
+    ensures { λ r.
+        ⌜ r ≡ goodNodes (arraysFrom nodes (now (left .entry)) (now (right .entry)) (now (start .entry)) (now (size .entry)))
+        (now (text .entry)) nodes ⌝ }
+{
+    let mut u: usize = 0;
+    while u < nodes {
+        if !good_node(text, nodes, left, right, start, size, u) {
+            return false;
+        }
+        u += 1;
+    }
+    true
+}
+
+// What the leaves below node u weigh together, from the sums of its children; a leaf weighs its entry and `plus`.
+fn sum_at(
+    left: &[usize],
+    right: &[usize],
+    weight: &[usize],
+    plus: usize,
+    cap: usize,
+    sums: &[usize],
+    u: usize,
+) -> usize
+    ensures { λ r.
+        ⌜ r ≡ sumAt (now (left .entry)) (now (right .entry)) (now (weight .entry)) plus cap (now (sums .entry)) u ⌝ }
+{
+    let l = entry(left, u);
+    if l == u {
+        return capped(entry(weight, u), plus, cap);
+    }
+    let r = entry(right, u);
+    capped(entry(sums, l), entry(sums, r), cap)
+}
+
+// What the leaves below each node weigh together, children before parents. Arrays that share subtrees can stand for
+// more leaves than a number can count: hence the cap.
+fn sum_pass(
+    left: &[usize],
+    right: &[usize],
+    weight: &[usize],
+    plus: usize,
+    cap: usize,
+    nodes: usize,
+    sums: &mut [usize],
+)
+    requires { ⌜ nodes ≤ length (now sums) ⌝ }
+    ensures { λ _.
+        ⌜ now (sums .exit)
+        ≡ pass (sumAt (now (left .entry)) (now (right .entry)) (now (weight .entry)) plus cap) (now (sums .entry)) nodes ⌝ }
+{
+    let mut u: usize = 0;
+    while u < nodes {
+        sums[u] = sum_at(left, right, weight, plus, cap, sums, u);
+        u += 1;
+    }
+}
+
+// What all leaves below the last node weigh together.
+fn root_sum(
+    left: &[usize],
+    right: &[usize],
+    weight: &[usize],
+    plus: usize,
+    cap: usize,
+    nodes: usize,
+) -> usize
+    requires { ⌜ (0 < nodes) × (nodes ≤ 159) ⌝ }
+    ensures { λ r. ⌜ r ≡ rootSum (now (left .entry)) (now (right .entry)) (now (weight .entry)) plus cap nodes ⌝ }
+{
+    let mut sums = [0usize; 159];
+    sum_pass(left, right, weight, plus, cap, nodes, &mut sums);
+    entry(&sums, nodes - 1)
+}
+
+// Whether the smallest label below node i is less than the one below node j.
+fn goes_first(
+    text: &[u8],
+    start: &[usize],
+    size: &[usize],
+    least: &[usize],
+    i: usize,
+    j: usize,
+) -> bool
+    ensures { λ r.
+        ⌜ r ≡ goesFirst (now (text .entry)) (now (start .entry)) (now (size .entry)) (now (least .entry)) i j ⌝ }
+{
+    let x = entry(least, i);
+    let y = entry(least, j);
+    let a = part(text, entry(start, x), entry(size, x));
+    let b = part(text, entry(start, y), entry(size, y));
+    less(a, b)
+}
+
+// The leaf with the smallest label below node u, from those of its children.
+fn least_at(
+    text: &[u8],
+    left: &[usize],
+    right: &[usize],
+    start: &[usize],
+    size: &[usize],
+    least: &[usize],
+    u: usize,
+) -> usize
+    ensures { λ r.
+        ⌜ r ≡ leastAt (now (text .entry)) (now (left .entry)) (now (right .entry)) (now (start .entry)) (now (size .entry))
+        (now (least .entry)) u ⌝ }
+{
+    let l = entry(left, u);
+    if l == u {
+        return u;
+    }
+    let r = entry(right, u);
+    let first = goes_first(text, start, size, least, l, r);
+    pick(first, entry(least, l), entry(least, r))
+}
+
+// The leaf with the smallest label below each node.
+fn least_pass(
+    text: &[u8],
+    left: &[usize],
+    right: &[usize],
+    start: &[usize],
+    size: &[usize],
+    nodes: usize,
+    least: &mut [usize],
+)
+    requires { ⌜ nodes ≤ length (now least) ⌝ }
+    ensures { λ _.
+        ⌜ now (least .exit)
+        ≡ pass (leastAt (now (text .entry)) (now (left .entry)) (now (right .entry)) (now (start .entry)) (now (size .entry)))
+        (now (least .entry)) nodes ⌝ }
+{
+    let mut u: usize = 0;
+    while u < nodes {
+        least[u] = least_at(text, left, right, start, size, least, u);
+        u += 1;
+    }
+}
+
+// Stores the bytes of `x` from `at` on, and says where the next byte goes.
+fn put_bytes(x: &[u8], out: &mut [u8], at: usize) -> usize
+    requires { ⌜ at + length (now x) ≤ length (now out) ⌝ }
+    ensures next { λ r. ⌜ r ≡ at + length (now (x .entry)) ⌝ }
+    ensures stored { λ _. ⌜ now (out .exit) ≡ sets (now (out .entry)) at (now (x .entry)) ⌝ }
+{
+    let mut i: usize = 0;
+    while i < x.len() {
+        out[at + i] = x[i];
+        i += 1;
+    }
+    at + i
+}
+
+// Writes node u from `at` on, and says where the next byte goes.
+fn put_node(
+    text: &[u8],
+    nodes: usize,
+    left: &[usize],
+    right: &[usize],
+    start: &[usize],
+    size: &[usize],
+    least: &[usize],
+    out: &mut [u8],
+    at: usize,
+    u: usize,
+) -> usize
+    requires { ⌜ goodNodes (arraysFrom nodes (now left) (now right) (now start) (now size)) (now text) nodes ≡ true ⌝ }
+    requires { ⌜ Leasts (arraysFrom nodes (now left) (now right) (now start) (now size)) (now text) (now least) nodes ⌝ }
+    requires { ⌜ u < nodes ⌝ }
+    requires { ⌜ at + length (nodeText (arraysFrom nodes (now left) (now right) (now start) (now size)) (now text) u)
+        ≤ length (now out) ⌝ }
+    ensures next { λ r.
+        ⌜ r ≡ at + length (nodeText (arraysFrom nodes (now (left .entry)) (now (right .entry)) (now (start .entry)) (now (size .entry)))
+        (now (text .entry)) u) ⌝ }
+    ensures stored { λ _.
+        ⌜ now (out .exit) ≡ sets (now (out .entry)) at
+        (nodeText (arraysFrom nodes (now (left .entry)) (now (right .entry)) (now (start .entry)) (now (size .entry)))
+        (now (text .entry)) u) ⌝ }
+{
+    let l = entry(left, u);
+    if l == u {
+        let label = part(text, entry(start, u), entry(size, u));
+        return put_bytes(label, out, at);
+    }
+    let r = entry(right, u);
+    let first = goes_first(text, start, size, least, l, r);
+    let f = pick(first, l, r);
+    let s = pick(first, r, l);
+    out[at] = b'(';
+    let i = put_node(text, nodes, left, right, start, size, least, out, at + 1, f);
+    out[i] = b',';
+    let j = put_node(text, nodes, left, right, start, size, least, out, i + 1, s);
+    out[j] = b')';
+    j + 1
+}
+
+// Writes the tree of good arrays that have a node.
+fn write_nodes(
+    text: &[u8],
+    nodes: usize,
+    left: &[usize],
+    right: &[usize],
+    start: &[usize],
+    size: &[usize],
+    out: &mut [u8],
+) -> WriteAnswer
+    requires { ⌜ (0 < nodes) × (nodes ≤ 159) ⌝ }
+    requires { ⌜ goodNodes (arraysFrom nodes (now left) (now right) (now start) (now size)) (now text) nodes ≡ true ⌝ }
+    ensures answer { λ r.
+        ⌜ r ≡ writeAnswer
+        (treeOf (arraysFrom nodes (now (left .entry)) (now (right .entry)) (now (start .entry)) (now (size .entry)))
+        (now (text .entry)))
+        (length (now (out .entry))) ⌝ }
+    ensures output { λ _.
+        ⌜ now (out .exit) ≡ outputAfter
+        (treeOf (arraysFrom nodes (now (left .entry)) (now (right .entry)) (now (start .entry)) (now (size .entry)))
+        (now (text .entry)))
+        (now (out .entry)) ⌝ }
+{
+    let none = [0usize; 159];
+    if 80 < root_sum(left, right, &none, 1, 81, nodes) {
+        return WriteAnswer::NoTree;
+    }
+    // A leaf counts three bytes more than its label has, for `(`, `,` and `)`: two too many in all, with `;`.
+    let bytes = root_sum(left, right, size, 3, 1521, nodes) - 2;
+    if out.len() < bytes {
+        return WriteAnswer::Refused(Refusal {
+            reason: Reason::TooShort,
+            body: Body::O,
+            place: 0,
+        });
+    }
+    let mut least = [0usize; 159];
+    least_pass(text, left, right, start, size, nodes, &mut least);
+    let root = nodes - 1;
+    let end = put_node(text, nodes, left, right, start, size, &least, out, 0, root);
+    out[end] = b';';
+    WriteAnswer::Written(end + 1)
+}
+
+// Writes the normal text of the tree that the arrays stand for over the text into `out`. On any answer but `Written`
+// the output keeps every byte, and so do its bytes past the text.
+pub fn write_tree(tree: TreeArrays, text: &[u8], out: &mut [u8]) -> WriteAnswer
+    ensures answer { λ r. ⌜ r ≡ writeAnswer (treeOf tree (now (text .entry))) (length (now (out .entry))) ⌝ }
+    ensures output { λ _. ⌜ now (out .exit) ≡ outputAfter (treeOf tree (now (text .entry))) (now (out .entry)) ⌝ }
+{
+    let nodes = tree.nodes;
+    if nodes == 0 {
+        return WriteAnswer::Written(0);
+    }
+    if 159 < nodes {
+        return WriteAnswer::NoTree;
+    }
+    let left = tree.left;
+    let right = tree.right;
+    let start = tree.start;
+    let size = tree.size;
+    if !good_nodes(text, nodes, &left, &right, &start, &size) {
+        return WriteAnswer::NoTree;
+    }
+    write_nodes(text, nodes, &left, &right, &start, &size, out)
+}

@@ -1,0 +1,80 @@
+/* agree.h: the largest agreement set of two rooted binary trees, for hosts written in C.
+ *
+ * Link with the archive that `rt staticlib cabi` writes, target/staticlib/libcabi.a:
+ *
+ *     gcc host.c target/staticlib/libcabi.a
+ *
+ * Nothing here allocates, keeps state or needs an initial call; calls from several threads do not meet.
+ * A pointer may be null where its length is 0. The output must not overlap an input.
+ */
+#ifndef AGREE_H
+#define AGREE_H
+
+#include <stddef.h>
+#include <stdint.h>
+
+#ifdef __cplusplus
+extern "C" {
+#endif
+
+/* What comes back.
+ *
+ * number 0: an answer. `size` is the number of leaves in the set, `length` the number of bytes of the tree's normal text, which
+ *           stands at the start of the output; bytes past it are as they were. An empty set has a text of no bytes.
+ * else:     a refusal. The output keeps every byte; size and length are 0. `letter` is the body, as a character, and `place`
+ *           a byte offset from 0 in it:
+ *
+ *     1  a byte cannot stand there                  S, T, K   that byte
+ *     2  the text ends too soon                     S, T, K   its length
+ *     3  a label passes 16 bytes                    S, T, K   its 17th byte
+ *     4  a tree's 80th `(`; the list's 81st label   S, T, K   that byte, or the label's first
+ *     5  a label repeats in its body                S, T, K   first byte of the repeat
+ *     6  the first tree lacks a required label      K         its first byte in the list
+ *     7  only the second tree lacks it              K         the same
+ *     8  three required labels have different       K         0; first, second and third are the places of the three
+ *        closer pairs in the two trees                        labels' first bytes in the list, in label order
+ *     9  the output is too short                    O         0
+ *
+ * The first that holds in this order is given: S (1 to 5), T, K, then 6 or 7, then 8, then 9.
+ */
+struct agree_result {
+    size_t number;
+    size_t letter;
+    size_t place;
+    size_t size;
+    size_t length;
+    size_t first;
+    size_t second;
+    size_t third;
+};
+
+/* The largest set of leaves common to both trees that holds every required label and on which the trees agree, the first such
+ * set in label order, as the normal text of its tree in `out`.
+ *
+ *     uint8_t out[1518];                       no text is longer
+ *     struct agree_result r = agree_largest(
+ *         (const uint8_t *)"((a,b),(c,d));", 14,
+ *         (const uint8_t *)"((a,c),(b,d));", 14,
+ *         (const uint8_t *)"a", 1, out, sizeof out);
+ *     r.number == 0, r.size == 2, r.length == 6, out begins with (a,b);
+ */
+struct agree_result agree_largest(const uint8_t *first, size_t first_length, const uint8_t *second, size_t second_length,
+                                  const uint8_t *required, size_t required_length, uint8_t *out, size_t out_length);
+
+/* The answer to a job in the format of the program `agree`: contents, two trees and a list in one text (README.md). The three
+ * lines `size`, `set` and `tree` go into `out`; `length` is their number of bytes, 4,096 are always enough. The size of the set
+ * stands in the first line; `size` is 0. Refusals are those above, and before them
+ *
+ *    11  the job passes 8,192 bytes                 J         0
+ *    10  the contents break their rules             J         0
+ *
+ * For number 8, first, second and third are the places of the three labels' first bytes in the job. Number 9 stands for an output
+ * that is shorter than the lines.
+ */
+struct agree_result agree_job(const uint8_t *job, size_t job_length, uint8_t *out, size_t out_length);
+
+#ifdef __cplusplus
+}
+#endif
+
+#endif

@@ -1,0 +1,43 @@
+//! The engine's C entries, in safe functions.
+
+#[repr(C)]
+#[derive(Clone, Copy, Debug, PartialEq)]
+pub struct AgreeResult {
+    pub number: usize,
+    pub letter: usize,
+    pub place: usize,
+    pub size: usize,
+    pub length: usize,
+    pub first: usize,
+    pub second: usize,
+    pub third: usize,
+}
+
+extern "C" {
+    fn agree_largest(
+        first: *const u8,
+        first_length: usize,
+        second: *const u8,
+        second_length: usize,
+        required: *const u8,
+        required_length: usize,
+        out: *mut u8,
+        out_length: usize,
+    ) -> AgreeResult;
+}
+
+pub fn largest(first: &[u8], second: &[u8], required: &[u8], out: &mut [u8]) -> AgreeResult {
+    // The entry has no precondition: it takes any bytes and writes inside `out` only.
+    unsafe {
+        agree_largest(
+            first.as_ptr(),
+            first.len(),
+            second.as_ptr(),
+            second.len(),
+            required.as_ptr(),
+            required.len(),
+            out.as_mut_ptr(),
+            out.len(),
+        )
+    }
+}

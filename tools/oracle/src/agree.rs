@@ -1,0 +1,118 @@
+//! The answer by definition: closer pairs of all threes, all subsets tried.
+
+use crate::text::Tree;
+
+pub type Label = Vec<u8>;
+
+/// What two trees and a required list come to, 1 to 5 and 9 to 11 left aside.
+#[derive(Clone, Debug, PartialEq)]
+pub enum Answer {
+    FirstLacks(usize),
+    SecondLacks(usize),
+    Disagree(Label, Label, Label),
+    Set(Vec<Label>),
+}
+
+fn holds(t: &Tree, x: &[u8]) -> bool {
+    match t {
+        Tree::Leaf(y) => y == x,
+        Tree::Node(a, b) => holds(a, x) || holds(b, x),
+    }
+}
+
+/// The smallest subtree that holds both.
+fn lca<'a>(t: &'a Tree, x: &[u8], y: &[u8]) -> &'a Tree {
+    if let Tree::Node(a, b) = t {
+        for child in [a, b] {
+            if holds(child, x) && holds(child, y) {
+                return lca(child, x, y);
+            }
+        }
+    }
+    t
+}
+
+/// Which of the three is left out of the closer pair.
+fn outer(t: &Tree, three: [&Label; 3]) -> usize {
+    let [x, y, z] = three;
+    if !holds(lca(t, x, y), z) {
+        2
+    } else if !holds(lca(t, x, z), y) {
+        1
+    } else {
+        0
+    }
+}
+
+/// The first three of a sorted list, compared label by label, that have different closer pairs.
+fn first_clash(s: &Tree, t: &Tree, xs: &[Label]) -> Option<[Label; 3]> {
+    for i in 0..xs.len() {
+        for j in i + 1..xs.len() {
+            for k in j + 1..xs.len() {
+                let three = [&xs[i], &xs[j], &xs[k]];
+                if outer(s, three) != outer(t, three) {
+                    return Some([xs[i].clone(), xs[j].clone(), xs[k].clone()]);
+                }
+            }
+        }
+    }
+    None
+}
+
+pub fn common(s: &Tree, t: &Tree) -> Vec<Label> {
+    let mut xs: Vec<Label> = s.leaves().into_iter().filter(|x| holds(t, x)).collect();
+    xs.sort();
+    xs
+}
+
+pub fn lacking(s: &Tree, t: &Tree, required: &[Label]) -> Option<Answer> {
+    for (i, x) in required.iter().enumerate() {
+        if !holds(s, x) {
+            return Some(Answer::FirstLacks(i));
+        }
+        if !holds(t, x) {
+            return Some(Answer::SecondLacks(i));
+        }
+    }
+    None
+}
+
+fn sorted(xs: &[Label]) -> Vec<Label> {
+    let mut ys = xs.to_vec();
+    ys.sort();
+    ys
+}
+
+pub fn by_trying_all(s: &Tree, t: &Tree, required: &[Label]) -> Answer {
+    if let Some(a) = lacking(s, t, required) {
+        return a;
+    }
+    if let Some([a, b, c]) = first_clash(s, t, &sorted(required)) {
+        return Answer::Disagree(a, b, c);
+    }
+    let all = common(s, t);
+    assert!(all.len() <= 16);
+    let mut best: Option<Vec<Label>> = None;
+    for mask in 0..1u32 << all.len() {
+        let set: Vec<Label> = (0..all.len()).filter(|i| mask >> i & 1 == 1).map(|i| all[i].clone()).collect();
+        let better = match &best {
+            None => true,
+            Some(b) => set.len() > b.len() || set.len() == b.len() && set < *b,
+        };
+        if better && required.iter().all(|x| set.contains(x)) && first_clash(s, t, &set).is_none() {
+            best = Some(set);
+        }
+    }
+    Answer::Set(best.unwrap())
+}
+
+/// The tree without the leaves outside the set, and without nodes left with one child.
+pub fn restrict(t: &Tree, set: &[Label]) -> Option<Tree> {
+    match t {
+        Tree::Leaf(x) => set.contains(x).then(|| t.clone()),
+        Tree::Node(a, b) => match (restrict(a, set), restrict(b, set)) {
+            (Some(p), Some(q)) => Some(Tree::Node(Box::new(p), Box::new(q))),
+            (p, q) => p.or(q),
+        },
+    }
+}

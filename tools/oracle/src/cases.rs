@@ -1,0 +1,157 @@
+//! The stored stream of texts for the readers and the writer: each case is a kind byte (`t` a tree, `l` a list), the length as
+//! two bytes, and the text. What must be printed for it is a line.
+
+use crate::random::Random;
+use crate::text::{read_list, read_tree};
+use crate::trees::{caterpillar, random_tree};
+
+pub struct Case {
+    pub kind: u8,
+    pub text: Vec<u8>,
+}
+
+fn labels(n: usize) -> Vec<Vec<u8>> {
+    (0..n).map(|i| format!("t{i}").into_bytes()).collect()
+}
+
+fn long_labels(n: usize) -> Vec<Vec<u8>> {
+    (0..n).map(|i| format!("Label_of_leaf.{i:02}").into_bytes()).collect()
+}
+
+fn joined(xs: &[Vec<u8>]) -> Vec<u8> {
+    xs.join(&b","[..])
+}
+
+/// The examples of the scope paper's table and the traps of a close reading.
+fn tree_texts() -> Vec<Vec<u8>> {
+    let a16 = "a".repeat(16);
+    let a17 = "a".repeat(17);
+    let b17 = "b".repeat(17);
+    let mut xs: Vec<String> = [
+        "", "a;", "a", ";", "(a b);", "(a,b)", "(a,b);", "(b,a);", "(a,a);", "(a,a", "(a,a b);", "(a,a(", "(a,a'", "(a,b)a;", "(a,a)a;",
+        "a;\n", "a;a;", "a;;", "(a)", "()", "(a,)", "(,a)", "((a,b))", "((a,b));", "(a(", "(a,b,c);", "(a,b)c;", "(a:1,b);", "a[x];",
+        "((a,b),(c,d));", "((d,c),(b,a));", "(c,(a-,(aa,a)));", "((_,-),(.,0));", "((A,a),(Z,z));", "((b,c),a);", "((z,b),(a,y));",
+        "(a,b));", "(a,(b,c);", "(a;b);", "a,b;", ",", ")", "((((", "(((a,b),c),d", "(ab,abc);", "(abc,ab);", "((x,y),(x,z));", "((x,y),(z,y));",
+    ]
+    .iter()
+    .map(|s| s.to_string())
+    .collect();
+    xs.push(format!("{a16};"));
+    xs.push(format!("{a17};"));
+    xs.push(a17.clone());
+    xs.push(format!("({a16},{a16});"));
+    xs.push(format!("({b17},{b17});"));
+    xs.push(format!("(b,{b17}(;"));
+    xs.push(format!("(a,b){a17};"));
+    xs.push(format!("({a16},b{}", "c".repeat(15)));
+    xs.push("(".repeat(79));
+    xs.push("(".repeat(80));
+    xs.push("(".repeat(200));
+    xs.push(format!("{}a", "(".repeat(79)));
+    xs.iter().map(|s| s.clone().into_bytes()).collect()
+}
+
+fn list_texts() -> Vec<Vec<u8>> {
+    let mut xs: Vec<Vec<u8>> = ["", "a", "b,a", ",", "a,", "a,,b", "a;", "a\n", "a,a", "a,b,a", "a,a,", "a,a b", "a b", " ", "(", "a,(b)", "a,b,c,d"]
+        .iter()
+        .map(|s| s.as_bytes().to_vec())
+        .collect();
+    let all = labels(81);
+    let eighty = joined(&all[..80]);
+    xs.push(eighty.clone());
+    for tail in [",", ",,", ";", ",t0", ",t80", ",aaaaaaaaaaaaaaaaaaaaaaa", ", "] {
+        xs.push([eighty.clone(), tail.as_bytes().to_vec()].concat());
+    }
+    xs.push(joined(&long_labels(80)));
+    for n in [15, 16, 17, 18] {
+        xs.push("a".repeat(n).into_bytes());
+        xs.push(format!("b,{}", "a".repeat(n)).into_bytes());
+        xs.push(format!("{0},{0}", "a".repeat(n)).into_bytes());
+    }
+    xs
+}
+
+/// A text with a few bytes changed, dropped or added.
+fn damaged(r: &mut Random, text: &[u8]) -> Vec<u8> {
+    let mut t = text.to_vec();
+    for _ in 0..1 + r.below(2) {
+        let b = *r.pick(b"(),;ab_-. '\n\x00\xff0A");
+        match r.below(3) {
+            0 if !t.is_empty() => {
+                let i = r.below(t.len());
+                t[i] = b;
+            }
+            1 if !t.is_empty() => {
+                t.remove(r.below(t.len()));
+            }
+            _ => t.insert(r.below(t.len() + 1), b),
+        }
+    }
+    t
+}
+
+pub fn cases() -> Vec<Case> {
+    let mut r = Random(20);
+    let mut trees = tree_texts();
+    let mut lists = list_texts();
+    // every byte value at the start, after a label, after a node and after the end
+    for b in 0..=255u8 {
+        trees.push(vec![b]);
+        trees.push(vec![b'a', b]);
+        trees.push([&b"(a,b)"[..], &[b]].concat());
+        trees.push(vec![b'a', b';', b]);
+        lists.push(vec![b]);
+        lists.push(vec![b'a', b]);
+    }
+    for n in [1, 2, 3, 7, 40, 79, 80, 81] {
+        for names in [labels(n), long_labels(n)] {
+            trees.push(caterpillar(&names).text());
+            let mut back = names.clone();
+            back.reverse();
+            trees.push(caterpillar(&back).text());
+            trees.push(random_tree(&mut r, &names).text());
+        }
+    }
+    for _ in 0..200 {
+        let n = 1 + r.below(9);
+        let mut names = labels(12);
+        r.shuffle(&mut names);
+        let t = random_tree(&mut r, &names[..n]).text();
+        trees.push(damaged(&mut r, &t));
+        trees.push(t);
+        let l = joined(&names[..n]);
+        lists.push(damaged(&mut r, &l));
+    }
+    let trees = trees.into_iter().map(|text| Case { kind: b't', text });
+    let lists = lists.into_iter().map(|text| Case { kind: b'l', text });
+    trees.chain(lists).collect()
+}
+
+pub fn stream() -> Vec<u8> {
+    let mut out = Vec::new();
+    for c in cases() {
+        out.push(c.kind);
+        out.extend((c.text.len() as u16).to_be_bytes());
+        out.extend(&c.text);
+    }
+    out
+}
+
+pub fn expected() -> Vec<u8> {
+    let mut out = Vec::new();
+    for c in cases() {
+        if c.kind == b't' {
+            match read_tree(&c.text) {
+                Ok(t) => out.extend(t.normal_text()),
+                Err(f) => out.extend(format!("refused {} S {}", f.number, f.place).bytes()),
+            }
+        } else {
+            match read_list(&c.text) {
+                Ok(xs) => out.extend([format!("list {} ", xs.len()).into_bytes(), joined(&xs)].concat()),
+                Err(f) => out.extend(format!("refused {} K {}", f.number, f.place).bytes()),
+            }
+        }
+        out.push(b'\n');
+    }
+    out
+}

@@ -1,0 +1,237 @@
+//! The stored stream of jobs: each is its length as two bytes and the job.
+
+use crate::agree::Label;
+use crate::job::{job, printed};
+use crate::random::Random;
+use crate::text::Tree;
+use crate::trees::{caterpillar, random_tree};
+
+const P: &str = "((((a,b),c),d),e);";
+const Q: &str = "((((a,c),b),d),e);";
+const R: &str = "((((a,b),c),e),d);";
+
+fn bytes(x: &str) -> Vec<u8> {
+    x.as_bytes().to_vec()
+}
+
+/// The scope paper's trees to try and the examples of its table.
+fn paper_jobs() -> Vec<Vec<u8>> {
+    let rows = [
+        ("((a,b),(c,d));", "((a,c),(b,d));", "a"),
+        (P, Q, ""),
+        (P, Q, "c"),
+        (P, Q, "b,c"),
+        (P, Q, "a,b,c"),
+        (P, Q, "a,b,d"),
+        (P, R, ""),
+        (P, R, "d,e"),
+        ("((a,b),c);", "((a,c),b);", "a"),
+        ("a;", "a;", ""),
+        ("(a,b);", "(c,d);", ""),
+        (P, P, ""),
+        (P, R, "c,d,e"),
+        (P, R, "e,d,c,b,a"),
+        ("a;", "b;", "b"),
+        ("a;", "b;", "a"),
+        ("((a,b),c);", "((a,c),b);", "a,b,c"),
+        ("(a,b);", "(b,c);", "b,a,c"),
+        ("(a,b);", "(b,c);", "z,"),
+        ("(a,b);", "(b,c);", "z,z"),
+        ("(a b);", "a;", ""),
+        ("a;", "(a,b)", ""),
+        ("", "a;", ""),
+        ("a;", "", ""),
+        ("", "", ""),
+        ("aaaaaaaaaaaaaaaaa;", "a;", ""),
+        ("(a,a);", "(", "a,"),
+        ("a;", "a;", "a,a"),
+        ("a;", "a;", "a,,"),
+    ];
+    rows.iter().map(|(s, t, k)| job(s.as_bytes(), t.as_bytes(), k.as_bytes())).collect()
+}
+
+/// Contents that break their rules, and some that only look so.
+fn contents_jobs() -> Vec<Vec<u8>> {
+    let tail = "a;a;a";
+    let heads = [
+        "S 2\nT 2\nK 1\n\n", "S 02\nT 2\nK 1\n\n", "S 2\nT +2\nK 1\n\n", "S 2\nT 2\nK 0\n\n", "S 2\nT 2\nK 2\n\n", "S 3\nT 1\nK 1\n\n",
+        "S 2 \nT 2\nK 1\n\n", "S  2\nT 2\nK 1\n\n", "S 2\r\nT 2\nK 1\n\n", "s 2\nT 2\nK 1\n\n", "T 2\nS 2\nK 1\n\n", "S 2\nT 2\nK 1\n",
+        "S 2\nT 2\nK 1\n\n\n", "S 2\nK 1\nT 2\n\n", "S 2\nT 2\n\n", "S 2", "S", "", "S \nT 2\nK 1\n\n", "S 00002\nT 2\nK 1\n\n",
+        "S 12345\nT 2\nK 1\n\n", "S 9999\nT 2\nK 1\n\n", "S 0\nT 4\nK 1\n\n", "S 4\nT 0\nK 1\n\n", "S 00\nT 4\nK 1\n\n", "S 2\nT 2\nK 1\n \n",
+        "strict\nS 2\nT 2\nK 1\n\n", "E 1\nS 2\nT 2\nK 1\n\n", "S 2\nT 2\nU 0\nK 1\n\n",
+    ];
+    let mut out: Vec<Vec<u8>> = heads.iter().map(|h| bytes(&format!("{h}{tail}"))).collect();
+    out.push(bytes("S 2"));
+    out.push(vec![b' '; 8192]);
+    out.push(vec![b' '; 8193]);
+    out.push(bytes("S 0\nT 0\nK 0\n\n"));
+    for n in [8192usize, 8193] {
+        // a job of just that length: the first tree and a list that is too long
+        let fixed = "S 14\nT 2\nK 9999\n\n".len() - 4 + 14 + 2;
+        let k = vec![b'a'; n - fixed - 4];
+        out.push(job(b"((a,b),(c,d));", b"a;", &k));
+    }
+    out
+}
+
+fn labels(n: usize) -> Vec<Label> {
+    (0..n).map(|i| format!("t{i}").into_bytes()).collect()
+}
+
+/// Names that begin alike, differ in case only, or are as long as may be.
+fn names() -> Vec<Label> {
+    ["a", "a-", "aa", "A", "_", "-", "Z9", "z", "abcdefghijklmnop", "abcdefghijklmno", "0", "b.c"].iter().map(|x| bytes(x)).collect()
+}
+
+fn list(xs: &[Label]) -> Vec<u8> {
+    xs.join(&b","[..])
+}
+
+/// The tree with some pairs of leaves exchanged.
+pub fn perturbed(r: &mut Random, t: &Tree, swaps: usize) -> Tree {
+    let before = t.leaves();
+    let mut after = before.clone();
+    for _ in 0..swaps {
+        let (i, j) = (r.below(after.len()), r.below(after.len()));
+        after.swap(i, j);
+    }
+    fn relabel(t: &Tree, next: &mut impl Iterator<Item = Label>) -> Tree {
+        match t {
+            Tree::Leaf(_) => Tree::Leaf(next.next().unwrap()),
+            Tree::Node(a, b) => {
+                let a = relabel(a, next);
+                let b = relabel(b, next);
+                Tree::Node(Box::new(a), Box::new(b))
+            }
+        }
+    }
+    relabel(t, &mut after.into_iter())
+}
+
+/// The job that holds such bodies.
+fn small_job(r: &mut Random) -> Vec<u8> {
+    let [s, t, k] = small_bodies(r);
+    job(&s, &t, &k)
+}
+
+/// Two small trees over some of the names, and a list.
+pub fn small_bodies(r: &mut Random) -> [Vec<u8>; 3] {
+    let mut pool = if r.below(3) == 0 { names() } else { labels(12) };
+    r.shuffle(&mut pool);
+    let n = 1 + r.below(9);
+    let s = random_tree(r, &pool[..n]);
+    let t = match r.below(3) {
+        0 => {
+            let swaps = r.below(4);
+            perturbed(r, &s, swaps)
+        }
+        1 => {
+            r.shuffle(&mut pool[..n]);
+            random_tree(r, &pool[..n])
+        }
+        _ => {
+            let from = r.below(3);
+            let to = from + 1 + r.below(9);
+            let mut some = pool[from..to.min(pool.len())].to_vec();
+            r.shuffle(&mut some);
+            random_tree(r, &some)
+        }
+    };
+    let mut k = if r.below(4) == 0 { pool.clone() } else { s.leaves() };
+    r.shuffle(&mut k);
+    let m = r.below(k.len().min(5) + 1);
+    [s.text(), t.text(), list(&k[..m])]
+}
+
+/// A job with a few bytes changed, dropped or added.
+pub fn damaged(r: &mut Random, job: &[u8]) -> Vec<u8> {
+    let mut t = job.to_vec();
+    for _ in 0..1 + r.below(2) {
+        let b = *r.pick(b"(),;ab_-. '\n\x00\xff0123STK");
+        match r.below(3) {
+            0 if !t.is_empty() => {
+                let i = r.below(t.len());
+                t[i] = b;
+            }
+            1 if !t.is_empty() => {
+                t.remove(r.below(t.len()));
+            }
+            _ => t.insert(r.below(t.len() + 1), b),
+        }
+    }
+    t
+}
+
+/// Bodies with a few bytes changed, the contents fitting.
+pub fn damaged_bodies(r: &mut Random) -> Vec<u8> {
+    let pool = labels(8);
+    let n = 1 + r.below(6);
+    let mut texts = [random_tree(r, &pool[..n]).text(), random_tree(r, &pool[..n]).text(), list(&pool[..r.below(n + 1)])];
+    let i = r.below(3);
+    texts[i] = damaged(r, &texts[i].clone());
+    job(&texts[0], &texts[1], &texts[2])
+}
+
+/// Trees of up to 80 leaves: against their reverse, themselves, others, with none or one leaf shared, all required.
+pub fn large_jobs(r: &mut Random) -> Vec<Vec<u8>> {
+    let mut out = Vec::new();
+    for n in [20usize, 40, 79, 80] {
+        let xs = labels(n);
+        let mut back = xs.clone();
+        back.reverse();
+        let mut mixed = xs.clone();
+        r.shuffle(&mut mixed);
+        let up = caterpillar(&xs);
+        let down = caterpillar(&back);
+        let random = random_tree(r, &mixed);
+        let near = perturbed(r, &random, 4);
+        let other = random_tree(r, &xs);
+        for (s, t) in [(&up, &down), (&up, &up), (&random, &near), (&random, &other), (&up, &random), (&near, &down)] {
+            out.push(job(&s.text(), &t.text(), b""));
+            out.push(job(&s.text(), &t.text(), &list(&mixed[..2])));
+            out.push(job(&s.text(), &t.text(), &list(&mixed[..8])));
+            out.push(job(&s.text(), &t.text(), &list(&mixed)));
+        }
+        let strangers: Vec<Label> = (0..n).map(|i| format!("u{i}").into_bytes()).collect();
+        out.push(job(&up.text(), &caterpillar(&strangers).text(), b""));
+        let mut one = strangers.clone();
+        one[n / 2] = xs[3].clone();
+        out.push(job(&random.text(), &random_tree(r, &one).text(), b""));
+        out.push(job(&random.text(), &random_tree(r, &one).text(), &xs[3]));
+    }
+    out.push(job(&caterpillar(&labels(81)).text(), b"a;", b""));
+    out.push(job(b"a;", b"a;", &list(&labels(80))));
+    out.push(job(b"a;", b"a;", &list(&labels(81))));
+    out
+}
+
+pub fn jobs() -> Vec<Vec<u8>> {
+    let mut r = Random(2026);
+    let mut out = paper_jobs();
+    out.extend(contents_jobs());
+    for _ in 0..1500 {
+        let j = small_job(&mut r);
+        if r.below(6) == 0 {
+            out.push(damaged(&mut r, &j));
+        }
+        out.push(j);
+    }
+    for _ in 0..300 {
+        out.push(damaged_bodies(&mut r));
+    }
+    out.extend(large_jobs(&mut r));
+    out
+}
+
+pub fn stream() -> Vec<u8> {
+    let mut out = Vec::new();
+    for j in jobs() {
+        out.extend((j.len() as u16).to_be_bytes());
+        out.extend(&j);
+    }
+    out
+}
+
+pub fn expected() -> Vec<u8> {
+    jobs().iter().flat_map(|j| printed(j)).collect()
+}

@@ -1,0 +1,10 @@
+//! Says what the library must answer, by code of its own: it shares nothing with the crates.
+
+pub mod agree;
+pub mod cases;
+pub mod fast;
+pub mod job;
+pub mod jobs;
+pub mod random;
+pub mod text;
+pub mod trees;

@@ -1,0 +1,25 @@
+//! `oracle text-stdin` and `oracle text-stdout` write the stored cases of the readers and the writer, and what must come out;
+//! `oracle job-stdin` and `oracle job-stdout` the same for whole jobs; `oracle print` reads one job and prints its answer.
+
+use oracle::{cases, job, jobs};
+use std::io::{Read, Write};
+
+fn main() {
+    let what = std::env::args().nth(1).unwrap_or_default();
+    let out = match what.as_str() {
+        "text-stdin" => cases::stream(),
+        "text-stdout" => cases::expected(),
+        "job-stdin" => jobs::stream(),
+        "job-stdout" => jobs::expected(),
+        "print" => {
+            let mut job = Vec::new();
+            std::io::stdin().read_to_end(&mut job).unwrap();
+            job::printed(&job)
+        }
+        _ => {
+            eprintln!("usage: oracle text-stdin | text-stdout | job-stdin | job-stdout | print");
+            std::process::exit(2);
+        }
+    };
+    std::io::stdout().write_all(&out).unwrap();
+}
