@@ -17,6 +17,7 @@ use Rattle.agreement.specs.Restrict.{restrict}
 use Rattle.agreement.specs.SameKept.{SameKept, both-none, both-some}
 use Rattle.agreement.specs.Sets.{keep}
 use Rattle.agreement.specs.Places.{keptText}
+use Rattle.agreement.proofs.SetLaws.{keep-few}
 use Rattle.agreement.proofs.RestrictLaws.{keptLeaves, restrict-leaves, restrict-distinct}
 use Rattle.agreement.proofs.AgreeRestrict.{agree-restrict}
 
@@ -30,15 +31,6 @@ keep-good X (x ∷ xs) h =
     go : goodLabels (keep X xs) ≡ true → (b : Bool) → goodLabels (cond b (x ∷ keep X xs) (keep X xs)) ≡ true
     go k true = and-intro (goodLabel x) (goodLabels (keep X xs)) (and-left (goodLabel x) (goodLabels xs) h) k
     go k false = k
-
-keep-few : (X : Label → Bool) (xs : List Label) → length (keep X xs) ≤ length xs
-unfolding keep
-keep-few X [] = omega arith
-keep-few X (x ∷ xs) = go (keep-few X xs) (X x)
-  where
-    go : length (keep X xs) ≤ length xs → (b : Bool) → length (cond b (x ∷ keep X xs) (keep X xs)) ≤ length (x ∷ xs)
-    go k true = omega arith
-    go k false = omega arith
 
 pub restrict-valid : (X : Label → Bool) (t r : Tree) → Valid t → restrict X t ≡ some r → Valid r
 unfolding keptLeaves

@@ -1,11 +1,12 @@
 -- Laws of sets of labels as increasing lists: members, order, sorting, common leaves, sublists. Assumes nothing.
-use Prim.Native.Nat.{suc}
+use Prim.Native.Nat.{suc, _≤_}
 use mathlib.Core.Path.{_≡_, refl, sym, _∙_, ap, ap₂, fun-ext}
 use mathlib.Core.Bool.{Bool, true, false, cond, _||_}
 use mathlib.Core.Logic.{_⊎_, inl, inr, ⊎-elim, ⊎-map}
 use mathlib.Core.List.{List, [], _∷_, _++_, map}
 use mathlib.Core.List.{List·Memᴰ as Among, List·Memᴰ·head as among-head, List·Memᴰ·tail as among-tail, Memᴰ·append-left, Memᴰ·append-right}
 use mathlib.Core.List.{List·Memᴰ·not-nil as among-nil, List·Memᴰ·cases-cons as among-cases, List·Memᴰ·append-cases as among-append}
+use native.Mathlib.Omega.{arith}
 use lib.ListN.{length}
 use Rattle.trees.specs.Label.{Label, sameLabel, labelLess, isIn, distinct}
 use Rattle.trees.specs.Tree.{Tree, leaves}
@@ -326,6 +327,15 @@ keep-set s t Y d h c =
     (λ x m. in-keep (setOf Y) x (common s t) m .1)
     (λ x m. keep-in (setOf Y) x (common s t) (common-in s t x (c x m .0) (c x m .1)) m)
 
+pub keep-few : (X : Label → Bool) (ys : List Label) → length (keep X ys) ≤ length ys
+unfolding keep
+keep-few X [] = omega arith
+keep-few X (y ∷ ys) = go (X y) (keep-few X ys)
+  where
+    go : (b : Bool) → length (keep X ys) ≤ length ys → length (cond b (y ∷ keep X ys) (keep X ys)) ≤ length (y ∷ ys)
+    go true h = omega arith
+    go false h = omega arith
+
 -- the labels of a list in label order, counted among others
 pub count-held : (Y L : List Label) → increasing Y ≡ true → distinct L ≡ true → Within Y L → length (keep (setOf Y) L) ≡ length Y
 count-held Y L h d f =
@@ -334,6 +344,10 @@ count-held Y L h d f =
     (inc-ext (sorted (keep (setOf Y) L)) Y (sorted-inc (keep (setOf Y) L) (keep-distinct (setOf Y) L d)) h
     (λ x m. in-keep (setOf Y) x L (sym (in-sorted x (keep (setOf Y) L)) ∙ m) .1)
     (λ x m. in-sorted x (keep (setOf Y) L) ∙ keep-in (setOf Y) x L (f x m) m))
+
+-- and they are no more than those
+pub within-few : (Y L : List Label) → increasing Y ≡ true → distinct L ≡ true → Within Y L → length Y ≤ length L
+within-few Y L h d f = omega (arith, count-held Y L h d f, keep-few (setOf Y) L)
 
 -- sublists
 

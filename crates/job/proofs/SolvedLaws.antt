@@ -26,7 +26,7 @@ use Rattle.agreement.specs.Answer.{Answer, firstLacks, secondLacks, disagree, l
 use Rattle.agreement.specs.Places.{placeIn, placeOfLabel, keptText}
 use Rattle.agreement.specs.Demand.{IsAnswer}
 use Rattle.agreement.proofs.Promises.{set-promise, answer-promise}
-use Rattle.agreement.proofs.SetLaws.{count-held}
+use Rattle.agreement.proofs.SetLaws.{within-few}
 use Rattle.mast.specs.Largest.{Solution, solved, clashed, turned, fitted, solutionOf, solveList, solveSecond, solveFirst, solve}
 use Rattle.job.proofs.ShownLaws.{Shown, tree-shown, Listed, list-listed, good-in, good-short, good-bytes}
 
@@ -74,15 +74,6 @@ module _ (first second list : List ℕ) (room : ℕ) where
                   record { other = t; required = xs; read = ea; listed = ec; is = e; short = leb-true _ room l }
               fits false l = tt
 
-keep-few : (X : Label → Bool) (ys : List Label) → length (keep X ys) ≤ length ys
-unfolding keep
-keep-few X [] = omega arith
-keep-few X (y ∷ ys) = go (X y) (keep-few X ys)
-  where
-    go : (b : Bool) → length (keep X ys) ≤ length ys → length (cond b (y ∷ keep X ys) (keep X ys)) ≤ length (y ∷ ys)
-    go true h = omega arith
-    go false h = omega arith
-
 -- the set of a solution: at most 80 labels, each shown in the first tree's text
 module _ (first list : List ℕ) (room : ℕ) (s : Tree) (X : List Label) (text : List ℕ) (b : SolvedBy first list room s X text) where
   set-valid : Valid s
@@ -100,8 +91,7 @@ module _ (first list : List ℕ) (room : ℕ) (s : Tree) (X : List Label) (text 
   set-few =
       omega (
         arith,
-        count-held X (leaves s) (set-answer .allowedSet .ordered) (set-valid .different) in-tree,
-        keep-few (setOf X) (leaves s),
+        within-few X (leaves s) (set-answer .allowedSet .ordered) (set-valid .different) in-tree,
         set-valid .few,
       )
 

@@ -1,7 +1,7 @@
 -- Bodies that were read: what the readers' answers say of them, what the engine's parts may take from them, and how the answer to
 -- three texts follows from the answer to two trees and a list. Assumes nothing.
-use Prim.Native.Nat.{ℕ, _-_, _<_, _≤_}
-use mathlib.Core.Path.{_≡_, refl, sym, _∙_, ap, subst}
+use Prim.Native.Nat.{ℕ, _-_, _<_, _≤_, min}
+use mathlib.Core.Path.{_≡_, refl, sym, _∙_, ap, ap₂, subst}
 use mathlib.Core.Bool.{Bool, true, false}
 use mathlib.Core.List.{List, []}
 use mathlib.Core.Option.{some}
@@ -14,7 +14,7 @@ use Rattle.trees.specs.declared.Body.{Body}
 use Rattle.trees.specs.declared.Body.the-variants.{S, T, K}
 use Rattle.trees.specs.declared.Refusal.{Refusal}
 use Rattle.trees.specs.Label.{Label}
-use Rattle.trees.specs.Tree.{Tree, Valid}
+use Rattle.trees.specs.Tree.{Tree, leaves, Valid}
 use Rattle.trees.specs.Arrays.{arraysOf, nodeLimit}
 use Rattle.trees.specs.Reading.{Reading, good, refused}
 use Rattle.trees.proofs.ArrayLaws.{few-nodes}
@@ -46,30 +46,48 @@ use Rattle.mast.specs.Choice.{Job, Solved}
 use Rattle.mast.specs.Table.{side}
 use Rattle.mast.specs.Finish.{InRange, ByRank, fittedSet, resultFrom}
 use Rattle.mast.specs.Given.{Reads}
-use Rattle.mast.specs.Bodies.{Bodies, HeldBodies, OrderedBodies, ClashingBodies, unreadTree, unreadList}
+use Rattle.mast.specs.Bodies.{Bodies, Bounded, HeldBodies, OrderedBodies, ClashingBodies, unreadTree, unreadList}
 use Rattle.mast.proofs.RequiredLaws.{lack-answer, lack-none}
 
 -- what the readers say
 
-pub record ReadAs (text : List ℕ) (tree : TreeArrays) : Type 0 where
+same-good : {A : Type 0} (a b : A) → good a ≡ good b → a ≡ b
+same-good a b e = cc
+
+pub record ReadAs (text : List ℕ) (tree : TreeArrays) (count : ℕ) : Type 0 where
   pub of : Tree
   pub is : readTree text ≡ good of
   pub arrays : tree ≡ arraysOf of
+  pub count-is : count ≡ length (leaves of)
 
 tree-case : (body : Body) (x : Reading Tree) (r : TreeRead) (n : ℕ) → r ≡ treeRead body x → r .answer ≡ Leaves n
-    → (t : Tree) × (x ≡ good t) × (r .tree ≡ arraysOf t)
+    → (t : Tree) × (x ≡ good t) × (r .tree ≡ arraysOf t) × (n ≡ length (leaves t))
 unfolding treeRead
-tree-case body (good t) r n e h = (t, refl, ap (λ q. q .tree) e)
+tree-case body (good t) r n e h =
+    let d : Leaves n ≡ Leaves (length (leaves t)) = sym h ∙ ap (λ q. q .answer) e in
+    (t, refl, ap (λ q. q .tree) e, cc)
 tree-case body (refused q i) r n e h =
     let d : TreeRefused (record { reason = q; body = body; place = i }) ≡ Leaves n = sym (ap (λ q. q .answer) e) ∙ h in
     let z : _≡_ {A = ℕ} 0 1 = cc in
     absurd (omega arith)
 
 pub tree-read : (body : Body) (text : List ℕ) (r : TreeRead) (n : ℕ) → r ≡ treeRead body (readTree text) → r .answer ≡ Leaves n
-    → ReadAs text (r .tree)
+    → ReadAs text (r .tree) n
 tree-read body text r n e h =
     let k = tree-case body (readTree text) r n e h in
-    record { of = k .0; is = k .1; arrays = k .2 }
+    record { of = k .0; is = k .1; arrays = k .2; count-is = k .3 }
+
+-- two texts that are read have no more labels in common than the smaller tree has leaves
+pub bounded : {first second : List ℕ} {tree1 tree2 : TreeArrays} {m n : ℕ} (most : ℕ) → ReadAs first tree1 m → ReadAs second tree2 n
+    → most ≡ min m n → Bounded first second most
+bounded {first} {second} most one two e =
+    record {
+      few = omega (arith, accepts first (one .of) (one .is) .1 .few, one .count-is);
+      is = λ s t p q.
+          e
+          ∙ ap₂ min (one .count-is ∙ ap (λ (a : Tree). length (leaves a)) (same-good (one .of) s (sym (one .is) ∙ p)))
+          (two .count-is ∙ ap (λ (a : Tree). length (leaves a)) (same-good (two .of) t (sym (two .is) ∙ q)));
+    }
 
 -- a text that is not read is turned down for a reason, at a place
 pub record Unread (A : Type 0) (x : Reading A) (body : Body) (answer : LargestAnswer) : Type 0 where
@@ -158,9 +176,6 @@ same-reads first second list s t u v xs ys r q = (
   same-good t v (sym (r .second-is) ∙ q .second-is),
   same-good xs ys (sym (r .list-is) ∙ q .list-is),
 )
-  where
-    same-good : {A : Type 0} (a b : A) → good a ≡ good b → a ≡ b
-    same-good a b e = cc
 
 module _ (first second list : List ℕ) (tree1 tree2 : TreeArrays) (places : LabelPlaces) (b : Bodies first second list tree1 tree2 places) where
   pub first-valid : Valid (b .s)

@@ -137,7 +137,7 @@ module _ (s t : Tree) (size number r : ℕ) (F : List Label) (weight cells weigh
   }
 
 -- as many labels as the set has are forced already: one more does not fit
-full : (M : List Label → ℕ) (size : ℕ) (c : Label) (F : List Label) → size ≡ length F → fits M size (insert c F) ≡ false
+full : (M : List Label → ℕ) (size : ℕ) (c : Label) (F : List Label) → size ≤ length F → fits M size (insert c F) ≡ false
 unfolding fits
 full M size c F e = go (bool-cases (eqb (M (insert c F) / forcedUnit) (length (insert c F))))
   where
@@ -202,11 +202,11 @@ module _ (s t : Tree) (K : List Label) (size r number : ℕ) (h : r < length (co
 
   -- it need not be tried
   pub passed-full : (weight cells : List ℕ) → (p : Passed s t K size r number weight cells)
-      → isIn (getD (common s t) r []) (p .labels) ≡ false → number ≡ size → Passed s t K size (r + 1) number weight cells
+      → isIn (getD (common s t) r []) (p .labels) ≡ false → size ≤ number → Passed s t K size (r + 1) number weight cells
   passed-full weight cells p k e =
       passed-tried weight cells weight cells false p k
       (tried-back s t size number r (p .labels) weight cells weight cells h (p .forced)
-      (sym (full (greatest s t) size (getD (common s t) r []) (p .labels) (sym e ∙ p .forced .count)))
+      (sym (full (greatest s t) size (getD (common s t) r []) (p .labels) (omega (arith, e, p .forced .count))))
       (p .forced .weighs) (p .forced .filled))
 
 -- the end of the loop

@@ -13,7 +13,7 @@ use lib.Seq.{drop-cons, getD-set-same, getD-set-other}
 use borrow.Author.Tests.{eqb-true, eqb-false}
 use Rattle.trees.specs.declared.Order.the-variants.{Equal, Greater}
 use Rattle.trees.specs.Label.{Label, labelLess, orderOf, isIn}
-use Rattle.trees.specs.Tree.{Tree, leaf, node, Valid}
+use Rattle.trees.specs.Tree.{Tree, leaf, node, leaves, Valid}
 use Rattle.trees.specs.Arrays.{nodesOf}
 use Rattle.trees.specs.Stored.{partOf}
 use Rattle.trees.specs.Postorder.{postorder, subtree, leafLabels}
@@ -24,10 +24,11 @@ use Rattle.trees.proofs.PostorderLaws.{length-postorder, leaf-labels, leaf-once
 use Rattle.agreement.specs.Closer.{holds}
 use Rattle.agreement.specs.Sets.{increasing, insert, sorted, keep, common}
 use Rattle.agreement.proofs.SetLaws.{in-nil, in-head, in-tail, in-cases, inc-head, inc-tail, length-sorted, length-insert}
+use Rattle.agreement.proofs.SetLaws.{common-inc, in-common, keep-few, within-few}
 use Rattle.leaves.specs.Find.{foundLeaf}
 use Rattle.leaves.proofs.OwnLaws.{own-leaf, own-inner, own-label, ownFound, found, missing}
 use Rattle.mast.specs.Engine.{OwnLeaves, LeafIs, Numbered, Ordered, Ranked}
-use Rattle.mast.specs.Ranks.{Place, Opened, commonFrom, Collected, ranksOf}
+use Rattle.mast.specs.Ranks.{Place, Opened, commonFrom, mostCommon, Collected, ranksOf}
 
 -- what the arrays of a tree tell of a leaf
 
@@ -232,33 +233,37 @@ module _ (s t : Tree) where
   unfolding commonFrom common
   from-start = rw (leaf-labels s) refl
 
-keep-shorter : (X : Label → Bool) (xs : List Label) → length (keep X xs) ≤ length xs
-unfolding keep
-keep-shorter X [] = omega arith
-keep-shorter X (x ∷ xs) = go (X x) (keep-shorter X xs)
+keep-drop : (X : Label → Bool) (ts : List Tree) (u : ℕ) → length (keep X (leafLabels (drop u ts))) ≤ length (keep X (leafLabels ts))
+unfolding leafLabels keep
+keep-drop X ts zero = omega arith
+keep-drop X [] (suc u) = omega arith
+keep-drop X (leaf x ∷ ts) (suc u) = go (X x) (keep-drop X ts u)
   where
-    go : (b : Bool) → length (keep X xs) ≤ length xs → length (cond b (x ∷ keep X xs) (keep X xs)) ≤ suc (length xs)
+    go : (b : Bool) → length (keep X (leafLabels (drop u ts))) ≤ length (keep X (leafLabels ts))
+        → length (keep X (leafLabels (drop u ts))) ≤ length (cond b (x ∷ keep X (leafLabels ts)) (keep X (leafLabels ts)))
     go true h = omega arith
-    go false h = omega arith
+    go false h = h
+keep-drop X (node a b ∷ ts) (suc u) = keep-drop X ts u
 
-drop-shorter : (ts : List Tree) (u : ℕ) → length (leafLabels (drop u ts)) ≤ length (leafLabels ts)
-unfolding leafLabels
-drop-shorter ts zero = omega arith
-drop-shorter [] (suc u) = omega arith
-drop-shorter (leaf x ∷ ts) (suc u) = omega (arith, drop-shorter ts u)
-drop-shorter (node a b ∷ ts) (suc u) = drop-shorter ts u
+pub common-few : (s t : Tree) → length (common s t) ≤ length (leaves s)
+unfolding common
+common-few s t = omega (arith, length-sorted (keep (holds t) (leaves s)), keep-few (holds t) (leaves s))
 
-pub from-few : (s t : Tree) (u : ℕ) → Valid s → length (commonFrom s t u) ≤ 80
-unfolding commonFrom
-from-few s t u v =
+from-few : (s t : Tree) (u : ℕ) → Valid s → Valid t → length (commonFrom s t u) ≤ mostCommon s t
+unfolding commonFrom holds
+from-few s t u v w =
     let xs = leafLabels (drop u (postorder s)) in
+    let ys = leafLabels (postorder s) in
+    let all : length (common s t) ≤ length (leaves t) =
+    within-few (common s t) (leaves t) (common-inc s t (v .different)) (w .different) (λ x m. in-common s t x m .1) in
     omega (
       arith,
       length-sorted (keep (holds t) xs),
-      keep-shorter (holds t) xs,
-      drop-shorter (postorder s) u,
-      ap (length {A = Label}) (leaf-labels s),
-      v .few,
+      length-sorted (keep (holds t) ys),
+      keep-drop (holds t) (postorder s) u,
+      ap (length {A = Label}) (from-start s t),
+      common-few s t,
+      all,
     )
 
 -- the next node of the first tree, from the last
@@ -286,6 +291,25 @@ module _ {s t : Tree} {text1 left1 start1 size1 : List ℕ} {nodes1 : ℕ} {text
       go (leaf x) e = absurd (own-is-node o1 u h n x (record { below = below; is = e }))
       go (node a b) e = same (from-node s t u below a b e)
 
+  -- as many as the smaller tree has leaves: no leaf is left that the other holds
+  pub collected-full : (most : ℕ) → most ≡ mostCommon s t → m ≡ most → Collected s t u order1 order2 m
+  collected-full most b e = go (subtree (postorder s) u) refl
+    where
+      full : (x : Label) → subtree (postorder s) u ≡ leaf x → (holds t x ≡ true) ⊎ (holds t x ≡ false) → Collected s t u order1 order2 m
+      full x k (inl held) =
+          absurd (omega (
+            arith,
+            c .count,
+            from-few s t u (o1 .valid) (o2 .valid),
+            length-insert x (commonFrom s t (u + 1)),
+            ap (length {A = Label}) (from-held s t u below x k held),
+          ))
+      full x k (inr lacked) = same (from-lacked s t u below x k lacked)
+
+      go : (r : Tree) → subtree (postorder s) u ≡ r → Collected s t u order1 order2 m
+      go (leaf x) k = full x k (bool-cases (holds t x))
+      go (node a b) k = same (from-node s t u below a b k)
+
   module _ (own : getD left1 u 0 ≡ u) (x : Label) (shown : x ≡ partOf (getD start1 u 0) (getD size1 u 0) text1) where
     pub collected-leaf : LeafIs s u x
     collected-leaf =
@@ -306,16 +330,6 @@ module _ {s t : Tree} {text1 left1 start1 size1 : List ℕ} {nodes1 : ℕ} {text
           go : (holds t x ≡ true) ⊎ (holds t x ≡ false) → holds t x ≡ true
           go (inl k) = k
           go (inr k) = absurd (n (v-is ∙ search-missing o2 x k))
-
-      pub collected-full : {G : Type 0} → (v ≡ nodes2 → ⊥) → m ≡ 80 → G
-      collected-full n e =
-          absurd (omega (
-            arith,
-            c .count,
-            from-few s t u (o1 .valid),
-            length-insert x (commonFrom s t (u + 1)),
-            ap (length {A = Label}) (from-held s t u below x (collected-leaf .is) (held n)),
-          ))
 
       pub collected-add : (v ≡ nodes2 → ⊥) → (p : ℕ) → Place x (commonFrom s t (u + 1)) p → (new1 new2 : List ℕ)
           → Opened p m u order1 new1 → Opened p m v order2 new2 → Collected s t u new1 new2 (m + 1)

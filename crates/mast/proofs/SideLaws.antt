@@ -31,7 +31,7 @@ use Rattle.mast.specs.Table.{cell, Side, Shape, leafValue, Setting, AllR
 use Rattle.mast.specs.Marks.{LeafOf, Marked}
 use Rattle.mast.specs.Choice.{Ready, OwnSide, Job, greatest, Filled, Topped}
 use Rattle.mast.proofs.TableLaws.{NodeCase, is-leaf, is-node, node-case}
-use Rattle.mast.proofs.RankLaws.{from-start, from-few, in-at}
+use Rattle.mast.proofs.RankLaws.{common-few, in-at}
 use Rattle.mast.proofs.MarkLaws.{leaf-of, unmarked-right}
 
 -- children have no larger numbers
@@ -105,7 +105,7 @@ module _ (s t : Tree) (one two : Side) (order1 order2 : List ℕ) (m : ℕ) (h :
   }
 
   pub job-few : m ≤ 80
-  job-few = omega (arith, h .order .count, from-few s t 0 (h .first .valid), ap (length {A = Label}) (from-start s t))
+  job-few = omega (arith, h .order .count, common-few s t, h .first .valid .few)
 
 leaf-value-same : (weight : List ℕ) (p q r : ℕ) → p ≡ r → q ≡ r → leafValue weight p q ≡ getD weight r 0
 unfolding leafValue

@@ -4,8 +4,10 @@ use mathlib.Core.Path.{_≡_}
 use mathlib.Core.List.{List}
 use Rattle.trees.specs.declared.TreeArrays.{TreeArrays}
 use Rattle.trees.specs.Label.{Label}
-use Rattle.trees.specs.Tree.{Tree}
+use Rattle.trees.specs.Tree.{Tree, leafLimit}
+use Rattle.trees.specs.Reading.{good}
 use Rattle.trees.specs.Arrays.{arraysOf}
+use Rattle.newick.specs.ReadTree.{readTree}
 use Rattle.newick.specs.declared.TreeAnswer.{TreeAnswer}
 use Rattle.newick.specs.declared.TreeAnswer.the-variants.{Leaves, Refused as TreeRefused}
 use Rattle.lists.specs.declared.ListAnswer.{ListAnswer}
@@ -19,6 +21,7 @@ use Rattle.mast.specs.declared.LargestAnswer.{LargestAnswer}
 use Rattle.mast.specs.declared.LargestAnswer.the-variants.{Found, Refused}
 use Rattle.mast.specs.Given.{Reads}
 use Rattle.mast.specs.Engine.{Ordered}
+use Rattle.mast.specs.Ranks.{mostCommon}
 
 -- the answer to a body that was turned down; one that was read does not come here
 unfoldable pub unreadTree : TreeAnswer → LargestAnswer
@@ -38,6 +41,11 @@ pub record Bodies (first second list : List ℕ) (tree1 tree2 : TreeArrays) (pla
   pub first-arrays : tree1 ≡ arraysOf s
   pub second-arrays : tree2 ≡ arraysOf t
   pub list-places : places ≡ placesOf K
+
+-- both trees are read, and no more labels than this are common
+pub record Bounded (first second : List ℕ) (most : ℕ) : Type 0 where
+  pub few : most ≤ leafLimit
+  pub is : (s t : Tree) → readTree first ≡ good s → readTree second ≡ good t → most ≡ mostCommon s t
 
 -- both trees hold every label of the list
 pub record HeldBodies (first second list : List ℕ) (tree1 tree2 : TreeArrays) (places : LabelPlaces) : Type 0 where

@@ -1,12 +1,12 @@
 -- Common leaves collected from the last node of the first tree to its first, and ranks stored one after the other.
 -- Intermediate: nothing public rests on this text.
-use Prim.Native.Nat.{ℕ, zero, suc, _<_, _≤_}
+use Prim.Native.Nat.{ℕ, zero, suc, _<_, _≤_, min}
 use mathlib.Core.Path.{_≡_}
 use mathlib.Core.Bool.{true, false}
 use mathlib.Core.List.{List, []}
 use lib.ListN.{length, getD, set, drop, replicate}
 use Rattle.trees.specs.Label.{Label, labelLess}
-use Rattle.trees.specs.Tree.{Tree}
+use Rattle.trees.specs.Tree.{Tree, leaves}
 use Rattle.trees.specs.Postorder.{postorder, leafLabels}
 use Rattle.agreement.specs.Closer.{holds}
 use Rattle.agreement.specs.Sets.{sorted, keep}
@@ -28,6 +28,10 @@ pub record Opened (p m u : ℕ) (old new : List ℕ) : Type 0 where
 -- the common labels among the nodes of s from u on, in label order
 unfoldable pub commonFrom : Tree → Tree → ℕ → List Label
 commonFrom s t u = sorted (keep (holds t) (leafLabels (drop u (postorder s))))
+
+-- no more labels are common than the smaller tree has leaves
+abbrev pub mostCommon : Tree → Tree → ℕ
+mostCommon s t = min (length (leaves s)) (length (leaves t))
 
 -- the arrays have these labels by their leaves in both trees
 pub record Collected (s t : Tree) (u : ℕ) (order1 order2 : List ℕ) (m : ℕ) : Type 0 where

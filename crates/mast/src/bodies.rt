@@ -20,7 +20,7 @@ ghost use Rattle.mast.specs.Required.{lackOf};
 ghost use Rattle.mast.specs.Choice.{Solved};
 ghost use Rattle.mast.specs.Finish.{resultFrom};
 ghost use Rattle.mast.specs.Given.{Reads};
-ghost use Rattle.mast.specs.Bodies.{Bodies, HeldBodies, OrderedBodies, ClashingBodies};
+ghost use Rattle.mast.specs.Bodies.{Bodies, Bounded, HeldBodies, OrderedBodies, ClashingBodies};
 use crate::LargestAnswer;
 use crate::LargestResult;
 use crate::finish::solution;
@@ -85,11 +85,13 @@ fn order_in(
     tree2: TreeArrays,
     order1: &mut [usize; 80],
     order2: &mut [usize; 80],
+    most: usize,
 ) -> usize
-    requires { ⌜ tree1 .nodes ≤ 159 ⌝ }
+    requires { ⌜ (tree1 .nodes ≤ 159) × (most ≤ 80) ⌝ }
     ensures { λ r. ⌜ r ≤ 80 ⌝ }
     ensures { λ r. ⌜ ((list : List ℕ) (places : LabelPlaces)
         → HeldBodies (now (first .entry)) (now (second .entry)) list tree1 tree2 places
+        → Bounded (now (first .entry)) (now (second .entry)) most
         → OrderedBodies (now (first .entry)) (now (second .entry)) list tree1 tree2 places (now (order1 .exit)) (now (order2 .exit)) r) ⌝ }
 {
     let left1 = tree1.left;
@@ -111,6 +113,7 @@ fn order_in(
         tree2.nodes,
         order1,
         order2,
+        most,
     )
 }
 
@@ -219,9 +222,11 @@ fn answer_held(
     tree2: TreeArrays,
     list: &[u8],
     places: LabelPlaces,
+    most: usize,
     out: &mut [u8],
 ) -> LargestResult
     requires { ⌜ HeldBodies (now first) (now second) (now list) tree1 tree2 places ⌝ }
+    requires { ⌜ Bounded (now first) (now second) most ⌝ }
     ensures answer { λ r.
         ⌜ r ≡ largestOf (solve (now (first .entry)) (now (second .entry)) (now (list .entry)) (length (now (out .entry)))) ⌝ }
     ensures output { λ _. ⌜ now (out .exit)
@@ -229,7 +234,7 @@ fn answer_held(
 {
     let mut order1 = [0usize; 80];
     let mut order2 = [0usize; 80];
-    let m = order_in(first, tree1, second, tree2, &mut order1, &mut order2);
+    let m = order_in(first, tree1, second, tree2, &mut order1, &mut order2, most);
     let mut weight = [0u16; 81];
     if find_set(
         first,
@@ -262,7 +267,7 @@ fn lacks(reason: Reason, places: LabelPlaces, n: usize) -> LargestResult
     }))
 }
 
-// The answer to two trees and a list that were read.
+// The answer to two trees and a list that were read; no more than `most` labels are common.
 pub(crate) fn answer_bodies(
     first: &[u8],
     tree1: TreeArrays,
@@ -270,9 +275,11 @@ pub(crate) fn answer_bodies(
     tree2: TreeArrays,
     list: &[u8],
     places: LabelPlaces,
+    most: usize,
     out: &mut [u8],
 ) -> LargestResult
     requires { ⌜ Bodies (now first) (now second) (now list) tree1 tree2 places ⌝ }
+    requires { ⌜ Bounded (now first) (now second) most ⌝ }
     ensures answer { λ r.
         ⌜ r ≡ largestOf (solve (now (first .entry)) (now (second .entry)) (now (list .entry)) (length (now (out .entry)))) ⌝ }
     ensures output { λ _. ⌜ now (out .exit)
@@ -280,7 +287,7 @@ pub(crate) fn answer_bodies(
 {
     let lack = lack_in(first, tree1, second, tree2, list, places);
     match lack {
-        Lack::Nothing => answer_held(first, tree1, second, tree2, list, places, out),
+        Lack::Nothing => answer_held(first, tree1, second, tree2, list, places, most, out),
         Lack::First(n) => lacks(Reason::FirstLacks, places, n),
         Lack::Second(n) => lacks(Reason::SecondLacks, places, n),
     }

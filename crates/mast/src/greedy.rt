@@ -197,7 +197,7 @@ fn try_label(
     false
 }
 
-// Passes the label with rank r, and tells how many labels are forced then. Once they are as many as the set has, no other fits.
+// Passes the label with rank r, and tells how many labels are forced then. One more than the set has does not fit.
 fn pass_label(
     left1: &[usize; 159],
     right1: &[usize; 159],
@@ -228,7 +228,7 @@ fn pass_label(
     if weight[r] == 128 {
         return number;
     }
-    if number == size {
+    if size < number + 1 {
         return number;
     }
     if try_label(

@@ -8,6 +8,7 @@ use trees::Body;
 use trees::Refusal;
 ghost use mathlib.Core.Path.{_≡_};
 ghost use mathlib.Core.List.{[]};
+ghost use Prim.Native.Nat.{min};
 ghost use lib.ListN.{length};
 ghost use Rattle.lists.specs.ReadList.{placesOf};
 ghost use Rattle.mast.specs.Largest.{solve, largestOf, outputOf};
@@ -56,6 +57,13 @@ fn unread_list(answer: ListAnswer) -> LargestResult
     }
 }
 
+// The smaller number.
+fn fewer(a: usize, b: usize) -> usize
+    ensures { λ r. ⌜ r ≡ min a b ⌝ }
+{
+    if a < b { a } else { b }
+}
+
 // The largest set of common leaves that holds the required ones and on which the trees agree, the first in label order among
 // equals: its size and places, and the normal text of its restriction in `out`. Refusals are told in the order S, T, K, 6 or 7,
 // 8, 9, and `out` then keeps every byte.
@@ -68,12 +76,12 @@ pub fn largest(first: &[u8], second: &[u8], required: &[u8], out: &mut [u8]) -> 
 {
     let one = newick::read_tree(first, Body::S);
     let answer1 = one.answer;
-    let TreeAnswer::Leaves(_) = answer1 else {
+    let TreeAnswer::Leaves(leaves1) = answer1 else {
         return unread_tree(answer1);
     };
     let two = newick::read_tree(second, Body::T);
     let answer2 = two.answer;
-    let TreeAnswer::Leaves(_) = answer2 else {
+    let TreeAnswer::Leaves(leaves2) = answer2 else {
         return unread_tree(answer2);
     };
     let list = lists::read_list(required, Body::K);
@@ -84,5 +92,6 @@ pub fn largest(first: &[u8], second: &[u8], required: &[u8], out: &mut [u8]) -> 
     let tree1 = one.tree;
     let tree2 = two.tree;
     let places = list.places;
-    bodies::answer_bodies(first, tree1, second, tree2, required, places, out)
+    let most = fewer(leaves1, leaves2);
+    bodies::answer_bodies(first, tree1, second, tree2, required, places, most, out)
 }

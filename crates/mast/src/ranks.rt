@@ -11,7 +11,7 @@ ghost use Rattle.trees.specs.Tree.{Tree, Valid};
 ghost use Rattle.trees.specs.Stored.{partOf};
 ghost use Rattle.agreement.specs.Sets.{increasing};
 ghost use Rattle.mast.specs.Engine.{OwnLeaves, Numbered, Ordered, Ranked};
-ghost use Rattle.mast.specs.Ranks.{Place, Opened, Collected};
+ghost use Rattle.mast.specs.Ranks.{Place, Opened, mostCommon, Collected};
 use trees::Order;
 
 // Label `a` comes before label `b`.
@@ -77,8 +77,8 @@ fn open_at(order: &mut [usize; 80], m: usize, p: usize, u: usize)
     order[p] = u;
 }
 
-// Puts node u of the first tree into the order if it is a leaf whose label the second tree holds. The test for 80 is for
-// safety alone: a tree has no more leaves.
+// Puts node u of the first tree into the order if it is a leaf whose label the second tree holds. Once as many are there as
+// the smaller tree has leaves, no label is looked up.
 fn add_common(
     text1: &[u8],
     left1: &[usize; 159],
@@ -92,17 +92,21 @@ fn add_common(
     nodes2: usize,
     order1: &mut [usize; 80],
     order2: &mut [usize; 80],
+    most: usize,
     m: usize,
     u: usize,
 ) -> usize
-    requires { ⌜ (m ≤ 80) × (u < 159) ⌝ }
-    ensures { λ r. ⌜ r ≤ 80 ⌝ }
+    requires { ⌜ (m ≤ most) × (most ≤ 80) × (u < 159) ⌝ }
+    ensures { λ r. ⌜ r ≤ most ⌝ }
     ensures { λ r. ⌜ ((s t : Tree)
         → OwnLeaves s (now (text1 .entry)) (now (left1 .entry)) (now (start1 .entry)) (now (size1 .entry)) nodes1
         → OwnLeaves t (now (text2 .entry)) (now (left2 .entry)) (now (start2 .entry)) (now (size2 .entry)) nodes2
-        → u < nodes1 → Collected s t (u + 1) (now (order1 .entry)) (now (order2 .entry)) m
+        → most ≡ mostCommon s t → u < nodes1 → Collected s t (u + 1) (now (order1 .entry)) (now (order2 .entry)) m
         → Collected s t u (now (order1 .exit)) (now (order2 .exit)) r) ⌝ }
 {
+    if m == most {
+        return m;
+    }
     let child = left1[u];
     if child != u {
         return m;
@@ -112,17 +116,14 @@ fn add_common(
     if v == nodes2 {
         return m;
     }
-    if m == 80 {
-        return m;
-    }
     let p = place_of(text1, left1, start1, size1, nodes1, order1, m, label);
     open_at(order1, m, p, u);
     open_at(order2, m, p, v);
     m + 1
 }
 
-// The leaves common to both trees in label order: their numbers in the first tree and in the second, and how many they are.
-// Nodes are taken from the last to the first, as the definition of the common labels inserts them.
+// The leaves common to both trees in label order: their numbers in the first tree and in the second, and how many they are,
+// `most` at the most. Nodes are taken from the last to the first, as the definition of the common labels inserts them.
 pub(crate) fn common_order(
     text1: &[u8],
     left1: &[usize; 159],
@@ -136,13 +137,14 @@ pub(crate) fn common_order(
     nodes2: usize,
     order1: &mut [usize; 80],
     order2: &mut [usize; 80],
+    most: usize,
 ) -> usize
-    requires { ⌜ nodes1 ≤ 159 ⌝ }
+    requires { ⌜ (nodes1 ≤ 159) × (most ≤ 80) ⌝ }
     ensures { λ r. ⌜ r ≤ 80 ⌝ }
     ensures { λ r. ⌜ ((s t : Tree)
         → OwnLeaves s (now (text1 .entry)) (now (left1 .entry)) (now (start1 .entry)) (now (size1 .entry)) nodes1
         → OwnLeaves t (now (text2 .entry)) (now (left2 .entry)) (now (start2 .entry)) (now (size2 .entry)) nodes2
-        → Ordered s t (now (order1 .exit)) (now (order2 .exit)) r) ⌝ }
+        → most ≡ mostCommon s t → Ordered s t (now (order1 .exit)) (now (order2 .exit)) r) ⌝ }
 {
     *order1 = [0; 80];
     *order2 = [0; 80];
@@ -163,6 +165,7 @@ pub(crate) fn common_order(
             nodes2,
             order1,
             order2,
+            most,
             m,
             u,
         );

@@ -15,8 +15,8 @@ enum-told c = search needs
 answer-held-requires : tie.Need-answer-held-requires
 answer-held-requires c κs =
     let start = c .before .before .before .before .before .before .before .before in
-    let b = start .pre in
-    all-held _ _ _ _ _ _ b 0 (sym (c .before .enum-told .given .1) ∙ c .before .before .before .lack-in .ensures (b .s) (b .t) (b .K) (b .reads))
+    let b = start .pre .0 in
+    (all-held _ _ _ _ _ _ b 0 (sym (c .before .enum-told .given .1) ∙ c .before .before .before .lack-in .ensures (b .s) (b .t) (b .K) (b .reads)), start .pre .1)
 
 enum-known-lack : tie.Need-enum-known-lack
 enum-known-lack c = search needs
@@ -24,7 +24,7 @@ enum-known-lack c = search needs
 lacks-requires : tie.Need-lacks-requires
 lacks-requires c κs =
     let start = c .before .before .before .before .before .before .before .before in
-    let b = start .pre in
+    let b = start .pre .0 in
     let q = six-told _ _ _ _ _ _ b 0 _ (sym (c .before .lack .given .1) ∙ c .before .before .before .lack-in .ensures (b .s) (b .t) (b .K) (b .reads)) in
     omega (arith, q .low, own-list _ _ _ _ _ _ b .few)
 
@@ -34,7 +34,7 @@ enum-known-lack-2 c = search needs
 lacks-requires-2 : tie.Need-lacks-requires-2
 lacks-requires-2 c κs =
     let start = c .before .before .before .before .before .before .before .before in
-    let b = start .pre in
+    let b = start .pre .0 in
     let q = seven-told _ _ _ _ _ _ b 0 _ (sym (c .before .lack2 .given .1) ∙ c .before .before .before .lack-in .ensures (b .s) (b .t) (b .K) (b .reads)) in
     omega (arith, q .low, own-list _ _ _ _ _ _ b .few)
 
@@ -47,14 +47,14 @@ returns c = search needs
 returns-2 : tie.Need-returns-2
 returns-2 c =
     let start = c .before .before .before .before .before .before .before .before .before in
-    let b = start .pre in
+    let b = start .pre .0 in
     let q = six-told _ _ _ _ _ _ b _ _ (sym (c .before .before .lack .given .1) ∙ c .before .before .before .before .lack-in .ensures (b .s) (b .t) (b .K) (b .reads)) in
     (c .lacks .ensures ∙ turned-result _ _ _ (q .solution) refl, turned-output _ _ _ (q .solution))
 
 returns-3 : tie.Need-returns-3
 returns-3 c =
     let start = c .before .before .before .before .before .before .before .before .before in
-    let b = start .pre in
+    let b = start .pre .0 in
     let q = seven-told _ _ _ _ _ _ b _ _ (sym (c .before .before .lack2 .given .1) ∙ c .before .before .before .before .lack-in .ensures (b .s) (b .t) (b .K) (b .reads)) in
     (c .lacks2 .ensures ∙ turned-result _ _ _ (q .solution) refl, turned-output _ _ _ (q .solution))
 

@@ -9,24 +9,24 @@ use Rattle.mast.proofs.bodies.answer_held.Tie as tie
 order-in-requires : tie.Need-order-in-requires
 order-in-requires c κs =
     let start = c .before .before .before .before .before .before in
-    first-few _ _ _ _ _ _ (start .pre .bodies)
+    (first-few _ _ _ _ _ _ (start .pre .0 .bodies), start .pre .1 .few)
 
 find-set-requires : tie.Need-find-set-requires
 find-set-requires c κs =
     let start = c .before .before .before .before .before .before .before .before .before .before in
-    (c .before .before .before .order-in .ensures .1 _ _ (start .pre), c .before .before .before .order-in .ensures .0)
+    (c .before .before .before .order-in .ensures .1 _ _ (start .pre .0) (start .pre .1), c .before .before .before .order-in .ensures .0)
 
 solution-requires : tie.Need-solution-requires
 solution-requires c κs =
     let at-order-in = c .before .before .before .before .before .before .before .before in
     let start = at-order-in .before .before .before .before .before .before .before in
-    (at-order-in .order-in .ensures .0, in-range _ _ _ _ _ _ _ _ _ (at-order-in .order-in .ensures .1 _ _ (start .pre)))
+    (at-order-in .order-in .ensures .0, in-range _ _ _ _ _ _ _ _ _ (at-order-in .order-in .ensures .1 _ _ (start .pre .0) (start .pre .1)))
 
 eight-requires : tie.Need-eight-requires
 eight-requires c κs =
     let at-order-in = c .before .before .before .before .before in
     let start = at-order-in .before .before .before .before .before .before .before in
-    clashing _ _ _ _ _ _ _ _ _ (at-order-in .order-in .ensures .1 _ _ (start .pre)) _ _ (c .before .find-set .ensures) (c .if1 .left)
+    clashing _ _ _ _ _ _ _ _ _ (at-order-in .order-in .ensures .1 _ _ (start .pre .0) (start .pre .1)) _ _ (c .before .find-set .ensures) (c .if1 .left)
 
 same-length : tie.Need-same-length
 same-length c = search needs
@@ -37,7 +37,7 @@ returns c =
     let at-find-set = at-if1 .before in
     let at-order-in = at-find-set .before .before .before .before in
     let start = at-order-in .before .before .before .before .before .before .before in
-    let o = at-order-in .order-in .ensures .1 _ _ (start .pre) in
+    let o = at-order-in .order-in .ensures .1 _ _ (start .pre .0) (start .pre .1) in
     let out = start .args .out .now in
     let e = set-solution _ _ _ _ _ _ _ _ _ o _ _ _ (at-find-set .find-set .ensures) (at-if1 .if1 .taken) in (
       c .before .before .solution .ensures .0 _ _ (by-rank _ _ _ _ _ _ _ _ _ o) ∙ ap largestOf e,

@@ -10,10 +10,11 @@ common-order-requires c κs = search needs
 returns : tie.Need-returns
 returns c = (
   c .common-order .ensures .0,
-  λ list places h.
+  λ list places h b.
       record {
         given = h;
-        order = c .common-order .ensures .1 (h .bodies .s) (h .bodies .t) (first-leaves _ _ _ _ _ _ (h .bodies)) (second-leaves _ _ _ _ _ _ (h .bodies));
+        order = c .common-order .ensures .1 (h .bodies .s) (h .bodies .t) (first-leaves _ _ _ _ _ _ (h .bodies)) (second-leaves _ _ _ _ _ _ (h .bodies))
+            (b .is _ _ (h .bodies .reads .first-is) (h .bodies .reads .second-is));
       },
 )
 

@@ -24,6 +24,9 @@ returns c = (
       passed-in s t K _ _ _ h _ _ p (weight-in (common s t) (p .labels) _ _ h (p .forced .weighs) (c .if1 .taken)),
 )
 
+add-if2 : tie.Need-add-if2
+add-if2 c = search needs
+
 returns-2 : tie.Need-returns-2
 returns-2 c = (
   omega arith,
@@ -31,7 +34,7 @@ returns-2 c = (
       let start = c .before .before .before in
       let h : start .args .r < length (common s t) = omega (arith, job .order .count, start .pre .1 .1) in
       let new = weight-out (common s t) (p .labels) _ _ h (p .forced .weighs) (c .before .if1 .left) in
-      passed-full s t K _ _ _ h _ _ p new (c .if2 .taken),
+      passed-full s t K _ _ _ h _ _ p new (omega (arith, c .if2 .taken)),
 )
 
 try-label-requires : tie.Need-try-label-requires
@@ -67,6 +70,7 @@ pass-label-spec =
     mul-if1
     element-copy-out-if1
     returns
+    add-if2
     returns-2
     try-label-requires
     add-result
