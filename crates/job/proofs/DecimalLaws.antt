@@ -1,4 +1,4 @@
--- Decimal digits: one digit more at the front of those stored; the number that they stand for. Assumes nothing.
+-- Decimal digits: one digit more after those put; the number that they stand for. Assumes nothing.
 use Prim.Native.Nat.{ℕ, zero, suc, _+_, _-_, _*_, _/_, _%_, _^_, _≤_, _<_}
 use mathlib.Core.Path.{_≡_, refl, sym, _∙_, ap}
 use mathlib.Core.Bool.{Bool, true, false, cond, _&&_}
@@ -8,23 +8,14 @@ use native.Mathlib.Nat.{pow-suc}
 use native.Mathlib.Numerals.{add-one, sub-one}
 use native.Mathlib.Omega.{arith}
 use lib.Dec.{ltb, leb}
-use lib.ListN.{length, getD, set, take, drop, length-set, length-append, drop-of-length-le, List·getD-append}
-use lib.Seq.{drop-cons, getD-set-same, drop-set-lt}
+use lib.ListN.{length, getD, set, length-append, List·getD-append}
 use borrow.Author.Tests.{lt-ltb, le-ltb, ltb-true, ltb-false, le-leb, leb-true}
 use Rattle.trees.proofs.Bools.{bool-cases, and-left, and-right, and-intro}
 use Rattle.job.specs.Decimal.{decimalFrom, decimalOf, isDigit, valueFrom}
+use Rattle.job.specs.Areas.{Put}
+use Rattle.job.proofs.AreaLaws.{put-none, put-one, put-then, put-as, put-to}
 
--- ---- the digits stored from the last one on
-
--- a store in front of what is stored
-stored : (out : List ℕ) (at d : ℕ) → 0 < at → at ≤ length out → drop (at - 1) (set out (at - 1) d) ≡ d ∷ drop at out
-stored out at d h k =
-    let e : suc (at - 1) ≡ at = omega arith in
-    let inside : at - 1 < length (set out (at - 1) d) = omega (arith, length-set out (at - 1) d) in
-    drop-cons (set out (at - 1) d) (at - 1) 0 inside
-    ∙ ap (λ (x : ℕ). x ∷ drop (suc (at - 1)) (set out (at - 1) d)) (getD-set-same out (at - 1) d 0 (omega arith))
-    ∙ ap (λ (l : List ℕ). d ∷ l) (drop-set-lt (suc (at - 1)) out (at - 1) d (omega arith))
-    ∙ ap (λ (j : ℕ). d ∷ drop j out) e
+-- ---- the digits put one after another
 
 pub from-small : (at n : ℕ) → 0 < at → n < 10 → decimalFrom at n ≡ (48 + n) ∷ []
 unfolding decimalFrom
@@ -38,33 +29,29 @@ from-large (suc at) n h k =
     let e : at ≡ suc at - 1 = omega arith in
     rw (le-ltb n 10 k) (ap (λ (r : ℕ). decimalFrom r (n / 10) ++ ((48 + n % 10) ∷ [])) e)
 
-module _ (n : ℕ) (out : List ℕ) (rest at : ℕ) (more : 0 < at) (room : at ≤ length out)
-    (so-far : decimalFrom at rest ++ drop at out ≡ decimalOf n) where
-  pub last-digit : rest < 10 → drop (at - 1) (set out (at - 1) (48 + rest % 10)) ≡ decimalOf n
-  last-digit h =
-      let e : 48 + rest % 10 ≡ 48 + rest = omega arith in
-      stored out at (48 + rest % 10) more room
-      ∙ ap (λ (d : ℕ). d ∷ drop at out) e
-      ∙ ap (λ (l : List ℕ). l ++ drop at out) (sym (from-small at rest more h))
-      ∙ so-far
-
-  pub next-digit : 10 ≤ rest
-      → decimalFrom (at - 1) (rest / 10) ++ drop (at - 1) (set out (at - 1) (48 + rest % 10)) ≡ decimalOf n
-  next-digit h =
-      ap (λ (l : List ℕ). decimalFrom (at - 1) (rest / 10) ++ l) (stored out at (48 + rest % 10) more room)
-      ∙ sym (append-assoc (decimalFrom (at - 1) (rest / 10)) ((48 + rest % 10) ∷ []) (drop at out))
-      ∙ ap (λ (l : List ℕ). l ++ drop at out) (sym (from-large at rest more h))
-      ∙ so-far
-
-pub all-digits : (n : ℕ) (out : List ℕ) (rest at : ℕ) → at ≡ 0 → decimalFrom at rest ++ drop at out ≡ decimalOf n → drop at out ≡ decimalOf n
+pub no-digit : (a : List ℕ) (at room n : ℕ) → room ≡ 0 → Put a at (decimalFrom room n) at a
 unfolding decimalFrom
-all-digits n out rest zero e h = h
-all-digits n out rest (suc at) e h = absurd (omega arith)
+no-digit a at zero n e = put-to (at + 0) at (omega arith) (put-none a at)
+no-digit a at (suc room) n e = absurd (omega arith)
 
-pub no-digit : (n : ℕ) (out : List ℕ) → length out ≤ 20 → decimalFrom 20 n ++ drop 20 out ≡ decimalOf n
+pub one-digit : (a : List ℕ) (at room n d : ℕ) → 0 < room → n < 10 → d ≡ 48 + n % 10 → at < length a
+    → Put a at (decimalFrom room n) (at + 1) (set a at d)
+one-digit a at room n d p h e low =
+    let f : d ≡ 48 + n = omega arith in
+    put-as (d ∷ []) (decimalFrom room n) (ap (λ (x : ℕ). x ∷ []) f ∙ sym (from-small room n p h)) (put-one a at (at + 1) d refl low)
+
+-- the last digit after those of a tenth
+pub next-digit : (a b : List ℕ) (at i room n d : ℕ) → Put a at (decimalFrom (room - 1) (n / 10)) i b → 0 < room → 10 ≤ n
+    → d ≡ 48 + n % 10 % 10 → i < length b → Put a at (decimalFrom room n) (i + 1) (set b i d)
+next-digit a b at i room n d q p h e low =
+    let f : d ≡ 48 + n % 10 = omega arith in
+    put-as (decimalFrom (room - 1) (n / 10) ++ (d ∷ [])) (decimalFrom room n)
+    (ap (λ (x : ℕ). decimalFrom (room - 1) (n / 10) ++ (x ∷ [])) f ∙ sym (from-large room n p h))
+    (put-then q (put-one b i (i + 1) d refl low))
+
+pub twenty-digits : (n : ℕ) → decimalFrom 20 n ≡ decimalOf n
 unfolding decimalOf
-no-digit n out h =
-    ap (λ (l : List ℕ). decimalFrom 20 n ++ l) (drop-of-length-le out h) ∙ mathlib.Core.List.append-nil (decimalFrom 20 n)
+twenty-digits n = refl
 
 -- at most 20 digits
 from-short : (room n : ℕ) → length (decimalFrom room n) ≤ room
@@ -80,6 +67,9 @@ from-short (suc room) n = go (ltb n 10) (from-short room (n / 10))
 pub decimal-short : (n : ℕ) → length (decimalOf n) ≤ 20
 unfolding decimalOf
 decimal-short n = from-short 20 n
+
+pub digits-end : {a b : List ℕ} {at i : ℕ} (room n : ℕ) → Put a at (decimalFrom room n) i b → i ≤ at + room
+digits-end room n p = omega (arith, p .ends, from-short room n)
 
 -- ---- the number that digits stand for
 

@@ -129,7 +129,7 @@ fn cut_at(job: &[u8], at: usize, s: usize, t: usize, k: usize) -> Layout
 }
 
 // Where the bodies stand in a job.
-pub fn contents(job: &[u8]) -> Layout
+pub(crate) fn contents(job: &[u8]) -> Layout
     ensures bodies { λ r. ⌜ bodiesOf (now (job .entry)) ≡ bodiesTold (now (job .entry)) r ⌝ }
     ensures inside { λ r. ⌜ Inside (now (job .entry)) r ⌝ }
 {

@@ -1,7 +1,7 @@
 // Lines put together in an area, part by part, and handed over to a lent output.
 use crate::LineAnswer;
 use crate::Named;
-use crate::decimal::decimal;
+use crate::decimal::put_digits;
 use trees::Body;
 use trees::Reason;
 use trees::Refusal;
@@ -17,7 +17,7 @@ ghost use Rattle.job.specs.Answered.{lineAnswer, lineOutput, labelIn, na
 ghost use Rattle.job.specs.Areas.{Put, item, labelsIn};
 
 // Puts one byte at `at`, and says where the next goes.
-pub fn put_byte(b: u8, area: &mut [u8], at: usize) -> usize
+pub(crate) fn put_byte(b: u8, area: &mut [u8], at: usize) -> usize
     requires { ⌜ at + 1 ≤ length (now area) ⌝ }
     ensures { λ r. ⌜ Put (now (area .entry)) at (b ∷ []) r (now (area .exit)) ⌝ }
 {
@@ -26,7 +26,7 @@ pub fn put_byte(b: u8, area: &mut [u8], at: usize) -> usize
 }
 
 // Puts the bytes of x from `at` on.
-pub fn put_bytes(x: &[u8], area: &mut [u8], at: usize) -> usize
+pub(crate) fn put_bytes(x: &[u8], area: &mut [u8], at: usize) -> usize
     requires { ⌜ at + length (now x) ≤ length (now area) ⌝ }
     ensures { λ r. ⌜ Put (now (area .entry)) at (now (x .entry)) r (now (area .exit)) ⌝ }
 {
@@ -39,17 +39,15 @@ pub fn put_bytes(x: &[u8], area: &mut [u8], at: usize) -> usize
 }
 
 // Puts the decimal digits of n from `at` on.
-pub fn put_number(n: usize, area: &mut [u8], at: usize) -> usize
+pub(crate) fn put_number(n: usize, area: &mut [u8], at: usize) -> usize
     requires { ⌜ at + 20 ≤ length (now area) ⌝ }
     ensures { λ r. ⌜ Put (now (area .entry)) at (decimalOf n) r (now (area .exit)) ⌝ }
 {
-    let mut digits = [0u8; 20];
-    let first = decimal(n, &mut digits);
-    put_bytes(&digits[first..], area, at)
+    put_digits(20, n, area, at)
 }
 
 // The label of `size` bytes at a place of a text, cut after 16 bytes; nothing where it runs past the end.
-pub fn label_in<'a>(text: &'a [u8], start: usize, size: usize) -> &'a [u8]
+pub(crate) fn label_in<'a>(text: &'a [u8], start: usize, size: usize) -> &'a [u8]
     ensures { λ r. ⌜ now r ≡ labelIn (now (text .entry)) start size ⌝ }
 {
     if size < 16 {
@@ -59,7 +57,7 @@ pub fn label_in<'a>(text: &'a [u8], start: usize, size: usize) -> &'a [u8]
 }
 
 // Puts a label, after a comma where it is not the first.
-pub fn put_item(i: usize, x: &[u8], area: &mut [u8], at: usize) -> usize
+pub(crate) fn put_item(i: usize, x: &[u8], area: &mut [u8], at: usize) -> usize
     requires { ⌜ at + 1 + length (now x) ≤ length (now area) ⌝ }
     ensures { λ r. ⌜ Put (now (area .entry)) at (item i (now (x .entry))) r (now (area .exit)) ⌝ }
 {
@@ -71,7 +69,7 @@ pub fn put_item(i: usize, x: &[u8], area: &mut [u8], at: usize) -> usize
 }
 
 // Puts the first `count` labels that places and sizes name, joined by commas.
-pub fn put_labels(
+pub(crate) fn put_labels(
     text: &[u8],
     start: &[usize; 80],
     size: &[usize; 80],
@@ -97,7 +95,7 @@ pub fn put_labels(
 }
 
 // Hands a text over: all of it, or nothing where the output is too short.
-pub fn hand_over(text: &[u8], out: &mut [u8]) -> LineAnswer
+pub(crate) fn hand_over(text: &[u8], out: &mut [u8]) -> LineAnswer
     ensures answer { λ r. ⌜ r ≡ lineAnswer (now (text .entry)) (length (now (out .entry))) ⌝ }
     ensures output { λ _. ⌜ now (out .exit) ≡ lineOutput (now (text .entry)) (now (out .entry)) ⌝ }
 {
@@ -110,7 +108,7 @@ pub fn hand_over(text: &[u8], out: &mut [u8]) -> LineAnswer
 }
 
 // The words of a refusal: `refused`, number, body letter, place.
-pub fn put_refusal(refusal: Refusal, area: &mut [u8]) -> usize
+pub(crate) fn put_refusal(refusal: Refusal, area: &mut [u8]) -> usize
     requires { ⌜ 64 ≤ length (now area) ⌝ }
     ensures { λ r. ⌜ Put (now (area .entry)) 0 (refusedWords refusal) r (now (area .exit)) ⌝ }
 {
@@ -132,7 +130,7 @@ fn wide(b: u8) -> usize
 }
 
 // The line of a refusal.
-pub fn put_refusal_line(refusal: Refusal, area: &mut [u8]) -> usize
+pub(crate) fn put_refusal_line(refusal: Refusal, area: &mut [u8]) -> usize
     requires { ⌜ 65 ≤ length (now area) ⌝ }
     ensures { λ r. ⌜ Put (now (area .entry)) 0 (printedOf (turned refusal)) r (now (area .exit)) ⌝ }
 {
@@ -141,7 +139,7 @@ pub fn put_refusal_line(refusal: Refusal, area: &mut [u8]) -> usize
 }
 
 // The line of number 8, with its three labels.
-pub fn put_disagreement(job: &[u8], named: Named, area: &mut [u8]) -> usize
+pub(crate) fn put_disagreement(job: &[u8], named: Named, area: &mut [u8]) -> usize
     requires { ⌜ 128 ≤ length (now area) ⌝ }
     ensures { λ r.
         ⌜ Put (now (area .entry)) 0 (namedLine (now (job .entry)) named)
@@ -167,7 +165,7 @@ pub fn put_disagreement(job: &[u8], named: Named, area: &mut [u8]) -> usize
 }
 
 // The three lines of an answer: `size`, `set` and `tree`.
-pub fn put_record(
+pub(crate) fn put_record(
     first: &[u8],
     start: &[usize; 80],
     size: &[usize; 80],

@@ -1,7 +1,7 @@
 // The reader of a list of labels.
 //
 // No public function has a `requires`: a text of any length and any bytes is answered.
-pub mod parts;
+mod parts;
 
 use trees::Body;
 use trees::Kind;

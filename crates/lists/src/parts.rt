@@ -32,7 +32,7 @@ fn same_run(text: &[u8], i: usize, j: usize, n: usize) -> bool
 }
 
 // Whether two parts of a text have the same bytes.
-pub fn same_part(text: &[u8], i: usize, m: usize, j: usize, n: usize) -> bool
+pub(crate) fn same_part(text: &[u8], i: usize, m: usize, j: usize, n: usize) -> bool
     ensures { λ r. ⌜ r ≡ sameLabel (part (now (text .entry)) i m) (part (now (text .entry)) j n) ⌝ }
 {
     let a = held(text.len(), i, m);
@@ -47,7 +47,7 @@ pub fn same_part(text: &[u8], i: usize, m: usize, j: usize, n: usize) -> bool
 }
 
 // Whether the part of n bytes from place i on is one of the first `count` that `start` and `size` name.
-pub fn is_among(
+pub(crate) fn is_among(
     text: &[u8],
     start: &[usize],
     size: &[usize],
