@@ -15,7 +15,7 @@ use Rattle.trees.specs.Tree.{Tree, leaf, node, leaves, leafLimit}
 use Rattle.trees.specs.Postorder.{subtree, LaidNode, laid-leaf, laid-node}
 use Rattle.trees.proofs.Bools.{bool-cases}
 use Rattle.agreement.specs.Weights.{best, forcedUnit}
-use Rattle.mast.specs.Table.{capped, cell, Side, innerValue, pairValue}
+use Rattle.mast.specs.Table.{capped, cell, Told, Side, innerValue, pairValue}
 use Rattle.mast.specs.Table.{Setting, AllRight, RightWhereUnmarked, Done}
 use Rattle.mast.proofs.RecurrenceLaws.{best-leaves, best-leaf-node, best-node-leaf, best-inner}
 
@@ -87,6 +87,10 @@ module _ (s t : Side) (weight : List ℕ) (ss ts : List Tree) (w : Label → ℕ
             before (getD (s .right) u 0) (getD (t .left) v 0) (omega arith) (omega arith) (omega arith),
           )
           (two-nodes w _ _ _ _ _ _ p q (h .light) (h .few u hu))
+
+-- the cell that was stored last
+pub told-stored : (cells : List ℕ) (u v x : ℕ) → u < 159 → v < 159 → length cells ≡ 25281 → Told (set cells (u * 159 + v) x) u v x
+told-stored cells u v x hu hv size = λ l. sym (getD-set-same cells (u * 159 + v) x 0 (omega arith))
 
 -- progress through the table
 module _ (m n : ℕ) (ss ts : List Tree) (w : Label → ℕ) (mark1 mark2 : List Bool) (cells : List ℕ) where

@@ -21,6 +21,10 @@ capped a b = min (a + b) 65535
 abbrev pub cell : List ℕ → ℕ → ℕ → ℕ
 cell cells u v = getD cells (u * 159 + v) 0
 
+-- the value of cell (u, last), where there is such a cell
+abbrev pub Told : List ℕ → ℕ → ℕ → ℕ → Type 0
+Told cells u last value = last < nodeLimit → value ≡ cell cells u last
+
 -- the arrays of one tree: children, and for a leaf the rank of its label, 80 for a label that is not common
 pub record Side : Type 0 where
   pub left : List ℕ

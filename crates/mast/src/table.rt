@@ -11,7 +11,7 @@ ghost use Prim.Native.Nat.{ℕ, _+_, _*_, _<_, _≤_, max};
 ghost use lib.ListN.{getD};
 ghost use Rattle.trees.specs.Label.{Label};
 ghost use Rattle.trees.specs.Tree.{Tree};
-ghost use Rattle.mast.specs.Table.{capped, cell, leafValue, innerValue, pairValue};
+ghost use Rattle.mast.specs.Table.{capped, cell, Told, leafValue, innerValue, pairValue};
 ghost use Rattle.mast.specs.Table.{Shape, side, Setting, Done, RightWhereUnmarked, AllRight};
 ghost use Rattle.mast.specs.Marks.{Links};
 use crate::marks::link;
@@ -46,6 +46,30 @@ fn larger_cell(cells: &[u16; 25281], u: usize, v: usize, p: usize, q: usize) -> 
     larger(cell_at(cells, u, v), cell_at(cells, p, q))
 }
 
+// Cell (u, v), without a look at the table where it is the one that was computed last: the table has its value a little later.
+fn told_cell(cells: &[u16; 25281], u: usize, v: usize, last: usize, value: u16) -> u16
+    requires { ⌜ (u < 159) × (v < 159) ⌝ }
+    ensures { λ r. ⌜ (Told (now (cells .entry)) u last value → r ≡ cell (now (cells .entry)) u v) ⌝ }
+{
+    if v == last {
+        value
+    } else {
+        cell_at(cells, u, v)
+    }
+}
+
+// The larger of cells (u, c) and (u, d).
+fn larger_told(cells: &[u16; 25281], u: usize, c: usize, d: usize, last: usize, value: u16) -> u16
+    requires { ⌜ (u < 159) × (c < 159) × (d < 159) ⌝ }
+    ensures { λ r. ⌜ (Told (now (cells .entry)) u last value
+        → r ≡ max (cell (now (cells .entry)) u c) (cell (now (cells .entry)) u d)) ⌝ }
+{
+    larger(
+        told_cell(cells, u, c, last, value),
+        told_cell(cells, u, d, last, value),
+    )
+}
+
 // The sum of cells (u, v) and (p, q), capped.
 fn cell_sum(cells: &[u16; 25281], u: usize, v: usize, p: usize, q: usize) -> u16
     requires { ⌜ (u < 159) × (v < 159) × (p < 159) × (q < 159) ⌝ }
@@ -63,6 +87,7 @@ fn leaf_value(weight: &[u16; 81], rank: usize, other: usize) -> u16
 }
 
 // Two inner nodes, u with children a and b, v with children c and d: below one child of either, or the children paired.
+// The value of cell (u, last) is told.
 fn inner_value(
     cells: &[u16; 25281],
     u: usize,
@@ -71,18 +96,21 @@ fn inner_value(
     b: usize,
     c: usize,
     d: usize,
+    last: usize,
+    value: u16,
 ) -> u16
     requires { ⌜ (u < 159) × (v < 159) × (a ≤ u) × (b ≤ u) × (c ≤ v) × (d ≤ v) ⌝ }
-    ensures { λ r. ⌜ r ≡ innerValue (now (cells .entry)) u v a b c d ⌝ }
+    ensures { λ r. ⌜ (Told (now (cells .entry)) u last value → r ≡ innerValue (now (cells .entry)) u v a b c d) ⌝ }
 {
     let first = larger_cell(cells, a, v, b, v);
-    let second = larger_cell(cells, u, c, u, d);
+    let second = larger_told(cells, u, c, d, last, value);
     let paired = larger(cell_sum(cells, a, c, b, d), cell_sum(cells, a, d, b, c));
-    // in this order the compiled code has no branch that is hard to foresee
-    larger(larger(first, second), paired)
+    // what hangs on the cell before comes last, so that the rest need not wait for it
+    larger(larger(first, paired), second)
 }
 
-// Cell (u, v) from the cells before it. Node u of the first tree has children a and b and, as a leaf, this rank.
+// Cell (u, v) from the cells before it. Node u of the first tree has children a and b and, as a leaf, this rank. The value of cell
+// (u, last) is told.
 fn pair_value(
     a: usize,
     b: usize,
@@ -94,11 +122,14 @@ fn pair_value(
     cells: &[u16; 25281],
     u: usize,
     v: usize,
+    last: usize,
+    value: u16,
 ) -> u16
     requires { ⌜ (u < 159) × (a ≤ u) × (b ≤ u) × (rank ≤ 80) ⌝ }
     requires { ⌜ (v < 159) × (getD (now left2) v 0 ≤ v) × (getD (now right2) v 0 ≤ v) ⌝ }
-    ensures { λ r. ⌜ r ≡ pairValue a b rank (now (left2 .entry)) (now (right2 .entry)) (now (rank2 .entry))
-        (now (weight .entry)) (now (cells .entry)) u v ⌝ }
+    ensures { λ r. ⌜ (Told (now (cells .entry)) u last value
+        → r ≡ pairValue a b rank (now (left2 .entry)) (now (right2 .entry)) (now (rank2 .entry))
+        (now (weight .entry)) (now (cells .entry)) u v) ⌝ }
 {
     let c = left2[v];
     let d = right2[v];
@@ -106,13 +137,13 @@ fn pair_value(
         if c == v {
             leaf_value(weight, rank, rank2[v])
         } else {
-            larger_cell(cells, u, c, u, d)
+            larger_told(cells, u, c, d, last, value)
         }
     } else {
         if c == v {
             larger_cell(cells, a, v, b, v)
         } else {
-            inner_value(cells, u, v, a, b, c, d)
+            inner_value(cells, u, v, a, b, c, d, last, value)
         }
     }
 }
@@ -145,10 +176,26 @@ fn fill_row(
     let b = right1[u];
     let rank = rank1[u];
     let row = u * 159;
+    let mut last: usize = 159;
+    let mut value: u16 = 0;
     let mut v = next2[0];
     while v < nodes2 {
-        let x = pair_value(a, b, rank, left2, right2, rank2, weight, cells, u, v);
-        cells[row + v] = x;
+        value = pair_value(
+            a,
+            b,
+            rank,
+            left2,
+            right2,
+            rank2,
+            weight,
+            cells,
+            u,
+            v,
+            last,
+            value,
+        );
+        cells[row + v] = value;
+        last = v;
         v = next2[v + 1];
     }
 }

@@ -27,11 +27,11 @@ element-copy-out-leaf-value c = search needs
 leaf-value-requires : tie.Need-leaf-value-requires
 leaf-value-requires c κs = search needs
 
-larger-cell-requires : tie.Need-larger-cell-requires
-larger-cell-requires c κs = omega arith
+larger-told-requires : tie.Need-larger-told-requires
+larger-told-requires c κs = omega arith
 
-larger-cell-requires-2 : tie.Need-larger-cell-requires-2
-larger-cell-requires-2 c κs = search needs
+larger-cell-requires : tie.Need-larger-cell-requires
+larger-cell-requires c κs = search needs
 
 inner-value-requires : tie.Need-inner-value-requires
 inner-value-requires c κs = omega arith
@@ -39,22 +39,22 @@ inner-value-requires c κs = omega arith
 returns : tie.Need-returns
 unfolding pairValue
 returns c =
-    rw (eq-eqb _ _ (c .before .before .before .if1 .taken), eq-eqb _ _ (c .before .before .if2 .taken)) (c .leaf-value .ensures)
+    λ told. rw (eq-eqb _ _ (c .before .before .before .if1 .taken), eq-eqb _ _ (c .before .before .if2 .taken)) (c .leaf-value .ensures)
 
 returns-2 : tie.Need-returns-2
 unfolding pairValue
 returns-2 c =
-    rw (eq-eqb _ _ (c .before .before .if1 .taken), ne-eqb _ _ (c .before .if2 .left)) (c .larger-cell .ensures)
+    λ told. rw (eq-eqb _ _ (c .before .before .if1 .taken), ne-eqb _ _ (c .before .if2 .left)) (c .larger-told .ensures told)
 
 returns-3 : tie.Need-returns-3
 unfolding pairValue
 returns-3 c =
-    rw (ne-eqb _ _ (c .before .before .if1 .left), eq-eqb _ _ (c .before .if3 .taken)) (c .larger-cell2 .ensures)
+    λ told. rw (ne-eqb _ _ (c .before .before .if1 .left), eq-eqb _ _ (c .before .if3 .taken)) (c .larger-cell .ensures)
 
 returns-4 : tie.Need-returns-4
 unfolding pairValue
 returns-4 c =
-    rw (ne-eqb _ _ (c .before .before .if1 .left), ne-eqb _ _ (c .before .if3 .left)) (c .inner-value .ensures)
+    λ told. rw (ne-eqb _ _ (c .before .before .if1 .left), ne-eqb _ _ (c .before .if3 .left)) (c .inner-value .ensures told)
 
 pub pair-value-spec : {M : Type 1} → statement M
 pair-value-spec =
@@ -67,8 +67,8 @@ pair-value-spec =
     mul-leaf-value
     element-copy-out-leaf-value
     leaf-value-requires
+    larger-told-requires
     larger-cell-requires
-    larger-cell-requires-2
     inner-value-requires
     returns
     returns-2
