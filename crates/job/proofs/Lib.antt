@@ -5,6 +5,7 @@ pub mod ContentSteps
 pub mod ContentsLaws
 pub mod DecimalLaws
 pub mod LineLaws
+pub mod PrintLaws
 pub mod Promises
 pub mod RoomLaws
 pub mod ShownLaws

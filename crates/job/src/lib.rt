@@ -13,7 +13,7 @@ ghost use Prim.Native.Nat.{_+_, _≤_};
 ghost use lib.ListN.{take, drop};
 ghost use Rattle.mast.specs.Largest.{turned, solve};
 ghost use Rattle.job.specs.declared.JobAnswer as JobAnswer;
-ghost use Rattle.job.specs.Printed.{printedOf, recordLines, solveJob, treeRoom};
+ghost use Rattle.job.specs.Printed.{printedOf, printed, recordLines, solveJob, treeRoom};
 ghost use Rattle.job.specs.Areas.{labelsIn, untilComma};
 ghost use Rattle.job.specs.Answered.{lineAnswer, lineOutput, namedLine, answered, jobOutput, recordAnswer};
 
@@ -179,4 +179,23 @@ pub fn answer_job(job: &[u8], out: &mut [u8]) -> JobAnswer
         list_at,
         out,
     )
+}
+
+// What is printed for a job, into `out`: the three lines of its set, or the line of its refusal.
+pub fn print_job(job: &[u8], out: &mut [u8]) -> LineAnswer
+    ensures answer { λ r. ⌜ r ≡ lineAnswer (printed (now (job .entry))) (length (now (out .entry))) ⌝ }
+    ensures output { λ _. ⌜ now (out .exit) ≡ lineOutput (printed (now (job .entry))) (now (out .entry)) ⌝ }
+{
+    let answer = answer_job(job, out);
+    match answer {
+        JobAnswer::Written(n) => LineAnswer::Written(n),
+        JobAnswer::Disagree(named) => disagreement_line(job, named, out),
+        JobAnswer::Refused(refusal) => {
+            let reason = refusal.reason;
+            if trees::number(reason) == 9 {
+                return LineAnswer::TooShort;
+            }
+            refusal_line(refusal, out)
+        }
+    }
 }

@@ -1,14 +1,7 @@
 // Runs a stored stream of jobs through `job` and writes each answer as `agree` would. A case is the job's length as two bytes,
 // and the job.
-use job::JobAnswer;
 use job::LineAnswer;
 ghost use Prim.Native.Nat.{_<_};
-
-fn write_line(out: &[u8], written: LineAnswer) {
-    if let LineAnswer::Written(n) = written {
-        io::write_all(1, trees::part(out, 0, n));
-    }
-}
 
 fn wide(b: u8) -> usize
     ensures { λ r. ⌜ r < 256 ⌝ }
@@ -16,21 +9,13 @@ fn wide(b: u8) -> usize
     b as usize
 }
 
-// The answer to one job.
+// What is printed for one job.
 fn run_job(text: &[u8]) {
     let mut area = io::buffer();
     let out: &mut [u8] = &mut area;
-    let answer = job::answer_job(text, out);
-    match answer {
-        JobAnswer::Written(bytes) => write_line(out, LineAnswer::Written(bytes)),
-        JobAnswer::Disagree(named) => {
-            let written = job::disagreement_line(text, named, out);
-            write_line(out, written)
-        }
-        JobAnswer::Refused(refusal) => {
-            let written = job::refusal_line(refusal, out);
-            write_line(out, written)
-        }
+    let printed = job::print_job(text, out);
+    if let LineAnswer::Written(bytes) = printed {
+        io::write_all(1, trees::part(out, 0, bytes));
     }
 }
 

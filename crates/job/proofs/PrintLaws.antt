@@ -1,0 +1,117 @@
+-- What is printed for a job, from the answer to it. Assumes nothing.
+use Prim.Native.Nat.{ℕ}
+use mathlib.Core.Path.{_≡_, refl, sym, _∙_, ap}
+use mathlib.Core.Bool.{true, false}
+use mathlib.Core.Logic.{_⊎_, inl, inr}
+use mathlib.Core.List.{List}
+use native.Mathlib.Omega.{arith}
+use lib.Dec.{leb}
+use lib.ListN.{length}
+use Rattle.trees.specs.declared.Reason.the-variants.{TooShort as TooShortReason}
+use Rattle.trees.specs.declared.Body.the-variants.{O}
+use Rattle.trees.specs.declared.Refusal.{Refusal}
+use Rattle.trees.specs.Refusals.{numberOf}
+use Rattle.trees.specs.Label.{Label}
+use Rattle.trees.proofs.Bools.{bool-cases}
+use Rattle.mast.specs.Largest.{Solution, solved, clashed, turned}
+use Rattle.job.specs.declared.JobAnswer.{JobAnswer}
+use Rattle.job.specs.declared.JobAnswer.the-variants as job-answer
+use Rattle.job.specs.declared.LineAnswer.the-variants.{Written, TooShort}
+use Rattle.job.specs.declared.Named.{Named}
+use Rattle.job.specs.Printed.{recordLines, printedOf, printed, solveJob}
+use Rattle.job.specs.Answered.{lineAnswer, lineOutput, recordAnswer, answered, jobOutput}
+use Rattle.job.proofs.RoomLaws.{job-fits}
+
+-- a record of lines: written, or number 9
+record-written : (lines : List ℕ) (room n : ℕ) → recordAnswer lines room ≡ job-answer.Written n → Written n ≡ lineAnswer lines room
+unfolding recordAnswer lineAnswer
+record-written lines room n e = go (bool-cases (leb (length lines) room))
+  where
+    go : (leb (length lines) room ≡ true) ⊎ (leb (length lines) room ≡ false) → Written n ≡ lineAnswer lines room
+    go (inl f) =
+        let g : job-answer.Written (length lines) ≡ job-answer.Written n = rw f at e in
+        let k : length lines ≡ n = cc in
+        rw f (ap Written (sym k))
+    go (inr f) =
+        let g : job-answer.Refused (record { reason = TooShortReason; body = O; place = 0 }) ≡ job-answer.Written n = rw f at e in
+        let z : _≡_ {A = ℕ} 0 1 = cc in
+        absurd (omega arith)
+
+record-refused : (lines : List ℕ) (room : ℕ) (q : Refusal) → recordAnswer lines room ≡ job-answer.Refused q
+    → (TooShort ≡ lineAnswer lines room) × (numberOf (q .reason) ≡ 9)
+unfolding recordAnswer lineAnswer numberOf
+record-refused lines room q e = go (bool-cases (leb (length lines) room))
+  where
+    go : (leb (length lines) room ≡ true) ⊎ (leb (length lines) room ≡ false)
+        → (TooShort ≡ lineAnswer lines room) × (numberOf (q .reason) ≡ 9)
+    go (inl f) =
+        let g : job-answer.Written (length lines) ≡ job-answer.Refused q = rw f at e in
+        let z : _≡_ {A = ℕ} 0 1 = cc in
+        absurd (omega arith)
+    go (inr f) =
+        let g : job-answer.Refused (record { reason = TooShortReason; body = O; place = 0 }) ≡ job-answer.Refused q = rw f at e in
+        let k : record { reason = TooShortReason; body = O; place = 0 } ≡ q = cc in
+        (rw f refl, ap (λ (r : Refusal). numberOf (r .reason)) (sym k))
+
+module _ (job out : List ℕ) where
+  abbrev room : ℕ
+  room = length out
+
+  abbrev told : Solution → JobAnswer
+  told x = answered (length job) room x
+
+  pub printed-lines : (n : ℕ) → told (solveJob job) ≡ job-answer.Written n
+      → (Written n ≡ lineAnswer (printed job) room) × (jobOutput (solveJob job) out ≡ lineOutput (printed job) out)
+  unfolding answered printed printedOf jobOutput
+  printed-lines n e = go (solveJob job) e
+    where
+      go : (x : Solution) → told x ≡ job-answer.Written n
+          → (Written n ≡ lineAnswer (printedOf x) room) × (jobOutput x out ≡ lineOutput (printedOf x) out)
+      go (solved s X text) h = (record-written (recordLines X text) room n h, refl)
+      go (clashed xs a b c) h = let z : _≡_ {A = ℕ} 0 1 = cc in absurd (omega arith)
+      go (turned q) h = let z : _≡_ {A = ℕ} 0 1 = cc in absurd (omega arith)
+
+  pub output-clash : (n : Named) → told (solveJob job) ≡ job-answer.Disagree n → jobOutput (solveJob job) out ≡ out
+  unfolding answered recordAnswer jobOutput
+  output-clash n e = go (solveJob job) e
+    where
+      go : (x : Solution) → told x ≡ job-answer.Disagree n → jobOutput x out ≡ out
+      go (solved s X text) h = no-record (bool-cases (leb (length (recordLines X text)) room))
+        where
+          no-record : (leb (length (recordLines X text)) room ≡ true) ⊎ (leb (length (recordLines X text)) room ≡ false)
+              → jobOutput (solved s X text) out ≡ out
+          no-record (inl f) =
+              let g : job-answer.Written (length (recordLines X text)) ≡ job-answer.Disagree n = rw f at h in
+              let z : _≡_ {A = ℕ} 0 1 = cc in
+              absurd (omega arith)
+          no-record (inr f) =
+              let g : job-answer.Refused (record { reason = TooShortReason; body = O; place = 0 }) ≡ job-answer.Disagree n = rw f at h in
+              let z : _≡_ {A = ℕ} 0 1 = cc in
+              absurd (omega arith)
+      go (clashed xs a b c) h = refl
+      go (turned q) h = refl
+
+  module _ (q : Refusal) (e : told (solveJob job) ≡ job-answer.Refused q) where
+    -- number 9 is the output's
+    pub printed-nine : numberOf (q .reason) ≡ 9
+        → (TooShort ≡ lineAnswer (printed job) room) × (jobOutput (solveJob job) out ≡ lineOutput (printed job) out)
+    unfolding answered printed printedOf jobOutput
+    printed-nine n = go (solveJob job) refl e
+      where
+        go : (x : Solution) → solveJob job ≡ x → told x ≡ job-answer.Refused q
+            → (TooShort ≡ lineAnswer (printedOf x) room) × (jobOutput x out ≡ lineOutput (printedOf x) out)
+        go (solved s X text) k h = (record-refused (recordLines X text) room q h .0, refl)
+        go (clashed xs a b c) k h = let z : _≡_ {A = ℕ} 0 1 = cc in absurd (omega arith)
+        go (turned p) k h =
+            let g : p ≡ q = cc in
+            absurd (job-fits job p k (ap (λ (r : Refusal). numberOf (r .reason)) g ∙ n))
+
+    -- any other is printed
+    pub printed-refusal : (numberOf (q .reason) ≡ 9 → ⊥) → (printedOf (turned q) ≡ printed job) × (jobOutput (solveJob job) out ≡ out)
+    unfolding answered printed jobOutput
+    printed-refusal n = go (solveJob job) e
+      where
+        go : (x : Solution) → told x ≡ job-answer.Refused q → (printedOf (turned q) ≡ printedOf x) × (jobOutput x out ≡ out)
+        go (solved s X text) h = absurd (n (record-refused (recordLines X text) room q h .1))
+        go (clashed xs a b c) h = let z : _≡_ {A = ℕ} 0 1 = cc in absurd (omega arith)
+        go (turned p) h = let g : p ≡ q = cc in (ap (λ (r : Refusal). printedOf (turned r)) (sym g), refl)
