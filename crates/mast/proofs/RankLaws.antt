@@ -70,12 +70,6 @@ module _ {t : Tree} {text left start size : List ℕ} {nodes : ℕ} (o : OwnLeav
 
 -- an order that is not `Less`
 
-pub equal-before : (x y : Label) → orderOf x y ≡ Equal → labelLess x y ≡ false
-equal-before x y h = rw (order-equal x y h) (less-irrefl y)
-
-pub greater-before : (x y : Label) → orderOf x y ≡ Greater → labelLess x y ≡ false
-greater-before x y h = less-asym y x (order-greater x y h)
-
 -- a label put in before the first that is greater
 
 module _ (x y : Label) (ys : List Label) (p : ℕ) where

@@ -12,19 +12,6 @@ ghost use Rattle.trees.specs.Stored.{partOf};
 ghost use Rattle.agreement.specs.Sets.{increasing};
 ghost use Rattle.mast.specs.Engine.{OwnLeaves, Numbered, Ordered, Ranked};
 ghost use Rattle.mast.specs.Ranks.{Place, Opened, mostCommon, Collected};
-use trees::Order;
-
-// Label `a` comes before label `b`.
-fn is_before(a: &[u8], b: &[u8]) -> bool
-    ensures { λ r. ⌜ r ≡ labelLess (now (a .entry)) (now (b .entry)) ⌝ }
-{
-    let order = trees::compare(a, b);
-    match order {
-        Order::Less => true,
-        Order::Equal => false,
-        Order::Greater => false,
-    }
-}
 
 // The label of leaf u. The test is for safety alone: a tree has no node past 158.
 fn label_of<'a>(text: &'a [u8], start: &[usize; 159], size: &[usize; 159], u: usize) -> &'a [u8]
@@ -56,7 +43,7 @@ fn place_of(
 {
     let mut r: usize = 0;
     while r < m {
-        if is_before(label, label_of(text, start, size, order[r])) {
+        if trees::comes_before(label, label_of(text, start, size, order[r])) {
             return r;
         }
         r += 1;

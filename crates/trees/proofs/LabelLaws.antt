@@ -156,6 +156,12 @@ order-greater x y h = go (less-total x y)
     go (inr (inl e)) = cc (h, equal-order x y e)
     go (inr (inr k)) = k
 
+pub equal-before : (x y : Label) → orderOf x y ≡ Equal → labelLess x y ≡ false
+equal-before x y h = rw (order-equal x y h) (less-irrefl y)
+
+pub greater-before : (x y : Label) → orderOf x y ≡ Greater → labelLess x y ≡ false
+greater-before x y h = less-asym y x (order-greater x y h)
+
 -- a comparison byte by byte: the first byte that differs decides
 pub heads-less : (a b : ℕ) (x y : Label) → a < b → orderOf (a ∷ x) (b ∷ y) ≡ Less
 unfolding labelLess

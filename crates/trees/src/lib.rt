@@ -5,7 +5,7 @@ ghost use mathlib.Core.Path.{_≡_};
 ghost use Prim.Native.Nat.{_≤_};
 ghost use lib.ListN.{getD, length, take};
 ghost use Rattle.trees.specs.Bytes.{classTable, kindOfCode};
-ghost use Rattle.trees.specs.Label.{orderOf};
+ghost use Rattle.trees.specs.Label.{orderOf, labelLess};
 ghost use Rattle.trees.specs.Refusals.{numberOf, letterOf};
 ghost use Rattle.trees.specs.Arrays.{shownLabel};
 ghost use Rattle.trees.specs.Stored.{storedBytes, storedOf, partOf};
@@ -410,6 +410,18 @@ pub fn compare(a: &[u8], b: &[u8]) -> Order
         Order::Less
     } else {
         Order::Equal
+    }
+}
+
+// Label `a` comes before label `b`.
+pub fn comes_before(a: &[u8], b: &[u8]) -> bool
+    ensures { λ r. ⌜ r ≡ labelLess (now (a .entry)) (now (b .entry)) ⌝ }
+{
+    let order = compare(a, b);
+    match order {
+        Order::Less => true,
+        Order::Equal => false,
+        Order::Greater => false,
     }
 }
 

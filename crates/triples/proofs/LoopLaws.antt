@@ -10,13 +10,12 @@ use lib.Dec.{eqb, ltb}
 use lib.ListN.{length, getD, set, replicate}
 use lib.Seq.{getD-set-same, getD-set-other}
 use borrow.Author.Tests.{eqb-true, eqb-false, ltb-true, lt-ltb, le-ltb}
-use Rattle.trees.specs.Label.{Label, labelLess, orderOf}
+use Rattle.trees.specs.Label.{Label, labelLess}
 use Rattle.trees.specs.declared.Reason.the-variants.{FirstLacks, SecondLacks}
 use Rattle.trees.specs.declared.Body.the-variants.{K}
 use Rattle.triples.specs.declared.Agreement.the-variants.{Agreed, Disagree, Refused}
 use Rattle.trees.proofs.Bools.{bool-cases}
-use Rattle.trees.specs.declared.Order.the-variants.{Less, Equal, Greater}
-use Rattle.trees.proofs.LabelLaws.{less-irrefl, less-asym, order-less, order-equal, order-greater}
+use Rattle.trees.proofs.LabelLaws.{less-irrefl}
 use Rattle.leaves.specs.Find.{leafFrom}
 use Rattle.triples.specs.Loops.{labelIn, lessCount, rankIn, lackFrom, InOrder, LowAt, thirdOf, secondOf, firstOf, threeOf}
 
@@ -144,16 +143,6 @@ module _ (leaf1 : List ℕ) (nodes1 : ℕ) (leaf2 : List ℕ) (nodes2 : ℕ) (st
   lack-end h =
       let e : count - k ≡ 0 = omega arith in
       rw e refl
-
--- the outcome of a comparison as a number
-pub one-less : (x y : Label) → orderOf x y ≡ Less → _≡_ {A = ℕ} 1 (cond (labelLess x y) 1 0)
-one-less x y h = rw (order-less x y h) refl
-
-pub none-equal : (x y : Label) → orderOf x y ≡ Equal → _≡_ {A = ℕ} 0 (cond (labelLess x y) 1 0)
-none-equal x y h = rw (order-equal x y h, less-irrefl y) refl
-
-pub none-greater : (x y : Label) → orderOf x y ≡ Greater → _≡_ {A = ℕ} 0 (cond (labelLess x y) 1 0)
-none-greater x y h = rw (less-asym y x (order-greater x y h)) refl
 
 pub rank-below : (text start size : List ℕ) (count k : ℕ) → k < count → rankIn text start size count k < count
 unfolding rankIn

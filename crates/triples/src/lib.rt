@@ -7,7 +7,6 @@ use lists::LabelPlaces;
 use lists::ListAnswer;
 use newick::TreeAnswer;
 use trees::Body;
-use trees::Order;
 use trees::Reason;
 use trees::Refusal;
 use trees::TreeArrays;
@@ -42,14 +41,13 @@ fn before(list: &[u8], start: &[usize; 80], size: &[usize; 80], j: usize, k: usi
     let count1 = size[j];
     let from2 = start[k];
     let count2 = size[k];
-    let order = trees::compare(
+    if trees::comes_before(
         trees::part(list, from1, count1),
         trees::part(list, from2, count2),
-    );
-    match order {
-        Order::Less => 1,
-        Order::Equal => 0,
-        Order::Greater => 0,
+    ) {
+        1
+    } else {
+        0
     }
 }
 

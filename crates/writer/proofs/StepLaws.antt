@@ -1,5 +1,4 @@
--- One comparison of bytes, one test of a node, one entry of a pass: a step of the code against its definition.
--- Assumes nothing.
+-- One test of a node, one entry of a pass: a step of the code against its definition. Assumes nothing.
 use Prim.Native.Nat.{ℕ, suc, _+_, _-_, _≤_, _<_, min}
 use mathlib.Core.Path.{_≡_, refl, sym, _∙_, ap, ap₂}
 use mathlib.Core.Bool.{Bool, true, false, cond, _&&_, _||_}
@@ -17,42 +16,6 @@ use Rattle.trees.specs.Arrays.{isLeaf, goodNode, goodNodes}
 use Rattle.trees.proofs.Bools.{bool-cases, clash, and-intro}
 use Rattle.writer.specs.Passes.{sumAt, leastAt, goesFirst}
 use Rattle.writer.proofs.NodeLaws.{good-at}
-
--- ---- label order from position i on
-
-module _ (a b : List ℕ) (i : ℕ) where
-  -- no byte left on the right
-  pub less-none : length b ≤ i → labelLess (drop i a) (drop i b) ≡ false
-  unfolding labelLess
-  less-none h = ap (labelLess (drop i a)) (drop-of-length-le b h) ∙ go (drop i a)
-    where
-      go : (x : Label) → labelLess x [] ≡ false
-      go [] = refl
-      go (v ∷ x) = refl
-
-  -- no byte left on the left alone
-  pub less-ended : length a ≤ i → i < length b → labelLess (drop i a) (drop i b) ≡ true
-  unfolding labelLess
-  less-ended h k = ap₂ labelLess (drop-of-length-le a h) (drop-cons b i 0 k)
-
-  heads : i < length a → i < length b
-      → labelLess (drop i a) (drop i b)
-      ≡ ltb (getD a i 0) (getD b i 0) || (eqb (getD a i 0) (getD b i 0) && labelLess (drop (suc i) a) (drop (suc i) b))
-  unfolding labelLess
-  heads h k = ap₂ labelLess (drop-cons a i 0 h) (drop-cons b i 0 k)
-
-  pub less-smaller : i < length a → i < length b → getD a i 0 < getD b i 0 → labelLess (drop i a) (drop i b) ≡ true
-  less-smaller h k l = heads h k ∙ rw (lt-ltb (getD a i 0) (getD b i 0) l) refl
-
-  pub less-greater : i < length a → i < length b → getD b i 0 < getD a i 0 → labelLess (drop i a) (drop i b) ≡ false
-  less-greater h k l =
-      heads h k ∙ rw (le-ltb (getD a i 0) (getD b i 0) (omega arith), ne-eqb (getD a i 0) (getD b i 0) (omega arith)) refl
-
-  pub less-on : i < length a → i < length b → getD a i 0 ≡ getD b i 0
-      → labelLess (drop (i + 1) a) (drop (i + 1) b) ≡ labelLess (drop i a) (drop i b)
-  less-on h k l =
-      ap (λ (m : ℕ). labelLess (drop m a) (drop m b)) (add-one i)
-      ∙ sym (heads h k ∙ rw (le-ltb (getD a i 0) (getD b i 0) (omega arith), eq-eqb (getD a i 0) (getD b i 0) l) refl)
 
 -- ---- the test of a node; l, r, s and n are its entries
 

@@ -10,7 +10,6 @@ ghost use mathlib.Core.Path.{_≡_};
 ghost use mathlib.Core.Bool.{true, cond};
 ghost use lib.ListN.{length, getD, take, drop};
 ghost use lib.Seq.{sets};
-ghost use Rattle.trees.specs.Label.{labelLess};
 ghost use Rattle.trees.specs.Arrays.{goodNode, goodNodes, treeOf};
 ghost use Rattle.writer.specs.Write.{writeAnswer, outputAfter};
 ghost use Rattle.writer.specs.Passes.{arraysFrom, pass, sumAt, rootSum, goesFirst, leastAt, nodeText, Leasts};
@@ -62,28 +61,6 @@ fn part<'a>(text: &'a [u8], start: usize, size: usize) -> &'a [u8]
         return &text[start..n];
     }
     &text[start..start + size]
-}
-
-// Label order.
-fn less(a: &[u8], b: &[u8]) -> bool
-    ensures { λ r. ⌜ r ≡ labelLess (now (a .entry)) (now (b .entry)) ⌝ }
-{
-    let mut i: usize = 0;
-    while i < b.len() {
-        if i == a.len() {
-            return true;
-        }
-        let x = a[i];
-        let y = b[i];
-        if x < y {
-            return true;
-        }
-        if y < x {
-            return false;
-        }
-        i += 1;
-    }
-    false
 }
 
 // Whether node u is a leaf whose label lies in the text and is not too long, or has two children with smaller
@@ -217,7 +194,7 @@ fn goes_first(
     let y = entry(least, j);
     let a = part(text, entry(start, x), entry(size, x));
     let b = part(text, entry(start, y), entry(size, y));
-    less(a, b)
+    trees::comes_before(a, b)
 }
 
 // The leaf with the smallest label below node u, from those of its children.

@@ -1,7 +1,6 @@
--- The outcome of the comparison of two labels, as a number. Assumes nothing.
-use Rattle.triples.proofs.LoopLaws.{one-less, none-equal, none-greater}
-use mathlib.Core.Path.{sym, _∙_, ap₂}
-use Rattle.trees.specs.Label.{orderOf}
+-- The outcome of the test of two labels, as a number. Assumes nothing.
+use mathlib.Core.Path.{refl, sym, _∙_, ap₂}
+use Rattle.trees.specs.Label.{labelLess}
 use Rattle.triples.specs.Loops.{labelIn}
 use borrow.Author.Needs.{needs}
 use Rattle.triples.proofs.before.Statement.{statement}
@@ -37,38 +36,20 @@ part-requires c κs = search needs
 part-requires-2 : tie.Need-part-requires-2
 part-requires-2 c κs = search needs
 
-compare-requires : tie.Need-compare-requires
-compare-requires c κs = search needs
-
-enum-told : tie.Need-enum-told
-enum-told c = search needs
-
-enum-told-2 : tie.Need-enum-told-2
-enum-told-2 c = search needs
-
-enum-told-3 : tie.Need-enum-told-3
-enum-told-3 c = search needs
+comes-before-requires : tie.Need-comes-before-requires
+comes-before-requires c κs = search needs
 
 returns : tie.Need-returns
 unfolding labelIn
 returns c =
-    let c4 = c .before .before .before .before in
-    one-less _ _ (ap₂ orderOf (sym (c4 .part .ensures)) (sym (c .before .before .before .part2 .ensures)) ∙ sym
-    (c .before .before .compare .ensures) ∙ c .enum-told .given .1)
+    let less = ap₂ labelLess (sym (c .before .before .before .part .ensures)) (sym (c .before .before .part2 .ensures)) in
+    rw (less ∙ sym (c .before .comes-before .ensures) ∙ c .if1 .taken) refl
 
 returns-2 : tie.Need-returns-2
 unfolding labelIn
 returns-2 c =
-    let c4 = c .before .before .before .before in
-    none-equal _ _ (ap₂ orderOf (sym (c4 .part .ensures)) (sym (c .before .before .before .part2 .ensures)) ∙ sym
-    (c .before .before .compare .ensures) ∙ c .enum-told2 .given .1)
-
-returns-3 : tie.Need-returns-3
-unfolding labelIn
-returns-3 c =
-    let c4 = c .before .before .before .before in
-    none-greater _ _ (ap₂ orderOf (sym (c4 .part .ensures)) (sym (c .before .before .before .part2 .ensures)) ∙ sym
-    (c .before .before .compare .ensures) ∙ c .enum-told3 .given .1)
+    let less = ap₂ labelLess (sym (c .before .before .before .part .ensures)) (sym (c .before .before .part2 .ensures)) in
+    rw (less ∙ sym (c .before .comes-before .ensures) ∙ c .if1 .left) refl
 
 pub before-spec : {M : Type 1} → statement M
 before-spec =
@@ -84,10 +65,6 @@ before-spec =
     element-copy-out-count2
     part-requires
     part-requires-2
-    compare-requires
-    enum-told
-    enum-told-2
-    enum-told-3
+    comes-before-requires
     returns
-    returns-2
-    returns-3)
+    returns-2)

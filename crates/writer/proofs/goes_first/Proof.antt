@@ -32,8 +32,8 @@ entry-requires-6 c κs = search needs
 part-requires-2 : tie.Need-part-requires-2
 part-requires-2 c κs = search needs
 
-less-requires : tie.Need-less-requires
-less-requires c κs = search needs
+comes-before-requires : tie.Need-comes-before-requires
+comes-before-requires c κs = search needs
 
 returns : tie.Need-returns
 unfolding goesFirst
@@ -51,7 +51,7 @@ returns c =
     ∙ ap₂ (λ (s n : ℕ). take n (drop s (a .text .now))) (c .before .before .before .entry5 .ensures) (c .before .before .entry6 .ensures)
     ∙ ap (labelIn (a .text .now) (a .start .now) (a .size .now))
     (c .before .before .before .before .before .before .before .entry2 .ensures) in
-    c .less .ensures ∙ ap₂ labelLess x y
+    c .comes-before .ensures ∙ ap₂ labelLess x y
 
 pub goes-first-spec : {M : Type 1} → statement M
 goes-first-spec =
@@ -65,5 +65,5 @@ goes-first-spec =
     entry-requires-5
     entry-requires-6
     part-requires-2
-    less-requires
+    comes-before-requires
     returns)

@@ -36,8 +36,8 @@ element-copy-out-label-of c = omega arith
 label-of-requires : tie.Need-label-of-requires Inv-loop μ-loop
 label-of-requires c κs = search needs
 
-is-before-requires : tie.Need-is-before-requires Inv-loop μ-loop
-is-before-requires c κs = search needs
+comes-before-requires : tie.Need-comes-before-requires Inv-loop μ-loop
+comes-before-requires c κs = search needs
 
 returns : tie.Need-returns Inv-loop μ-loop
 returns c =
@@ -46,7 +46,7 @@ returns c =
       turn .loop .inv .0,
       λ t C o e n.
           place-found o C (start .args .order .now) _ e n _ _ (turn .loop .inv .1 t C o e n) (c .before .before .before .before .loop-test .taken) _ (c .before .before .label-of .ensures)
-          (sym (c .before .is-before .ensures) ∙ c .if1 .taken),
+          (sym (c .before .comes-before .ensures) ∙ c .if1 .taken),
     )
 
 add-r : tie.Need-add-r Inv-loop μ-loop
@@ -62,7 +62,7 @@ loop-again c =
       omega arith,
       λ t C o e n.
           place-passed o C (start .args .order .now) _ e n _ _ (turn .loop .inv .1 t C o e n) (c .before .before .before .before .loop-test .taken) _ (c .before .before .label-of .ensures)
-          (sym (c .before .is-before .ensures) ∙ c .if1 .left),
+          (sym (c .before .comes-before .ensures) ∙ c .if1 .left),
     )
 
 returns-2 : tie.Need-returns-2 Inv-loop μ-loop
@@ -84,7 +84,7 @@ place-of-spec =
     mul-label-of
     element-copy-out-label-of
     label-of-requires
-    is-before-requires
+    comes-before-requires
     returns
     add-r
     loop-less

@@ -1,10 +1,9 @@
--- Before: the comparison says less. Assumes nothing.
+-- `comes_before` meets its contract: the comparison says less. Assumes nothing.
 use mathlib.Core.Path.{sym, _∙_}
-use Rattle.trees.proofs.LabelLaws.{order-less}
-use Rattle.mast.proofs.RankLaws.{equal-before, greater-before}
+use Rattle.trees.proofs.LabelLaws.{order-less, equal-before, greater-before}
 use borrow.Author.Needs.{needs}
-use Rattle.mast.proofs.ranks.is_before.Statement.{statement}
-use Rattle.mast.proofs.ranks.is_before.Tie as tie
+use Rattle.trees.proofs.comes_before.Statement.{statement}
+use Rattle.trees.proofs.comes_before.Tie as tie
 
 compare-requires : tie.Need-compare-requires
 compare-requires c κs = search needs
@@ -30,7 +29,7 @@ returns-3 : tie.Need-returns-3
 returns-3 c =
     sym (greater-before _ _ (sym (c .before .before .compare .ensures) ∙ c .enum-told3 .given .1))
 
-pub is-before-spec : {M : Type 1} → statement M
-is-before-spec =
+pub comes-before-spec : {M : Type 1} → statement M
+comes-before-spec =
     tie.close
     (tie.spec compare-requires enum-told enum-told-2 enum-told-3 returns returns-2 returns-3)
