@@ -4,10 +4,13 @@ use mathlib.Core.Path.{_≡_}
 use mathlib.Core.List.{List}
 use mathlib.Core.Option.{some}
 use lib.ListN.{length, getD}
+use Rattle.trees.specs.declared.Reason.the-variants.{TooShort}
+use Rattle.trees.specs.declared.Body.the-variants.{O}
 use Rattle.trees.specs.declared.Refusal.{Refusal}
 use Rattle.trees.specs.Refusals.{numberOf}
 use Rattle.trees.specs.Label.{Label}
-use Rattle.mast.specs.Largest.{turned, solve}
+use Rattle.trees.specs.Tree.{Tree}
+use Rattle.mast.specs.Largest.{solved, turned, solve}
 use Rattle.job.specs.declared.JobAnswer.the-variants as job-answer
 use Rattle.job.specs.declared.Named.{Named}
 use Rattle.job.specs.Decimal.{decimalFrom, decimalOf, valueFrom}
@@ -50,6 +53,11 @@ job-area-fits = RoomLaws.job-fits
 pub nine-of-output : (job : List ℕ) (room : ℕ) (q : Refusal) → answered (length job) room (solveJob job) ≡ job-answer.Refused q
     → numberOf (q .reason) ≡ 9 → room < length (printed job)
 nine-of-output = RoomLaws.nine-output
+
+pub nine-when-short : (job : List ℕ) (room : ℕ) (s : Tree) (X : List Label) (text : List ℕ) → solveJob job ≡ solved s X text
+    → room < length (printed job)
+    → answered (length job) room (solveJob job) ≡ job-answer.Refused (record { reason = TooShort; body = O; place = 0 })
+nine-when-short = RoomLaws.short-output
 
 -- "Number 8 adds a space and its three labels joined by commas.": the line from the answer's places and sizes is the printed one
 pub eight-line : (job : List ℕ) (room : ℕ) (n : Named) → answered (length job) room (solveJob job) ≡ job-answer.Disagree n

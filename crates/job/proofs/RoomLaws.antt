@@ -8,10 +8,10 @@ use mathlib.Core.Option.{Option, some, none}
 use native.Mathlib.Omega.{arith}
 use lib.Dec.{leb}
 use lib.ListN.{length}
-use borrow.Author.Tests.{le-leb, leb-false}
+use borrow.Author.Tests.{le-leb, lt-leb, leb-false}
 use Rattle.trees.specs.declared.Reason.{Reason}
-use Rattle.trees.specs.declared.Reason.the-variants.{JobTooLong}
-use Rattle.trees.specs.declared.Body.the-variants.{J}
+use Rattle.trees.specs.declared.Reason.the-variants.{TooShort, JobTooLong}
+use Rattle.trees.specs.declared.Body.the-variants.{J, O}
 use Rattle.trees.specs.declared.Refusal.{Refusal}
 use Rattle.trees.specs.Refusals.{numberOf}
 use Rattle.trees.specs.Label.{Label}
@@ -129,3 +129,12 @@ nine-output job room q e n = go (solveJob job) (job-never-nine job) e
     go (turned p) k h =
         let g : p ≡ q = cc in
         absurd (k (ap (λ (r : Refusal). numberOf (r .reason)) g ∙ n))
+
+-- and a set whose lines are longer than the output gets number 9
+pub short-output : (job : List ℕ) (room : ℕ) (s : Tree) (X : List Label) (text : List ℕ) → solveJob job ≡ solved s X text
+    → room < length (printed job)
+    → answered (length job) room (solveJob job) ≡ job-answer.Refused (record { reason = TooShort; body = O; place = 0 })
+unfolding answered recordAnswer printed printedOf
+short-output job room s X text e h =
+    let k : room < length (recordLines X text) = subst (λ (x : Solution). room < length (printedOf x)) e h in
+    rw (e, lt-leb (length (recordLines X text)) room k) refl
