@@ -1,12 +1,11 @@
 -- The numbers of a solution, from the answer that the engine gives for it. Assumes nothing.
 use Prim.Native.Nat.{ℕ}
-use mathlib.Core.Path.{_≡_, refl, ap}
+use mathlib.Core.Path.{_≡_, refl}
 use native.Mathlib.Omega.{arith}
 use lib.ListN.{length}
 use Rattle.trees.specs.declared.Refusal.{Refusal}
 use Rattle.trees.specs.Refusals.{numberOf, letterOf}
 use Rattle.agreement.specs.Places.{placeOfLabel}
-use Rattle.mast.specs.declared.LargestAnswer.{LargestAnswer}
 use Rattle.mast.specs.declared.LargestAnswer.the-variants.{Found, Disagree, Refused}
 use Rattle.mast.specs.Largest.{Solution, solved, clashed, turned, largestOf}
 use Rattle.cabi.specs.declared.AgreeResult.{AgreeResult}

@@ -1,5 +1,4 @@
 -- The numbers that a host gets for a job's solution. Scope paper, "Why a job is turned down".
-use Prim.Native.Nat.{ℕ}
 use lib.ListN.{length}
 use Rattle.trees.specs.declared.Reason.the-variants.{Disagree}
 use Rattle.trees.specs.declared.Body.the-variants.{K}

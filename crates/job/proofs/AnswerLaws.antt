@@ -1,37 +1,32 @@
 -- What the engine's answer says of the job's: a set and its lines, number 8 and its parts, or a refusal. Assumes nothing.
-use Prim.Native.Nat.{ℕ, zero, suc, _+_, _-_, _≤_, _<_}
-use mathlib.Core.Path.{_≡_, refl, sym, _∙_, ap, ap₂, subst}
-use mathlib.Core.Bool.{Bool, true, false, cond}
-use mathlib.Core.List.{List, [], _∷_, _++_, map}
+use Prim.Native.Nat.{ℕ, _+_, _-_, _≤_, _<_}
+use mathlib.Core.Path.{_≡_, refl, sym, _∙_, ap, ap₂}
+use mathlib.Core.Bool.{true}
+use mathlib.Core.List.{List, _++_}
 use mathlib.Core.Option.{Option, some, none}
 use native.Mathlib.Omega.{arith}
-use lib.ListN.{length, take, drop, replicate, length-append, length-take, length-drop, length-replicate}
+use lib.ListN.{length, take, drop, replicate, length-append, length-drop, length-replicate}
 use lib.Seq.{take-at, take-all}
 use borrow.Author.Tests.{le-leb, lt-leb}
-use Rattle.trees.specs.declared.Reason.{Reason}
 use Rattle.trees.specs.declared.Reason.the-variants.{Contents, JobTooLong}
-use Rattle.trees.specs.declared.Body.{Body}
 use Rattle.trees.specs.declared.Body.the-variants.{J}
 use Rattle.trees.specs.declared.Refusal.{Refusal}
-use Rattle.trees.specs.Label.{Label, isIn, goodLabel}
+use Rattle.trees.specs.Label.{Label, isIn}
 use Rattle.trees.specs.Tree.{Tree}
 use Rattle.lists.specs.declared.LabelPlaces.{LabelPlaces}
 use Rattle.lists.specs.ReadList.{joined}
 use Rattle.agreement.specs.Places.{placeIn, placeOfLabel}
-use Rattle.mast.specs.declared.LargestAnswer.{LargestAnswer}
 use Rattle.mast.specs.declared.LargestAnswer.the-variants.{Found, Disagree, Refused}
 use Rattle.mast.specs.declared.LargestResult.{LargestResult}
 use Rattle.mast.specs.Largest.{Solution, solved, clashed, turned, solve, setPlaces, largestOf, outputOf}
-use Rattle.job.specs.declared.JobAnswer.{JobAnswer}
 use Rattle.job.specs.declared.JobAnswer.the-variants as job-answer
-use Rattle.job.specs.declared.Named.{Named}
 use Rattle.job.specs.declared.Part.{Part}
 use Rattle.job.specs.Contents.{Bodies, bodiesOf}
 use Rattle.job.specs.Printed.{recordLines, solveBodies, solveJob, treeRoom}
 use Rattle.job.specs.Answered.{lineOutput, recordAnswer, partOfLabel, answered, jobOutput}
 use Rattle.job.specs.Areas.{labelsIn, untilComma}
-use Rattle.job.proofs.ShownLaws.{Listed, labels-are, listed-size, good-bytes}
-use Rattle.job.proofs.SolvedLaws.{SolvedBy, ClashedBy, From, solution-from, set-few, set-shown, list-text, eight, label-listed}
+use Rattle.job.proofs.ShownLaws.{labels-are, listed-size, good-bytes}
+use Rattle.job.proofs.SolvedLaws.{ClashedBy, From, solution-from, set-few, set-shown, list-text, eight, label-listed}
 
 -- ---- one kind of answer each
 

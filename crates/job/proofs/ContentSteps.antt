@@ -1,22 +1,19 @@
 -- The steps of reading the contents, at a place of the job. Assumes nothing.
 use Prim.Native.Nat.{ℕ, zero, suc, _+_, _-_, _*_, _≤_, _<_}
 use mathlib.Core.Path.{_≡_, refl, sym, _∙_, ap, ap₂}
-use mathlib.Core.Bool.{Bool, true, false, cond, _&&_, _||_, not}
-use mathlib.Core.Logic.{_⊎_, inl, inr}
-use mathlib.Core.List.{List, [], _∷_, _++_}
-use mathlib.Core.Option.{Option, some, none}
-use native.Mathlib.Nat.{not-suc-le-zero}
+use mathlib.Core.Bool.{Bool, true, false, cond, not}
+use mathlib.Core.List.{List, [], _∷_}
+use mathlib.Core.Option.{some, none}
 use native.Mathlib.Numerals.{add-one}
 use native.Mathlib.Omega.{arith}
 use lib.Dec.{eqb, leb}
 use lib.ListN.{length, getD, take, drop, length-drop, drop-of-length-le}
 use lib.Seq.{drop-cons, drop-drop, getD-drop, getD-take}
 use borrow.Author.Tests.{le-leb, lt-leb, eq-eqb, ne-eqb, not-true, not-false}
-use Rattle.trees.proofs.Bools.{bool-cases, clash}
 use Rattle.job.specs.Decimal.{isDigit, digitRun, valueFrom}
 use Rattle.job.specs.Areas.{untilComma}
 use Rattle.job.specs.Steps.{Stands}
-use Rattle.job.specs.Contents.{Number, Bodies, expect, goodDigits, numberAt, entryAt, cut, bodiesOf}
+use Rattle.job.specs.Contents.{Number, expect, goodDigits, numberAt, entryAt, cut, bodiesOf}
 
 -- ---- digits
 

@@ -11,7 +11,6 @@ use Rattle.trees.specs.declared.Reason.the-variants.{TooShort as TooShortReason
 use Rattle.trees.specs.declared.Body.the-variants.{O}
 use Rattle.trees.specs.declared.Refusal.{Refusal}
 use Rattle.trees.specs.Refusals.{numberOf}
-use Rattle.trees.specs.Label.{Label}
 use Rattle.trees.proofs.Bools.{bool-cases}
 use Rattle.mast.specs.Largest.{Solution, solved, clashed, turned}
 use Rattle.job.specs.declared.JobAnswer.{JobAnswer}

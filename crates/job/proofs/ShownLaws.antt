@@ -5,15 +5,14 @@ use mathlib.Core.Bool.{Bool, true, false, cond, _&&_}
 use mathlib.Core.Logic.{_⊎_, inl, inr, ⊎-elim}
 use mathlib.Core.List.{List, [], _∷_, _++_, map, append-assoc}
 use native.Mathlib.Nat.{not-suc-le-zero, le-of-suc-le-suc}
-use native.Mathlib.Numerals.{add-one}
 use native.Mathlib.Omega.{arith}
 use lib.Dec.{eqb, leb}
 use lib.ListN.{length, getD, take, drop, replicate, length-append, length-map, List·getD-append}
 use lib.Seq.{take-append-seam, drop-at, take-suc, take-length}
-use borrow.Author.Tests.{le-leb, leb-true, eq-eqb, ne-eqb, eqb-true}
+use borrow.Author.Tests.{le-leb, leb-true, eqb-true}
 use Rattle.trees.specs.Bytes.{isLabelByte}
 use Rattle.trees.specs.Label.{Label, sameLabel, isIn, allLabelBytes, goodLabel, goodLabels}
-use Rattle.trees.specs.Tree.{Tree, leaf, node, leaves}
+use Rattle.trees.specs.Tree.{Tree, leaf, node}
 use Rattle.trees.specs.Text.{written, textOf}
 use Rattle.trees.specs.Stored.{partOf}
 use Rattle.trees.proofs.Bools.{bool-cases, clash, and-left, and-right, or-cases}

@@ -1,26 +1,23 @@
 -- What a solution says of the bodies: the tree, the list and the answer it comes from. Assumes nothing.
-use Prim.Native.Nat.{ℕ, zero, suc, _+_, _-_, _≤_, _<_}
-use mathlib.Core.Path.{_≡_, refl, sym, _∙_, ap, subst}
+use Prim.Native.Nat.{ℕ, _-_, _≤_}
+use mathlib.Core.Path.{_≡_, refl, sym, subst}
 use mathlib.Core.Bool.{Bool, true, false, cond}
-use mathlib.Core.Logic.{_⊎_, inl, inr}
-use mathlib.Core.List.{List, [], _∷_, _++_}
+use mathlib.Core.List.{List}
 use native.Mathlib.Omega.{arith}
 use lib.Dec.{leb}
-use lib.ListN.{length, take, drop}
+use lib.ListN.{length}
 use borrow.Author.Tests.{leb-true}
 use Rattle.trees.specs.declared.Reason.the-variants.{TooShort}
 use Rattle.trees.specs.declared.Body.the-variants.{O}
-use Rattle.trees.specs.Label.{Label, isIn, goodLabel, goodLabels, distinct}
+use Rattle.trees.specs.Label.{Label, isIn, goodLabel}
 use Rattle.trees.specs.Tree.{Tree, leaves, Valid}
-use Rattle.trees.specs.Text.{textOf}
 use Rattle.trees.specs.Reading.{Reading, good, refused}
-use Rattle.trees.proofs.Bools.{bool-cases}
 use Rattle.newick.specs.ReadTree.{readTree}
 use Rattle.newick.proofs.Promises.{accepted-text}
 use Rattle.lists.specs.ReadList.{readList, joined}
 use Rattle.lists.proofs.Promises.{accepted-list}
 use Rattle.agreement.specs.Closer.{holds}
-use Rattle.agreement.specs.Sets.{setOf, keep}
+use Rattle.agreement.specs.Sets.{setOf}
 use Rattle.agreement.specs.Restrict.{restrict}
 use Rattle.agreement.specs.Answer.{Answer, firstLacks, secondLacks, disagree, largest, answer}
 use Rattle.agreement.specs.Places.{placeIn, placeOfLabel, keptText}
@@ -28,7 +25,7 @@ use Rattle.agreement.specs.Demand.{IsAnswer}
 use Rattle.agreement.proofs.Promises.{set-promise, answer-promise}
 use Rattle.agreement.proofs.SetLaws.{within-few}
 use Rattle.mast.specs.Largest.{Solution, solved, clashed, turned, fitted, solutionOf, solveList, solveSecond, solveFirst, solve}
-use Rattle.job.proofs.ShownLaws.{Shown, tree-shown, Listed, list-listed, good-in, good-short, good-bytes}
+use Rattle.job.proofs.ShownLaws.{Shown, tree-shown, Listed, list-listed, good-in, good-short}
 
 pub record SolvedBy (first list : List ℕ) (room : ℕ) (s : Tree) (X : List Label) (text : List ℕ) : Type 0 where
   pub other : Tree

@@ -1,7 +1,7 @@
 -- The table of contents of a job. Scope paper, "Job and printed result": "three lines `S n`, `T n`, `K n`, an empty line, then the
 -- first tree, the second tree and the required list, joined directly".
 use Prim.Native.Nat.{ℕ, _+_}
-use mathlib.Core.Bool.{Bool, true, false, cond, _&&_, _||_, not}
+use mathlib.Core.Bool.{Bool, cond, _&&_, _||_, not}
 use mathlib.Core.List.{List, [], _∷_, _++_}
 use mathlib.Core.Option.{Option, some, none}
 use lib.Dec.{eqb, leb}

@@ -10,7 +10,7 @@ use trees::Refusal;
 ghost use mathlib.Core.Path.{_≡_};
 ghost use lib.ListN.{length};
 ghost use Prim.Native.Nat.{_+_, _≤_};
-ghost use lib.ListN.{take, drop};
+ghost use lib.ListN.{drop};
 ghost use Rattle.mast.specs.Largest.{turned, solve};
 ghost use Rattle.job.specs.declared.JobAnswer as JobAnswer;
 ghost use Rattle.job.specs.Printed.{printedOf, printed, recordLines, solveJob, treeRoom};

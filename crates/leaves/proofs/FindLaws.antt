@@ -1,11 +1,9 @@
 -- The search for a leaf with a label: its steps, and what it finds in the arrays of a tree. Assumes nothing.
 use Prim.Native.Nat.{ℕ, zero, suc, _+_, _-_, _<_, _≤_}
-use mathlib.Core.Path.{_≡_, refl, sym, _∙_, ap}
-use mathlib.Core.Bool.{Bool, true, false, cond}
-use mathlib.Core.Logic.{_⊎_, inl, inr}
+use mathlib.Core.Path.{_≡_, refl, sym}
+use mathlib.Core.Bool.{Bool, true, false}
 use native.Mathlib.Omega.{arith}
 use native.Mathlib.Numerals.{add-one}
-use Rattle.trees.specs.declared.Order.{Order}
 use Rattle.trees.specs.declared.Order.the-variants.{Less, Equal, Greater}
 use Rattle.trees.specs.Label.{Label, sameLabel, orderOf}
 use Rattle.trees.proofs.LabelLaws.{order-less, order-equal, order-greater, eq-same, ne-same, less-ne}

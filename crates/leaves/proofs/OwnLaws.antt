@@ -2,21 +2,20 @@
 -- Assumes nothing.
 use Prim.Native.Nat.{ℕ, zero, suc, _+_, _-_, _<_, _≤_, min}
 use mathlib.Core.Path.{_≡_, refl, sym, _∙_, ap, subst}
-use mathlib.Core.Bool.{Bool, true, false, cond, _&&_}
-use mathlib.Core.Logic.{_⊎_, inl, inr, ⊎-elim}
-use mathlib.Core.List.{List, [], _∷_, _++_}
+use mathlib.Core.Bool.{Bool, true, false, cond}
+use mathlib.Core.Logic.{_⊎_, inl, inr}
+use mathlib.Core.List.{List}
 use native.Mathlib.Omega.{arith}
 use lib.Dec.{eqb}
-use lib.ListN.{length, getD, take, drop, replicate}
+use lib.ListN.{length, getD, replicate}
 use borrow.Author.Tests.{ne-eqb, eq-eqb, le-leb}
-use Rattle.trees.specs.declared.TreeArrays.{TreeArrays}
 use Rattle.trees.specs.Label.{Label, sameLabel, isIn}
 use Rattle.trees.specs.Tree.{Tree, leaf, node, leaves, Valid}
 use Rattle.trees.specs.Text.{textOf}
 use Rattle.trees.specs.Arrays.{arraysOf, nodesOf, lefts, rights, starts, sizes, isLeaf, nodeLimit}
 use Rattle.trees.specs.Stored.{partOf}
 use Rattle.trees.specs.Postorder.{postorder, subtree, LaidNode, laid-leaf, laid-node, Laid}
-use Rattle.trees.proofs.Bools.{bool-cases, clash, and-left, and-right, and-intro}
+use Rattle.trees.proofs.Bools.{bool-cases, clash}
 use Rattle.trees.proofs.LabelLaws.{same-eq, same-refl}
 use Rattle.trees.proofs.ArrayLaws.{own-stands, good-at, label-inside, few-nodes}
 use Rattle.trees.proofs.PostorderLaws.{laid-arrays, length-postorder, label-shown, LeafAt, leaf-at, subtree-in, holds-leaf}

@@ -1,12 +1,12 @@
 -- The tree that is left of tree arrays when only the leaves with these numbers are kept. Source paper 003, section 2.
 use Prim.Native.Nat.{ℕ, zero, suc, _-_}
-use mathlib.Core.Bool.{Bool, true, false, cond}
+use mathlib.Core.Bool.{Bool, false, cond}
 use mathlib.Core.List.{List}
 use mathlib.Core.Option.{Option, some, none}
 use lib.ListN.{getD}
 use Rattle.trees.specs.declared.TreeArrays.{TreeArrays}
 use Rattle.trees.specs.Tree.{Tree, leaf}
-use Rattle.trees.specs.Arrays.{labelAt, isLeaf, Standing, noLeaf, oneTree, noTree}
+use Rattle.trees.specs.Arrays.{labelAt, isLeaf, Standing, noLeaf, oneTree}
 use Rattle.agreement.specs.Restrict.{joinKept}
 
 -- what is left below node u, at most as deep as `room`

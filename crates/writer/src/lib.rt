@@ -5,7 +5,7 @@ use trees::Body;
 use trees::Reason;
 use trees::Refusal;
 use trees::TreeArrays;
-ghost use Prim.Native.Nat.{ℕ, _+_, _<_, _≤_, min};
+ghost use Prim.Native.Nat.{_+_, _<_, _≤_, min};
 ghost use mathlib.Core.Path.{_≡_};
 ghost use mathlib.Core.Bool.{true, cond};
 ghost use lib.ListN.{length, getD, take, drop};

@@ -1,5 +1,5 @@
 -- `cabi::agree_job` meets its contract: each answer to a job has its numbers. Assumes nothing.
-use mathlib.Core.Path.{_≡_, refl, sym, _∙_, ap}
+use mathlib.Core.Path.{sym, _∙_, ap}
 use Rattle.trees.specs.Refusals.{numberOf, letterOf}
 use Rattle.cabi.specs.Numbers.{jobNumbers}
 use borrow.Author.Needs.{needs}

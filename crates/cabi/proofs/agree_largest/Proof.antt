@@ -1,5 +1,5 @@
 -- `cabi::agree_largest` meets its contract: each answer of the engine has its numbers. Assumes nothing.
-use mathlib.Core.Path.{_≡_, refl, sym, _∙_, ap}
+use mathlib.Core.Path.{sym, _∙_, ap}
 use Rattle.cabi.proofs.NumberLaws.{found-numbers, clash-numbers, turned-numbers}
 use borrow.Author.Needs.{needs}
 use Rattle.cabi.proofs.agree_largest.Statement.{statement}

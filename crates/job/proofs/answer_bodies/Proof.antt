@@ -1,14 +1,13 @@
 -- `job::answer_bodies` meets its contract: the engine's answer is that of the job. Assumes nothing.
 use Rattle.job.proofs.AnswerLaws.{blank, blank-room, named-eq, found-set, found-eight, found-refusal}
 use Rattle.job.proofs.AnswerLaws.{answered-solved, output-solved, answered-clashed, output-clashed, answered-turned, output-turned}
-use Rattle.job.specs.Areas.{labelsIn}
 use Rattle.job.specs.Answered.{lineOutput, recordAnswer}
 use Rattle.job.specs.Printed.{recordLines}
-use mathlib.Core.Path.{_≡_, _∙_, ap, ap₂, sym}
+use mathlib.Core.Path.{_∙_, ap, ap₂}
 use mathlib.Core.List.{List}
 use lib.ListN.{length, length-take}
 use native.Mathlib.Omega.{arith}
-use Prim.Native.Nat.{ℕ, _+_, _≤_}
+use Prim.Native.Nat.{ℕ}
 use borrow.Author.Needs.{needs}
 use Rattle.job.proofs.answer_bodies.Statement.{statement}
 use Rattle.job.proofs.answer_bodies.Tie as tie

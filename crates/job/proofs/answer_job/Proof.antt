@@ -4,9 +4,9 @@ use Rattle.mast.specs.Largest.{Solution}
 use mathlib.Core.Path.{ap₂}
 use Rattle.job.proofs.AnswerLaws.{job-long, job-broken, job-solved, list-end, answered-turned, output-turned}
 use Rattle.job.specs.Steps.{bodiesTold, Inside}
-use mathlib.Core.Path.{_≡_, _∙_, ap, sym, subst}
+use mathlib.Core.Path.{_∙_, ap, subst}
 use native.Mathlib.Omega.{arith}
-use Prim.Native.Nat.{ℕ, _+_, _≤_}
+use Prim.Native.Nat.{ℕ}
 use lib.ListN.{length}
 use borrow.Author.Needs.{needs}
 use Rattle.job.proofs.answer_job.Statement.{statement}

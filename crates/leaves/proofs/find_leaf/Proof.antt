@@ -1,7 +1,6 @@
 -- `leaves::find_leaf` meets its contract: what is left of the search always gives what the whole search gives. Assumes nothing.
-use mathlib.Core.Path.{ap}
 use native.Mathlib.Nat.{sub-zero}
-use Prim.Native.Nat.{_≤_, _-_, min}
+use Prim.Native.Nat.{_≤_, _-_}
 use mathlib.Core.Path.{_≡_, refl, sym, _∙_}
 use native.Mathlib.Omega.{arith}
 use borrow.Author.Needs.{needs}

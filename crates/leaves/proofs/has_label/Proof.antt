@@ -1,6 +1,6 @@
 -- `leaves::has_label` meets its contract: the order of the two labels decides whether they are the same. Assumes nothing.
 use Rattle.trees.specs.Label.{orderOf}
-use mathlib.Core.Path.{refl, sym, _∙_, ap}
+use mathlib.Core.Path.{sym, _∙_, ap}
 use borrow.Author.Tests.{ne-eqb, eq-eqb}
 use Rattle.leaves.specs.Find.{labelled}
 use Rattle.leaves.proofs.FindLaws.{same-less, same-equal, same-greater}

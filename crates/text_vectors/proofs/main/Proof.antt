@@ -1,7 +1,6 @@
 -- `text_vectors::main` ends: it counts the cases down. Assumes nothing.
 use Prim.Native.Nat.{_≤_}
 use borrow.Author.Needs.{needs}
-use native.Mathlib.Omega.{arith}
 use Rattle.text_vectors.proofs.main.Statement.{statement}
 use Rattle.text_vectors.proofs.main.Tie as tie
 

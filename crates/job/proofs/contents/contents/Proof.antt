@@ -1,5 +1,4 @@
 -- `job::contents::contents` meets its contract: line by line, then the cut. Assumes nothing.
-use Rattle.job.specs.Contents.{Number}
 use Rattle.job.proofs.ContentSteps.{stood, stood-in, stood-not, no-first, no-second, no-list, no-empty-line, whole-contents}
 use Rattle.job.specs.Steps.{told, Small}
 use native.Mathlib.Omega.{arith}

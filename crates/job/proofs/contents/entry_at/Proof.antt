@@ -1,7 +1,6 @@
 -- `job::contents::entry_at` meets its contract: letter, blank, number and line end, one after another. Assumes nothing.
 use Rattle.job.proofs.ContentSteps.{stood, stood-in, stood-not, no-letter, no-blank, no-number, no-line-end, whole-line}
 use Rattle.job.specs.Steps.{told, Small}
-use Rattle.job.specs.declared.contents.Entry.{Entry}
 use native.Mathlib.Omega.{arith}
 use mathlib.Core.Path.{_∙_, ap, subst}
 use borrow.Author.Needs.{needs}

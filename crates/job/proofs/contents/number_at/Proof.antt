@@ -1,10 +1,9 @@
 -- `job::contents::number_at` meets its contract: no digit, too many, a leading zero, or a number. Assumes nothing.
 use Rattle.job.proofs.ContentSteps.{number-none, number-long, number-zero, number-one, number-more, number-told, first-at, run-inside}
-use Rattle.job.specs.Decimal.{digitRun}
 use native.Mathlib.Omega.{arith}
 use mathlib.Core.Path.{_∙_, sym}
 use mathlib.Core.Logic.{⊎-elim}
-use lib.ListN.{length, drop, length-drop}
+use lib.ListN.{drop, length-drop}
 use borrow.Author.Needs.{needs}
 use Rattle.job.proofs.contents.number_at.Statement.{statement}
 use Rattle.job.proofs.contents.number_at.Tie as tie

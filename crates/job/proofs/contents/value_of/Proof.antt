@@ -3,8 +3,8 @@ use Rattle.job.proofs.ContentSteps.{bound, bound-more, bound-small, bou
 use Rattle.job.specs.Decimal.{valueFrom}
 use borrow.Author.Needs.{needs}
 use native.Mathlib.Omega.{arith}
-use mathlib.Core.Path.{_≡_, refl, sym, _∙_, ap}
-use lib.ListN.{length, take, drop, getD}
+use mathlib.Core.Path.{_≡_, sym, _∙_, ap}
+use lib.ListN.{take, drop, getD}
 use Prim.Native.Nat.{ℕ, _+_, _-_, _*_, _≤_, _<_}
 use Rattle.job.proofs.contents.value_of.Statement.{statement}
 use Rattle.job.proofs.contents.value_of.Tie as tie

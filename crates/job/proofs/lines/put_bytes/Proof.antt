@@ -1,7 +1,6 @@
 -- `job::lines::put_bytes` meets its contract. The invariant: the bytes passed are put. Assumes nothing.
 use Rattle.job.proofs.AreaLaws.{put-none, put-more, put-all}
 use Rattle.job.specs.Areas.{Put}
-use mathlib.Core.Path.{refl}
 use native.Mathlib.Omega.{arith}
 use lib.ListN.{length, take}
 use Prim.Native.Nat.{_+_, _-_, _≤_}

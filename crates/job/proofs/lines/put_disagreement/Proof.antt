@@ -1,15 +1,11 @@
 -- `job::lines::put_disagreement` meets its contract: the words, a blank, three labels and a line end. Assumes nothing.
-use Rattle.job.proofs.AreaLaws.{put-then, put-as, item-short, label-short}
+use Rattle.job.proofs.AreaLaws.{put-then, put-as}
 use Rattle.job.proofs.LineLaws.{words-short, named-parts, named-short, item-named}
-use Rattle.job.specs.Areas.{Put, item}
-use Rattle.job.specs.Answered.{labelIn}
+use Rattle.job.specs.Areas.{item}
 use Rattle.trees.specs.declared.Reason.the-variants.{Disagree}
 use Rattle.trees.specs.declared.Body.the-variants.{K}
-use mathlib.Core.Path.{_∙_, _≡_, ap}
-use mathlib.Core.List.{List}
+use mathlib.Core.Path.{ap}
 use native.Mathlib.Omega.{arith}
-use Prim.Native.Nat.{ℕ, _+_, _≤_}
-use lib.ListN.{length}
 use borrow.Author.Needs.{needs}
 use Rattle.job.proofs.lines.put_disagreement.Statement.{statement}
 use Rattle.job.proofs.lines.put_disagreement.Tie as tie

@@ -1,13 +1,13 @@
 -- `job::lines::put_labels` meets its contract. The invariant: the labels passed are put, joined by commas. Assumes nothing.
 use borrow.Author.Needs.{needs}
 use Rattle.job.proofs.AreaLaws.{first-none}
-use Rattle.job.proofs.AreaLaws.{put-none, put-to, put-as, put-label, item-short, label-short}
+use Rattle.job.proofs.AreaLaws.{put-as, put-label, item-short, label-short}
 use Rattle.job.specs.Areas.{Put, labelsIn, item}
 use Rattle.job.specs.Answered.{labelIn}
 use Rattle.lists.specs.ReadList.{joined}
-use mathlib.Core.Path.{refl, _∙_, ap}
+use mathlib.Core.Path.{ap}
 use native.Mathlib.Omega.{arith}
-use lib.ListN.{length, take, getD}
+use lib.ListN.{length, getD}
 use Prim.Native.Nat.{ℕ, _+_, _-_, _*_, _≤_}
 use Rattle.job.proofs.lines.put_labels.Statement.{statement}
 use Rattle.job.proofs.lines.put_labels.Tie as tie

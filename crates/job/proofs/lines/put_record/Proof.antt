@@ -2,7 +2,7 @@
 use Rattle.job.proofs.AreaLaws.{put-then, put-as, length-labels}
 use Rattle.job.proofs.DecimalLaws.{decimal-short}
 use Rattle.job.proofs.LineLaws.{record-parts}
-use mathlib.Core.Path.{_∙_, sym}
+use mathlib.Core.Path.{sym}
 use native.Mathlib.Omega.{arith}
 use borrow.Author.Needs.{needs}
 use Rattle.job.proofs.lines.put_record.Statement.{statement}
