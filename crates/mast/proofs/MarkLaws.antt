@@ -1,14 +1,14 @@
--- Laws of marks: a mark computed from the children's marks says whether the node holds the label, a tree with different leaves
--- has one leaf of a label, which cells stay right when one label's weight changes, and the first marked node from each on.
--- Assumes nothing.
-use Prim.Native.Nat.{ℕ, _+_, _<_, _≤_}
+-- Laws of marks: a mark computed from the children's marks says whether the node holds the label, no node before the leaf does, a
+-- tree with different leaves has one leaf of a label, which cells stay right when one label's weight changes, and the first marked
+-- node from each on. Assumes nothing.
+use Prim.Native.Nat.{ℕ, zero, suc, _+_, _<_, _≤_}
 use mathlib.Core.Path.{_≡_, refl, sym, _∙_, ap}
 use mathlib.Core.Bool.{Bool, true, false, cond, _&&_}
 use mathlib.Core.Logic.{_⊎_, inl, inr}
 use mathlib.Core.List.{List}
 use native.Mathlib.Omega.{arith}
 use lib.Dec.{eqb}
-use lib.ListN.{length, getD, set, replicate, length-set, getD-replicate}
+use lib.ListN.{length, getD, set, replicate, length-set, length-replicate, getD-replicate}
 use lib.Seq.{getD-set-same, getD-set-other}
 use borrow.Author.Tests.{eq-eqb, ne-eqb, eqb-true, eqb-false}
 use Rattle.trees.specs.Label.{Label, sameLabel, distinct}
@@ -66,12 +66,53 @@ module _ (left right : List ℕ) (nodes place : ℕ) (ss : List Tree) (x : Label
       go v hv (inr other) =
           getD-set-other marks u v b false (eqb-false _ _ other) ∙ before .right v (omega (arith, eqb-false v u other))
 
+-- no node before the leaf is marked
+pub none-before : (left right : List ℕ) (nodes place : ℕ) (ss : List Tree) (x : Label) → LeafOf left right nodes place ss x → nodes ≤ 159
+    → (u : ℕ) → u ≤ place → Marked u ss x (replicate 159 false)
+unfolding markValue
+none-before left right nodes place ss x h few zero l =
+    record { size = length-replicate 159 false; right = λ v k. absurd (omega arith) }
+none-before left right nodes place ss x h few (suc u) l = go (none-before left right nodes place ss x h few u (omega arith))
+  where
+    none : List Bool
+    none = replicate 159 false
+
+    low : u < nodes
+    low = omega (arith, h .below)
+
+    plain : (v : ℕ) → v < 159 → getD none v false ≡ false
+    plain v k = getD-replicate 159 v false false k
+
+    value : NodeCase ss (getD left u 0) (getD right u 0) u (subtree ss u) → markValue left right place none u ≡ false
+    value (is-leaf y e p) = rw (ne-eqb u place (omega arith), eq-eqb _ _ e) refl
+    value (is-node a b p) =
+        rw (
+          ne-eqb u place (omega arith),
+          ne-eqb (getD left u 0) u (omega arith),
+          plain (getD left u 0) (omega arith),
+          plain (getD right u 0) (omega arith),
+        )
+        refl
+
+    go : Marked u ss x none → Marked (suc u) ss x none
+    go before = record { size = before .size; right = λ v k. each v k (bool-cases (eqb v u)) }
+      where
+        here : getD none u false ≡ holds (subtree ss u) x
+        here =
+            plain u (omega arith) ∙ sym (value (node-case (h .laid u (rw (h .count) low))))
+            ∙ mark-right left right nodes place ss x h few none u low before
+
+        each : (v : ℕ) → v < suc u → (eqb v u ≡ true) ⊎ (eqb v u ≡ false) → getD none v false ≡ holds (subtree ss v) x
+        each v k (inl same) = rw (eqb-true v u same) here
+        each v k (inr other) = before .right v (omega (arith, eqb-false v u other))
+
 -- a tree with different leaves
 pub leaf-of : (left right : List ℕ) (t : Tree) (place : ℕ) (x : Label) → distinct (leaves t) ≡ true
     → Laid left right (postorder t) → place < nodesOf t → subtree (postorder t) place ≡ leaf x
     → LeafOf left right (nodesOf t) place (postorder t) x
 leaf-of left right t place x d laid hp e =
     record {
+      below = hp;
       laid = laid;
       count = length-postorder t;
       is = e;

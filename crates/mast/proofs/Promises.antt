@@ -12,7 +12,7 @@ use Rattle.trees.specs.Tree.{Tree}
 use Rattle.agreement.specs.Sets.{setOf}
 use Rattle.agreement.specs.Restrict.{restrict}
 use Rattle.agreement.specs.Places.{keptText}
-use Rattle.agreement.specs.Answer.{Answer, largest, answer}
+use Rattle.agreement.specs.Answer.{Answer, answer}
 use Rattle.mast.specs.Largest.{solved, clashed, turned, solutionOf, solve, outputOf, largestOf, setPlaces}
 use Rattle.trees.specs.declared.Reason.{Reason}
 use Rattle.trees.specs.Reading.{good, refused}

@@ -11,15 +11,14 @@ use lib.Dec.{eqb}
 use lib.ListN.{length, getD, set, drop, replicate, length-set, length-replicate, getD-replicate, drop-of-length-le}
 use lib.Seq.{drop-cons, getD-set-same, getD-set-other}
 use borrow.Author.Tests.{eqb-true, eqb-false}
-use Rattle.trees.specs.declared.Order.the-variants.{Equal, Greater}
-use Rattle.trees.specs.Label.{Label, labelLess, orderOf, isIn}
+use Rattle.trees.specs.Label.{Label, labelLess, isIn}
 use Rattle.trees.specs.Tree.{Tree, leaf, node, leaves, Valid}
 use Rattle.trees.specs.Arrays.{nodesOf}
 use Rattle.trees.specs.Stored.{partOf}
 use Rattle.trees.specs.Postorder.{postorder, subtree, leafLabels}
 use Rattle.trees.proofs.Bools.{bool-cases, clash}
 use Rattle.trees.proofs.ArrayLaws.{few-nodes}
-use Rattle.trees.proofs.LabelLaws.{less-irrefl, less-ne, less-asym, order-equal, order-greater}
+use Rattle.trees.proofs.LabelLaws.{less-ne}
 use Rattle.trees.proofs.PostorderLaws.{length-postorder, leaf-labels, leaf-once}
 use Rattle.agreement.specs.Closer.{holds}
 use Rattle.agreement.specs.Sets.{increasing, insert, sorted, keep, common}

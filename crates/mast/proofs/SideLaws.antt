@@ -197,20 +197,25 @@ module _ (s t : Tree) (one two : Side) (order1 order2 : List ℕ) (m : ℕ) (job
   -- the table before one weight changes
   pub job-unmarked : (F G : List Label) (r : ℕ) → r < m → ((y : Label) → (y ≡ getD (common s t) r [] → ⊥) → forcing F y ≡ forcing G y)
       → (mark1 mark2 : List Bool) (cells : List ℕ)
-      → ((x : Label) → LeafOf (one .left) (one .right) (one .nodes) (getD order1 r 0) (postorder s) x → Marked (one .nodes) (postorder s) x mark1)
-      → ((x : Label) → LeafOf (two .left) (two .right) (two .nodes) (getD order2 r 0) (postorder t) x → Marked (two .nodes) (postorder t) x mark2)
+      → Marked (one .nodes) (postorder s) (getD (common s t) r []) mark1 → Marked (two .nodes) (postorder t) (getD (common s t) r []) mark2
       → Filled s t F cells
       → RightWhereUnmarked (one .nodes) (two .nodes) (postorder s) (postorder t) (forcing G) mark1 mark2 cells
   job-unmarked F G r l same mark1 mark2 cells p q f =
       unmarked-right (one .nodes) (two .nodes) (postorder s) (postorder t) (forcing F) (forcing G) x mark1 mark2 cells same
-      (p x (own-place s (common s t) one (job .first) order1 (job .order .first) r h))
-      (q x (own-place t (common s t) two (job .second) order2 (job .order .second) r h)) (rw (job .first .nodes-is, job .second .nodes-is) f)
+      p q (rw (job .first .nodes-is, job .second .nodes-is) f)
     where
       x : Label
       x = getD (common s t) r []
 
-      h : r < length (common s t)
-      h = omega (arith, job .order .count)
+  -- the leaves of a label in both trees
+  pub job-leaves : (r : ℕ) → r < m
+      → LeafOf (one .left) (one .right) (one .nodes) (getD order1 r 0) (postorder s) (getD (common s t) r [])
+      × LeafOf (two .left) (two .right) (two .nodes) (getD order2 r 0) (postorder t) (getD (common s t) r [])
+  job-leaves r l =
+      let h : r < length (common s t) = omega (arith, job .order .count) in (
+        own-place s (common s t) one (job .first) order1 (job .order .first) r h,
+        own-place t (common s t) two (job .second) order2 (job .order .second) r h,
+      )
 
   -- the table filled, with the cell of both roots
   pub job-topped : (F : List Label) (cells : List ℕ)

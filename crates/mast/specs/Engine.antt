@@ -2,7 +2,7 @@
 -- Intermediate: nothing public rests on this text.
 use Prim.Native.Nat.{ℕ, suc, _<_, _≤_}
 use mathlib.Core.Path.{_≡_}
-use mathlib.Core.Bool.{Bool, true, false, cond}
+use mathlib.Core.Bool.{true, false, cond}
 use mathlib.Core.List.{List, [], _∷_}
 use lib.Dec.{eqb}
 use lib.ListN.{length, getD}
@@ -11,7 +11,7 @@ use Rattle.trees.specs.Tree.{Tree, leaf, Valid}
 use Rattle.trees.specs.Text.{textOf}
 use Rattle.trees.specs.Arrays.{arraysOf, nodesOf}
 use Rattle.trees.specs.Postorder.{postorder, subtree}
-use Rattle.lists.specs.ReadList.{joined, startsOf, sizesOf, placesOf, listLimit}
+use Rattle.lists.specs.ReadList.{joined, placesOf, listLimit}
 use Rattle.agreement.specs.Sets.{common}
 use Rattle.agreement.specs.Weights.{forcing, forcedUnit}
 

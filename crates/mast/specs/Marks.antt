@@ -1,4 +1,4 @@
--- Marks of nodes: the value of a mark from earlier marks, and when marks are right.
+-- Marks of nodes: the value of a mark from earlier marks, when marks are right, and links from each marked node to the next.
 -- Intermediate: nothing public rests on this text.
 use Prim.Native.Nat.{ℕ, _<_, _≤_}
 use mathlib.Core.Path.{_≡_}
@@ -19,6 +19,7 @@ markValue left right place marks u =
 
 -- the arrays stand for the subtrees ss, and the leaf at `place` alone has the label x
 pub record LeafOf (left right : List ℕ) (nodes place : ℕ) (ss : List Tree) (x : Label) : Type 0 where
+  pub below : place < nodes
   pub laid : Laid left right ss
   pub count : length ss ≡ nodes
   pub is : subtree ss place ≡ leaf x
@@ -39,3 +40,13 @@ pub record FirstMarked (nodes : ℕ) (marks : List Bool) (v k : ℕ) : Type 0 wh
 pub record Links (start nodes : ℕ) (marks : List Bool) (next : List ℕ) : Type 0 where
   pub size : length next ≡ 160
   pub each : (v : ℕ) → start ≤ v → v ≤ nodes → FirstMarked nodes marks v (getD next v 0)
+
+-- no link leads back: what ends the loops
+abbrev pub Upward : ℕ → List ℕ → Type 0
+Upward nodes next = (v : ℕ) → v ≤ nodes → v ≤ getD next v 0
+
+-- the nodes that hold the label x, linked
+pub record Above (nodes : ℕ) (ss : List Tree) (x : Label) (next : List ℕ) : Type 0 where
+  pub marks : List Bool
+  pub marked : Marked nodes ss x marks
+  pub links : Links 0 nodes marks next

@@ -4,22 +4,24 @@
 // A forced label weighs 128 and any other common label 1, so the greatest weight tells how many forced labels a best set holds
 // and how large it is. Labels go by rank; names that end in 1 are of the first tree, in 2 of the second. Arrays are lent.
 ghost use mathlib.Core.Path.{_≡_};
-ghost use mathlib.Core.Bool.{true, false, _&&_};
+ghost use mathlib.Core.Bool.{Bool, true, false, _&&_};
 ghost use mathlib.Core.List.{List, []};
 ghost use Prim.Native.Nat.{ℕ, _+_, _-_, _/_, _%_, _<_, _≤_};
 ghost use lib.Dec.{eqb};
 ghost use lib.ListN.{length, getD};
 ghost use Rattle.trees.specs.Label.{Label, isIn, distinct};
 ghost use Rattle.trees.specs.Tree.{Tree};
+ghost use Rattle.trees.specs.Postorder.{postorder};
 ghost use Rattle.agreement.specs.Closer.{Common};
 ghost use Rattle.agreement.specs.Sets.{sorted, common, setOf};
 ghost use Rattle.agreement.specs.Weights.{forcing};
 ghost use Rattle.agreement.specs.GreedyLoop.{greedy, sizeOfWeight, fits};
-ghost use Rattle.mast.specs.Table.{side, cell};
+ghost use Rattle.mast.specs.Table.{side, cell, RightWhereUnmarked};
+ghost use Rattle.mast.specs.Marks.{Links, Upward};
 ghost use Rattle.mast.specs.Engine.{Weighs, forcedFrom};
-ghost use Rattle.mast.specs.Choice.{Ready, Job, greatest, Filled, Topped, Forced, Tried, Passed, Solved};
-use crate::marks::mark_above;
-use crate::marks::mark_all;
+ghost use Rattle.mast.specs.Choice.{Ready, Job, greatest, Topped, Forced, Tried, Passed, Solved};
+use crate::marks::above;
+use crate::marks::every_node;
 use crate::table::fill;
 
 // The cell of both roots: the greatest weight of all.
@@ -42,6 +44,48 @@ fn counts(top: u16, number: u16, size: u16) -> bool
     }
 }
 
+// Computes the linked cells for these weights, and returns the greatest weight.
+fn weigh(
+    left1: &[usize; 159],
+    right1: &[usize; 159],
+    rank1: &[usize; 159],
+    nodes1: usize,
+    left2: &[usize; 159],
+    right2: &[usize; 159],
+    rank2: &[usize; 159],
+    nodes2: usize,
+    weight: &[u16; 81],
+    next1: &[usize; 160],
+    next2: &[usize; 160],
+    cells: &mut [u16; 25281],
+) -> u16
+    requires { ⌜ Ready (side (now left1) (now right1) (now rank1) nodes1) (side (now left2) (now right2) (now rank2) nodes2) ⌝ }
+    requires { ⌜ Upward nodes1 (now next1) × Upward nodes2 (now next2) ⌝ }
+    ensures { λ top. ⌜ ((s t : Tree) (order1 order2 : List ℕ) (m : ℕ) (F : List Label) (mark1 mark2 : List Bool)
+        → Job s t (side (now (left1 .entry)) (now (right1 .entry)) (now (rank1 .entry)) nodes1)
+        (side (now (left2 .entry)) (now (right2 .entry)) (now (rank2 .entry)) nodes2) order1 order2 m
+        → Weighs (common s t) F (now (weight .entry))
+        → Links 0 nodes1 mark1 (now (next1 .entry)) → Links 0 nodes2 mark2 (now (next2 .entry))
+        → RightWhereUnmarked nodes1 nodes2 (postorder s) (postorder t) (forcing F) mark1 mark2 (now (cells .entry))
+        → Topped s t F top (now (cells .exit))) ⌝ }
+{
+    fill(
+        left1,
+        right1,
+        rank1,
+        nodes1,
+        left2,
+        right2,
+        rank2,
+        nodes2,
+        weight,
+        next1,
+        next2,
+        cells,
+    );
+    root_weight(nodes1, nodes2, cells)
+}
+
 // Fills the table for these weights, and returns the greatest weight.
 fn fill_all(
     left1: &[usize; 159],
@@ -62,9 +106,11 @@ fn fill_all(
         → Weighs (common s t) F (now (weight .entry)) → length (now (cells .entry)) ≡ 25281
         → Topped s t F top (now (cells .exit))) ⌝ }
 {
-    let mark1 = mark_all();
-    let mark2 = mark_all();
-    fill(
+    let mut next1 = [0usize; 160];
+    let mut next2 = [0usize; 160];
+    every_node(nodes1, &mut next1);
+    every_node(nodes2, &mut next2);
+    weigh(
         left1,
         right1,
         rank1,
@@ -74,63 +120,14 @@ fn fill_all(
         rank2,
         nodes2,
         weight,
-        &mark1,
-        &mark2,
+        &next1,
+        &next2,
         cells,
-    );
-    root_weight(nodes1, nodes2, cells)
-}
-
-// The same after one weight, that of the label with rank r, has changed: only cells above its leaves change with it.
-fn refill(
-    left1: &[usize; 159],
-    right1: &[usize; 159],
-    rank1: &[usize; 159],
-    nodes1: usize,
-    order1: &[usize; 80],
-    left2: &[usize; 159],
-    right2: &[usize; 159],
-    rank2: &[usize; 159],
-    nodes2: usize,
-    order2: &[usize; 80],
-    m: usize,
-    weight: &[u16; 81],
-    cells: &mut [u16; 25281],
-    r: usize,
-) -> u16
-    requires { ⌜ Ready (side (now left1) (now right1) (now rank1) nodes1) (side (now left2) (now right2) (now rank2) nodes2) ⌝ }
-    requires { ⌜ (m ≤ 80) × (r < m) ⌝ }
-    ensures { λ top. ⌜ ((s t : Tree) (F G : List Label)
-        → Job s t (side (now (left1 .entry)) (now (right1 .entry)) (now (rank1 .entry)) nodes1)
-        (side (now (left2 .entry)) (now (right2 .entry)) (now (rank2 .entry)) nodes2) (now (order1 .entry)) (now (order2 .entry)) m
-        → ((y : Label) → (y ≡ getD (common s t) r [] → ⊥) → forcing F y ≡ forcing G y)
-        → Weighs (common s t) G (now (weight .entry)) → Filled s t F (now (cells .entry))
-        → Topped s t G top (now (cells .exit))) ⌝ }
-{
-    let leaf1 = order1[r];
-    let leaf2 = order2[r];
-    let mut mark1 = [false; 159];
-    let mut mark2 = [false; 159];
-    mark_above(left1, right1, nodes1, leaf1, &mut mark1);
-    mark_above(left2, right2, nodes2, leaf2, &mut mark2);
-    fill(
-        left1,
-        right1,
-        rank1,
-        nodes1,
-        left2,
-        right2,
-        rank2,
-        nodes2,
-        weight,
-        &mark1,
-        &mark2,
-        cells,
-    );
-    root_weight(nodes1, nodes2, cells)
+    )
 }
 
 // Forces the label with rank r, and lets it go again unless a set of this size holds all forced labels, one more than `number`.
+// Only cells above the label's leaves change with its weight.
 fn try_label(
     left1: &[usize; 159],
     right1: &[usize; 159],
@@ -157,42 +154,44 @@ fn try_label(
         → isIn (getD (common s t) r []) F ≡ false → Forced s t F number (now (weight .entry)) (now (cells .entry))
         → Tried s t size (getD (common s t) r []) F number b (now (weight .exit)) (now (cells .exit))) ⌝ }
 {
+    let leaf1 = order1[r];
+    let leaf2 = order2[r];
+    let mut next1 = [0usize; 160];
+    let mut next2 = [0usize; 160];
+    above(left1, right1, nodes1, leaf1, &mut next1);
+    above(left2, right2, nodes2, leaf2, &mut next2);
     weight[r] = 128;
-    let top = refill(
+    let top = weigh(
         left1,
         right1,
         rank1,
         nodes1,
-        order1,
         left2,
         right2,
         rank2,
         nodes2,
-        order2,
-        m,
         weight,
+        &next1,
+        &next2,
         cells,
-        r,
     );
     if counts(top, number + 1, size) {
         return true;
     }
     weight[r] = 1;
-    refill(
+    weigh(
         left1,
         right1,
         rank1,
         nodes1,
-        order1,
         left2,
         right2,
         rank2,
         nodes2,
-        order2,
-        m,
         weight,
+        &next1,
+        &next2,
         cells,
-        r,
     );
     false
 }

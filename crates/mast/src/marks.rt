@@ -1,4 +1,4 @@
-// Marks of the nodes above a leaf: the table's cells that change with the weight of its label.
+// The nodes above a leaf, whose cells of the table change with the weight of its label: marked, and linked from each to the next.
 ghost use mathlib.Core.Path.{_≡_};
 ghost use mathlib.Core.Bool.{true, false, cond};
 ghost use mathlib.Core.List.{List};
@@ -7,14 +7,7 @@ ghost use lib.ListN.{length, getD, replicate};
 ghost use Rattle.trees.specs.Label.{Label};
 ghost use Rattle.trees.specs.Tree.{Tree};
 ghost use Rattle.mast.specs.Table.{Ordered};
-ghost use Rattle.mast.specs.Marks.{markValue, LeafOf, Marked, Links};
-
-// Marks for the first fill of a table.
-pub(crate) fn mark_all() -> [bool; 159]
-    ensures { λ r. ⌜ r ≡ replicate 159 true ⌝ }
-{
-    [true; 159]
-}
+ghost use Rattle.mast.specs.Marks.{markValue, LeafOf, Marked, Links, Upward, Above};
 
 // Whether node u is the leaf or has a marked child.
 fn mark_value(
@@ -41,8 +34,8 @@ fn mark_value(
     marks[b]
 }
 
-// Marks the nodes that hold the leaf, children before parents, and no other of the tree's nodes.
-pub(crate) fn mark_above(
+// Marks the nodes that hold the leaf, children before parents. None before the leaf does.
+fn mark_above(
     left: &[usize; 159],
     right: &[usize; 159],
     nodes: usize,
@@ -51,9 +44,9 @@ pub(crate) fn mark_above(
 )
     requires { ⌜ Ordered (now left) (now right) nodes ⌝ }
     ensures { λ _. ⌜ ((ss : List Tree) (x : Label) → LeafOf (now (left .entry)) (now (right .entry)) nodes leaf ss x
-        → length (now (marks .entry)) ≡ 159 → Marked nodes ss x (now (marks .exit))) ⌝ }
+        → now (marks .entry) ≡ replicate 159 false → Marked nodes ss x (now (marks .exit))) ⌝ }
 {
-    let mut u: usize = 0;
+    let mut u: usize = leaf;
     while u < nodes {
         let marked = mark_value(left, right, leaf, marks, u);
         marks[u] = marked;
@@ -70,7 +63,7 @@ fn first_marked(marks: &[bool; 159], v: usize, after: usize) -> usize
 }
 
 // For each number the first marked node from it on, or `nodes`, so that a fill steps over all that is not marked.
-pub(crate) fn link(marks: &[bool; 159], nodes: usize, next: &mut [usize; 160])
+fn link(marks: &[bool; 159], nodes: usize, next: &mut [usize; 160])
     requires { ⌜ nodes ≤ 159 ⌝ }
     ensures { λ _. ⌜ (length (now (next .entry)) ≡ 160 → Links 0 nodes (now (marks .entry)) (now (next .exit))) ⌝ }
 {
@@ -82,4 +75,34 @@ pub(crate) fn link(marks: &[bool; 159], nodes: usize, next: &mut [usize; 160])
         first = first_marked(marks, v, first);
         next[v] = first;
     }
+}
+
+// Links for the nodes that hold the leaf.
+pub(crate) fn above(
+    left: &[usize; 159],
+    right: &[usize; 159],
+    nodes: usize,
+    leaf: usize,
+    next: &mut [usize; 160],
+)
+    requires { ⌜ Ordered (now left) (now right) nodes ⌝ }
+    ensures { λ _. ⌜ Upward nodes (now (next .exit)) ⌝ }
+    ensures { λ _. ⌜ ((ss : List Tree) (x : Label) → LeafOf (now (left .entry)) (now (right .entry)) nodes leaf ss x
+        → Above nodes ss x (now (next .exit))) ⌝ }
+{
+    let mut marks = [false; 159];
+    mark_above(left, right, nodes, leaf, &mut marks);
+    *next = [0; 160];
+    link(&marks, nodes, next);
+}
+
+// Links for all nodes.
+pub(crate) fn every_node(nodes: usize, next: &mut [usize; 160])
+    requires { ⌜ nodes ≤ 159 ⌝ }
+    ensures { λ _. ⌜ Upward nodes (now (next .exit)) ⌝ }
+    ensures { λ _. ⌜ Links 0 nodes (replicate 159 true) (now (next .exit)) ⌝ }
+{
+    let marks = [true; 159];
+    *next = [0; 160];
+    link(&marks, nodes, next);
 }

@@ -6,7 +6,7 @@ ghost use mathlib.Core.List.{List};
 ghost use mathlib.Core.Bool.{true};
 ghost use Prim.Native.Nat.{_+_, _<_, _≤_};
 ghost use lib.ListN.{length, set, getD};
-ghost use Rattle.trees.specs.Label.{Label, labelLess};
+ghost use Rattle.trees.specs.Label.{Label};
 ghost use Rattle.trees.specs.Tree.{Tree, Valid};
 ghost use Rattle.trees.specs.Stored.{partOf};
 ghost use Rattle.agreement.specs.Sets.{increasing};

@@ -13,8 +13,7 @@ ghost use Rattle.trees.specs.Label.{Label};
 ghost use Rattle.trees.specs.Tree.{Tree};
 ghost use Rattle.mast.specs.Table.{capped, cell, Told, leafValue, innerValue, pairValue};
 ghost use Rattle.mast.specs.Table.{Shape, side, Setting, Done, RightWhereUnmarked, AllRight};
-ghost use Rattle.mast.specs.Marks.{Links};
-use crate::marks::link;
+ghost use Rattle.mast.specs.Marks.{Links, Upward};
 
 fn larger(a: u16, b: u16) -> u16
     ensures { λ r. ⌜ r ≡ max a b ⌝ }
@@ -148,7 +147,7 @@ fn pair_value(
     }
 }
 
-// The marked cells of row u: `next2` has the first marked column from each on.
+// The cells of row u in linked columns: `next2` has the first of them from each on.
 fn fill_row(
     left1: &[usize; 159],
     right1: &[usize; 159],
@@ -164,7 +163,7 @@ fn fill_row(
 )
     requires { ⌜ (u < 159) × (getD (now left1) u 0 ≤ u) × (getD (now right1) u 0 ≤ u) × (getD (now rank1) u 0 ≤ 80) ⌝ }
     requires { ⌜ Shape (side (now left2) (now right2) (now rank2) nodes2) ⌝ }
-    requires { ⌜ ((v : ℕ) → v ≤ nodes2 → v ≤ getD (now next2) v 0) ⌝ }
+    requires { ⌜ Upward nodes2 (now next2) ⌝ }
     ensures { λ _. ⌜ ((nodes1 : ℕ) (ss ts : List Tree) (w : Label → ℕ) (mark1 mark2 : List Bool) → u < nodes1
         → Setting (side (now (left1 .entry)) (now (right1 .entry)) (now (rank1 .entry)) nodes1)
         (side (now (left2 .entry)) (now (right2 .entry)) (now (rank2 .entry)) nodes2) (now (weight .entry)) ss ts w
@@ -200,7 +199,7 @@ fn fill_row(
     }
 }
 
-// Computes the cells (u, v) with u and v marked again, children before parents: if every other cell is right, then all are.
+// Computes the cells of linked rows and columns again, children before parents: if every other cell is right, then all are.
 pub(crate) fn fill(
     left1: &[usize; 159],
     right1: &[usize; 159],
@@ -211,22 +210,20 @@ pub(crate) fn fill(
     rank2: &[usize; 159],
     nodes2: usize,
     weight: &[u16; 81],
-    mark1: &[bool; 159],
-    mark2: &[bool; 159],
+    next1: &[usize; 160],
+    next2: &[usize; 160],
     cells: &mut [u16; 25281],
 )
     requires { ⌜ Shape (side (now left1) (now right1) (now rank1) nodes1) ⌝ }
     requires { ⌜ Shape (side (now left2) (now right2) (now rank2) nodes2) ⌝ }
-    ensures { λ _. ⌜ ((ss ts : List Tree) (w : Label → ℕ)
+    requires { ⌜ Upward nodes1 (now next1) × Upward nodes2 (now next2) ⌝ }
+    ensures { λ _. ⌜ ((ss ts : List Tree) (w : Label → ℕ) (mark1 mark2 : List Bool)
         → Setting (side (now (left1 .entry)) (now (right1 .entry)) (now (rank1 .entry)) nodes1)
         (side (now (left2 .entry)) (now (right2 .entry)) (now (rank2 .entry)) nodes2) (now (weight .entry)) ss ts w
-        → RightWhereUnmarked nodes1 nodes2 ss ts w (now (mark1 .entry)) (now (mark2 .entry)) (now (cells .entry))
+        → Links 0 nodes1 mark1 (now (next1 .entry)) → Links 0 nodes2 mark2 (now (next2 .entry))
+        → RightWhereUnmarked nodes1 nodes2 ss ts w mark1 mark2 (now (cells .entry))
         → AllRight nodes1 nodes2 ss ts w (now (cells .exit))) ⌝ }
 {
-    let mut next1 = [0usize; 160];
-    let mut next2 = [0usize; 160];
-    link(mark1, nodes1, &mut next1);
-    link(mark2, nodes2, &mut next2);
     let mut u = next1[0];
     while u < nodes1 {
         fill_row(
@@ -238,7 +235,7 @@ pub(crate) fn fill(
             rank2,
             nodes2,
             weight,
-            &next2,
+            next2,
             cells,
             u,
         );

@@ -5,10 +5,30 @@ use mathlib.Core.List.{[]}
 use native.Mathlib.Omega.{arith}
 use lib.ListN.{length, getD}
 use borrow.Author.Needs.{needs}
+use Rattle.trees.specs.Postorder.{postorder}
 use Rattle.agreement.specs.Sets.{common, insert}
+use Rattle.mast.proofs.SideLaws.{job-leaves, job-unmarked}
 use Rattle.mast.proofs.ChoiceLaws.{weighs-insert, weighs-back, insert-other, fits-is, tried-kept, tried-back}
 use Rattle.mast.proofs.greedy.try_label.Statement.{statement}
 use Rattle.mast.proofs.greedy.try_label.Tie as tie
+
+mul-leaf1 : tie.Need-mul-leaf1
+mul-leaf1 c = search needs
+
+element-copy-out-leaf1 : tie.Need-element-copy-out-leaf1
+element-copy-out-leaf1 c = search needs
+
+mul-leaf2 : tie.Need-mul-leaf2
+mul-leaf2 c = search needs
+
+element-copy-out-leaf2 : tie.Need-element-copy-out-leaf2
+element-copy-out-leaf2 c = search needs
+
+above-requires : tie.Need-above-requires
+above-requires c κs = search needs
+
+above-requires-2 : tie.Need-above-requires-2
+above-requires-2 c κs = search needs
 
 mul-weight : tie.Need-mul-weight
 mul-weight c = search needs
@@ -16,8 +36,8 @@ mul-weight c = search needs
 element-write-weight : tie.Need-element-write-weight
 element-write-weight c = search needs
 
-refill-requires : tie.Need-refill-requires
-refill-requires c κs = search needs
+weigh-requires : tie.Need-weigh-requires
+weigh-requires c κs = search needs
 
 add-counts : tie.Need-add-counts
 add-counts c = search needs
@@ -28,12 +48,16 @@ counts-requires c κs = search needs
 returns : tie.Need-returns
 returns c =
     λ s t F job new before.
-    let start = c .before .before .before .before .before in
+    let start = c .before .before .before .before .before .before .before .before .before .before .before .before .before in
     let r = start .args .r in
     let h : r < length (common s t) = omega (arith, job .order .count, start .pre .1 .1) in
     let x = getD (common s t) r [] in
+    let leaf = job-leaves s t _ _ _ _ _ job r (start .pre .1 .1) in
+    let one = c .before .before .before .before .before .before .before .before .before .above .ensures .1 (postorder s) x (leaf .0) in
+    let two = c .before .before .before .before .before .before .before .above2 .ensures .1 (postorder t) x (leaf .1) in
     let w = weighs-insert s t (job .first .valid .different) F _ r h (before .weighs) in
-    let more = c .before .before .refill .ensures s t F (insert x F) job (insert-other x F) w (before .filled) in
+    let right = job-unmarked s t _ _ _ _ _ job F (insert x F) r (start .pre .1 .1) (insert-other x F) _ _ _ (one .marked) (two .marked) (before .filled) in
+    let more = c .before .before .weigh .ensures s t _ _ _ (insert x F) _ _ job w (one .links) (two .links) right in
     let test = c .before .counts .ensures ∙ fits-is s t _ _ _ x F (before .count) (more .top-is) in
     tried-kept s t _ _ r F _ _ _ _ h before new (sym (c .if1 .taken) ∙ test) w (more .filled)
 
@@ -43,34 +67,45 @@ mul-weight-2 c = search needs
 element-write-weight-2 : tie.Need-element-write-weight-2
 element-write-weight-2 c = search needs
 
-refill-requires-2 : tie.Need-refill-requires-2
-refill-requires-2 c κs = search needs
+weigh-requires-2 : tie.Need-weigh-requires-2
+weigh-requires-2 c κs = search needs
 
 returns-2 : tie.Need-returns-2
 returns-2 c =
     λ s t F job new before.
-    let start = c .before .before .before .before .before .before .before .before in
+    let start = c .before .before .before .before .before .before .before .before .before .before .before .before .before .before .before .before .before .before in
     let r = start .args .r in
     let h : r < length (common s t) = omega (arith, job .order .count, start .pre .1 .1) in
     let x = getD (common s t) r [] in
+    let leaf = job-leaves s t _ _ _ _ _ job r (start .pre .1 .1) in
+    let one = c .before .before .before .before .before .before .before .before .before .before .before .before .before .before .above .ensures .1 (postorder s) x (leaf .0) in
+    let two = c .before .before .before .before .before .before .before .before .before .before .before .before .above2 .ensures .1 (postorder t) x (leaf .1) in
     let w = weighs-insert s t (job .first .valid .different) F _ r h (before .weighs) in
-    let more = c .before .before .before .before .before .refill .ensures s t F (insert x F) job (insert-other x F) w (before .filled) in
-    let test = c .before .before .before .before .counts .ensures ∙ fits-is s t _ _ _ x F (before .count) (more .top-is) in
+    let right = job-unmarked s t _ _ _ _ _ job F (insert x F) r (start .pre .1 .1) (insert-other x F) _ _ _ (one .marked) (two .marked) (before .filled) in
+    let more = c .before .before .before .before .before .before .before .weigh .ensures s t _ _ _ (insert x F) _ _ job w (one .links) (two .links) right in
+    let test = c .before .before .before .before .before .before .counts .ensures ∙ fits-is s t _ _ _ x F (before .count) (more .top-is) in
     let back = weighs-back s t (job .first .valid .different) F _ r h new w in
-    let again = c .refill2 .ensures s t (insert x F) F job (λ y k. sym (insert-other x F y k)) back (more .filled) in
-    tried-back s t _ _ r F _ _ _ _ h before (sym (c .before .before .before .if1 .left) ∙ test) back (again .filled)
+    let left = job-unmarked s t _ _ _ _ _ job (insert x F) F r (start .pre .1 .1) (λ y k. sym (insert-other x F y k)) _ _ _ (one .marked) (two .marked) (more .filled) in
+    let again = c .weigh2 .ensures s t _ _ _ F _ _ job back (one .links) (two .links) left in
+    tried-back s t _ _ r F _ _ _ _ h before (sym (c .before .before .before .before .before .if1 .left) ∙ test) back (again .filled)
 
 pub try-label-spec : {M : Type 1} → statement M
 try-label-spec =
     tie.close
     (tie.spec
+    mul-leaf1
+    element-copy-out-leaf1
+    mul-leaf2
+    element-copy-out-leaf2
+    above-requires
+    above-requires-2
     mul-weight
     element-write-weight
-    refill-requires
+    weigh-requires
     add-counts
     counts-requires
     returns
     mul-weight-2
     element-write-weight-2
-    refill-requires-2
+    weigh-requires-2
     returns-2)
