@@ -6,11 +6,11 @@ use mathlib.Core.Logic.{_⊎_, inl, inr, _↔_}
 use mathlib.Core.Option.{Option, some, none}
 use Rattle.trees.specs.Label.{Label, distinct}
 use Rattle.trees.specs.Tree.{Tree, leaf, node, leaves, same-leaf}
-use Rattle.trees.proofs.Bools.{bool-cases, clash}
+use Rattle.trees.proofs.Bools.{bool-cases, clash, refute}
 use Rattle.agreement.specs.Closer.{holds, closer, Agree, Common}
 use Rattle.agreement.specs.Restrict.{restrict}
 use Rattle.agreement.specs.SameKept.{SameKept, both-none, both-some}
-use Rattle.agreement.proofs.HoldsLaws.{refute, holds-self, holds-leaf}
+use Rattle.agreement.proofs.HoldsLaws.{holds-self, holds-leaf}
 use Rattle.agreement.proofs.Children.{Children, children, flip}
 use Rattle.agreement.proofs.PairInduction.{by-pairs}
 use Rattle.agreement.proofs.Divide.{Within, Empty, Fits, fits, fits-below, fits-into, within-both, divide}

@@ -2,7 +2,7 @@
 -- the first of the greatest length. Assumes nothing.
 use Prim.Native.Nat.{_≤_, _<_}
 use mathlib.Core.Path.{_≡_, refl, sym, _∙_, ap, subst, subst₂}
-use mathlib.Core.Bool.{Bool, true, false, cond, not, _&&_, _||_}
+use mathlib.Core.Bool.{Bool, true, false, cond, _&&_, _||_}
 use mathlib.Core.Logic.{_⊎_, inl, inr, ⊎-elim, ⊎-map, Ne·symm, _↔_}
 use mathlib.Core.Option.{Option, some, none}
 use mathlib.Core.List.{List, [], _∷_}
@@ -13,33 +13,16 @@ use lib.Dec.{ltb}
 use lib.ListN.{length}
 use borrow.Author.Tests.{ltb-true, ltb-false}
 use Rattle.trees.specs.Label.{Label, labelLess, isIn}
-use Rattle.trees.specs.Tree.{Tree, leaf, node}
-use Rattle.trees.proofs.Bools.{clash, and-left, and-right, and-intro}
+use Rattle.trees.specs.Tree.{Tree}
+use Rattle.trees.proofs.Bools.{clash, and-left, and-right, and-intro, refute, or-none-left, or-none-right}
 use Rattle.trees.proofs.LabelLaws.{less-trans, less-ne, less-total}
-use Rattle.agreement.specs.Closer.{holds, lca, closer, Agree}
+use Rattle.agreement.specs.Closer.{closer, Agree}
 use Rattle.agreement.specs.Sets.{increasing, setOf, allIn, First}
 use Rattle.agreement.specs.Answer.{differ, clashing, Three, orElse, clashWithTwo, clashWithOne, firstClash, agreeOn}
 use Rattle.agreement.specs.Answer.{allowed, longest, firstLongest}
 use Rattle.agreement.specs.Demand.{Before3, by-first, by-second, by-third, as-well, Clash}
-use Rattle.agreement.proofs.SetLaws.{in-nil, in-head, in-tail, in-cases, fails, Within, inc-head, inc-tail, inc-later, Ordered}
-
--- a closer pair is a pair: its two labels may be swapped
-
-and-swap : (a b : Bool) → (a && b) ≡ (b && a)
-and-swap true true = refl
-and-swap true false = refl
-and-swap false true = refl
-and-swap false false = refl
-
-lca-sym : (t : Tree) (a b : Label) → lca t a b ≡ lca t b a
-unfolding lca
-lca-sym (leaf x) a b = refl
-lca-sym (node p q) a b =
-    rw (and-swap (holds p a) (holds p b), and-swap (holds q a) (holds q b), lca-sym p a b, lca-sym q a b)
-
-pub closer-sym : (t : Tree) (a b c : Label) → closer t a b c ≡ closer t b a c
-unfolding closer
-closer-sym t a b c = ap (λ (u : Tree). not (holds u c)) (lca-sym t a b)
+use Rattle.agreement.proofs.CloserLaws.{closer-swap}
+use Rattle.agreement.proofs.SetLaws.{in-nil, in-head, in-tail, in-cases, Within, inc-head, inc-tail, inc-later, Ordered}
 
 -- the test of three labels
 
@@ -54,14 +37,6 @@ unfolding differ
 same-differ true true e = refl
 same-differ true false e = e
 same-differ false b e = sym e
-
-neither-left : (a b : Bool) → (a || b) ≡ false → a ≡ false
-neither-left true b h = h
-neither-left false b h = refl
-
-neither-right : (a b : Bool) → (a || b) ≡ false → b ≡ false
-neither-right true b h = clash refl h
-neither-right false b h = h
 
 -- the first of some threes, or none where there is none
 
@@ -111,9 +86,9 @@ module _ (s t : Tree) where
   pub alike : (a b c : Label) → clashing s t a b c ≡ false → Alike a b c
   unfolding clashing
   alike a b c h = (
-    differ-same (closer s a b c) (closer t a b c) (neither-left x (y || z) h),
-    differ-same (closer s a c b) (closer t a c b) (neither-left y z (neither-right x (y || z) h)),
-    differ-same (closer s b c a) (closer t b c a) (neither-right y z (neither-right x (y || z) h)),
+    differ-same (closer s a b c) (closer t a b c) (or-none-left x (y || z) h),
+    differ-same (closer s a c b) (closer t a c b) (or-none-left y z (or-none-right x (y || z) h)),
+    differ-same (closer s b c a) (closer t b c a) (or-none-right y z (or-none-right x (y || z) h)),
   )
     where
       x : Bool
@@ -230,7 +205,7 @@ module _ (s t : Tree) where
           → Alike x y z
       three x y z i j k l m =
           alike x y z
-          (fails (clashing s t x y z)
+          (refute (clashing s t x y z)
           (λ d. none′ x y z (record { inOne = i; inTwo = j; inThree = k; oneTwo = l; twoThree = m; differs = d })))
 
       pair : (x y : Label) → isIn x X ≡ true → isIn y X ≡ true → labelLess x y ≡ true → (x ≡ c → ⊥) → (y ≡ c → ⊥)
@@ -248,7 +223,7 @@ module _ (s t : Tree) where
       go : (labelLess a b ≡ true) ⊎ ((a ≡ b) ⊎ (labelLess b a ≡ true)) → closer s a b c ≡ closer t a b c
       go (inl l) = pair a b p q l ac bc
       go (inr (inl e)) = absurd (ab e)
-      go (inr (inr l)) = closer-sym s a b c ∙ pair b a q p l bc ac ∙ closer-sym t b a c
+      go (inr (inr l)) = closer-swap s a b c ∙ pair b a q p l bc ac ∙ closer-swap t b a c
 
   pub agree-no-clash : (X : Label → Bool) (K : List Label) → Agree s t X → ((x : Label) → isIn x K ≡ true → X x ≡ true)
       → (x y z : Label) → Clash s t K x y z → ⊥

@@ -7,10 +7,10 @@ use mathlib.Core.Logic.{_⊎_, ⊎-swap}
 use native.Mathlib.Omega.{arith}
 use Rattle.trees.specs.Label.{Label, distinct}
 use Rattle.trees.specs.Tree.{Tree, node, leaves}
-use Rattle.trees.proofs.Bools.{clash, and-intro}
+use Rattle.trees.proofs.Bools.{clash, and-intro, refute}
 use Rattle.agreement.specs.Closer.{holds, closer}
 use Rattle.agreement.specs.Weights.{weightIn}
-use Rattle.agreement.proofs.HoldsLaws.{refute, holds-left, holds-right, holds-cases, distinct-node}
+use Rattle.agreement.proofs.HoldsLaws.{holds-left, holds-right, holds-cases, distinct-node}
 use Rattle.agreement.proofs.KeepLaws.{weight-node}
 use Rattle.agreement.proofs.CloserLaws.{lca-left, lca-right, lca-top, closer-swap, closer-by-lca, closer-outside, closer-top}
 

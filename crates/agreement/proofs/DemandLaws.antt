@@ -8,10 +8,11 @@ use mathlib.Core.List.{List, [], _∷_}
 use mathlib.Core.List.{List·Memᴰ as Among}
 use native.Mathlib.Omega.{arith}
 use lib.ListN.{length, getD}
-use Rattle.trees.specs.Label.{Label, labelLess, isIn, distinct}
+use Rattle.trees.specs.Label.{Label, labelLess, distinct}
 use Rattle.trees.specs.Tree.{Tree, leaves}
 use Rattle.trees.proofs.Bools.{clash}
 use Rattle.trees.proofs.LabelLaws.{less-asym, less-ne, less-total}
+use Rattle.trees.proofs.ListLaws.{at-in}
 use Rattle.agreement.specs.Closer.{holds, Common}
 use Rattle.agreement.specs.Sets.{sorted, common, setOf, sublists, First}
 use Rattle.agreement.specs.Answer.{Answer, firstLacks, secondLacks, disagree, largest}
@@ -19,8 +20,8 @@ use Rattle.agreement.specs.Answer.{Three, firstClash, allowed, largestSe
 use Rattle.agreement.specs.Demand.{Allowed, IsAnswer, Before3, by-first, by-second, by-third, as-well, Clash, IsDisagreement}
 use Rattle.agreement.specs.Demand.{FirstLacking, IsFirstLacks, IsSecondLacks}
 use Rattle.agreement.specs.Outcome.{Outcome}
-use Rattle.agreement.proofs.SetLaws.{in-nil, in-head, in-tail, in-cases, Within, allIn-within, within-allIn, in-sorted}
-use Rattle.agreement.proofs.SetLaws.{sorted-inc, common-inc, in-common, common-in, sublist-in, sublist-of, sublists-ordered}
+use Rattle.agreement.proofs.SetLaws.{in-nil, in-cases, Within, allIn-within, within-allIn, in-sorted, sorted-inc, common-inc}
+use Rattle.agreement.proofs.SetLaws.{in-common, common-in, sublist-in, sublist-of, sublists-ordered}
 use Rattle.agreement.proofs.AnswerLaws.{FirstThree, first-map, clash-within, clash-found, no-clash-agree, agree-no-clash}
 use Rattle.agreement.proofs.AnswerLaws.{agreeOn-agree, agree-agreeOn, allowed-in, in-allowed, allowed-ordered, first-longest}
 
@@ -67,11 +68,6 @@ lacking-from s t (x ∷ K) n = go (holds s x) refl (holds t x) refl (lacking s t
     )
     go true p true q (some (disagree a b c)) ih = ih
     go true p true q (some (largest X)) ih = ih
-
-in-getD : (K : List Label) (n : ℕ) → n < length K → isIn (getD K n []) K ≡ true
-in-getD [] n l = absurd (omega arith)
-in-getD (x ∷ K) zero l = in-head x K
-in-getD (x ∷ K) (suc n) l = in-tail (getD K n []) x K (in-getD K n (omega arith))
 
 -- laws that name no tree
 
@@ -143,7 +139,7 @@ module _ (s t : Tree) (K : List Label) where
       ⊎-elim (λ (k : holds s (getD K n []) ≡ false). clash (h .0) k) (λ (k : holds t (getD K n []) ≡ false). clash (h .1) k) (p .1)
 
   lacks-common {ℓ} : {G : Type ℓ} (n : ℕ) → Lacks n → Common s t (setOf K) → G
-  lacks-common n p c = lacks-held n p (c (getD K n []) (in-getD K n (p .0 .inList)))
+  lacks-common n p c = lacks-held n p (c (getD K n []) (at-in K n (p .0 .inList)))
 
   lacks-unique : (m n : ℕ) → Lacks m → Lacks n → m ≡ n
   lacks-unique m n p q =

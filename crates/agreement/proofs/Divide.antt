@@ -4,9 +4,9 @@ use mathlib.Core.Bool.{Bool, true, false, _&&_}
 use mathlib.Core.Logic.{_⊎_, inl, inr}
 use Rattle.trees.specs.Label.{Label}
 use Rattle.trees.specs.Tree.{Tree}
-use Rattle.trees.proofs.Bools.{clash, and-left, and-right, and-intro}
+use Rattle.trees.proofs.Bools.{clash, and-left, and-right, and-intro, refute}
 use Rattle.agreement.specs.Closer.{holds, closer, Agree, Common}
-use Rattle.agreement.proofs.HoldsLaws.{refute, Found, search-tree, held-ne}
+use Rattle.agreement.proofs.HoldsLaws.{Found, search-tree, held-ne}
 use Rattle.agreement.proofs.Children.{Children, not-one, closer-apart}
 
 -- what the set has of s lies in t too

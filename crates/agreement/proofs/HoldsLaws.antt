@@ -1,50 +1,13 @@
--- What a list holds when lists are joined, what a tree holds, and the search of a tree for a label. Assumes nothing.
+-- What a tree holds, and the search of a tree for a label. Assumes nothing.
 use mathlib.Core.Path.{_≡_, refl, sym, _∙_, ap}
-use mathlib.Core.Bool.{Bool, true, false, cond, _||_, or-assoc}
+use mathlib.Core.Bool.{Bool, true, false, _||_}
 use mathlib.Core.Logic.{_⊎_, inl, inr}
-use mathlib.Core.List.{List, [], _∷_, _++_}
-use Rattle.trees.specs.Label.{Label, sameLabel, isIn, distinct}
+use mathlib.Core.List.{List}
+use Rattle.trees.specs.Label.{Label, isIn, distinct}
 use Rattle.trees.specs.Tree.{Tree, leaf, node, leaves}
 use Rattle.trees.proofs.Bools.{bool-cases, clash, or-cases, or-inl, or-inr}
-use Rattle.trees.proofs.LabelLaws.{same-refl, same-eq}
+use Rattle.trees.proofs.ListLaws.{in-one, in-one-eq, in-append, distinct-left, distinct-right, distinct-apart}
 use Rattle.agreement.specs.Closer.{holds}
-
--- a test that cannot succeed fails
-pub refute : (b : Bool) → (b ≡ true → ⊥) → b ≡ false
-refute true h = absurd (h refl)
-refute false h = refl
-
--- a test that fails, taken apart
-pub or-left-false : (a b : Bool) → (a || b) ≡ false → a ≡ false
-or-left-false true b h = h
-or-left-false false b h = refl
-
-pub or-right-false : (a b : Bool) → (a || b) ≡ false → b ≡ false
-or-right-false true b h = clash refl h
-or-right-false false b h = h
-
--- lists
-
-pub isIn-append : (x : Label) (xs ys : List Label) → isIn x (xs ++ ys) ≡ (isIn x xs || isIn x ys)
-unfolding isIn
-isIn-append x [] ys = refl
-isIn-append x (y ∷ xs) ys = rw (isIn-append x xs ys) (sym (or-assoc (sameLabel x y) (isIn x xs) (isIn x ys)))
-
-guard-false : (b c : Bool) → cond b false c ≡ true → (b ≡ false) × (c ≡ true)
-guard-false true c h = clash h refl
-guard-false false c h = (refl, h)
-
-guard-intro : (b c : Bool) → b ≡ false → c ≡ true → cond b false c ≡ true
-guard-intro true c p q = clash refl p
-guard-intro false c p q = q
-
-pub distinct-cons : (x : Label) (xs : List Label) → distinct (x ∷ xs) ≡ true → (isIn x xs ≡ false) × (distinct xs ≡ true)
-unfolding distinct
-distinct-cons x xs h = guard-false (isIn x xs) (distinct xs) h
-
-pub cons-distinct : (x : Label) (xs : List Label) → isIn x xs ≡ false → distinct xs ≡ true → distinct (x ∷ xs) ≡ true
-unfolding distinct
-cons-distinct x xs p q = guard-intro (isIn x xs) (distinct xs) p q
 
 -- joined lists have distinct labels: so has each, and no label stands in both
 pub record Joined (xs ys : List Label) : Type 0 where
@@ -52,46 +15,17 @@ pub record Joined (xs ys : List Label) : Type 0 where
   pub two : distinct ys ≡ true
   pub apart : (x : Label) → isIn x xs ≡ true → isIn x ys ≡ false
 
-joined-cons : (z : Label) (xs ys : List Label) → isIn z (xs ++ ys) ≡ false → Joined xs ys → Joined (z ∷ xs) ys
-unfolding isIn
-joined-cons z xs ys h j =
-    record {
-      one = cons-distinct z xs (or-left-false (isIn z xs) (isIn z ys) k) (j .one);
-      two = j .two;
-      apart = λ x m. go x (or-cases (sameLabel x z) (isIn x xs) m);
-    }
-  where
-    k : (isIn z xs || isIn z ys) ≡ false
-    k = sym (isIn-append z xs ys) ∙ h
-
-    go : (x : Label) → (sameLabel x z ≡ true) ⊎ (isIn x xs ≡ true) → isIn x ys ≡ false
-    go x (inl e) = rw (same-eq x z e) (or-right-false (isIn z xs) (isIn z ys) k)
-    go x (inr m) = j .apart x m
-
-pub distinct-append : (xs ys : List Label) → distinct (xs ++ ys) ≡ true → Joined xs ys
-unfolding distinct isIn
-distinct-append [] ys h = record { one = refl; two = h; apart = λ x m. clash m refl }
-distinct-append (z ∷ xs) ys h =
-    let d : (isIn z (xs ++ ys) ≡ false) × (distinct (xs ++ ys) ≡ true) = distinct-cons z (xs ++ ys) h in
-    joined-cons z xs ys (d .0) (distinct-append xs ys (d .1))
-
--- trees
-
 pub holds-self : (x : Label) → holds (leaf x) x ≡ true
-unfolding holds leaves isIn
-holds-self x = or-inl (sameLabel x x) false (same-refl x)
+unfolding holds leaves
+holds-self x = in-one x
 
 pub holds-leaf : (x y : Label) → holds (leaf x) y ≡ true → y ≡ x
-unfolding holds leaves isIn
-holds-leaf x y h = go (or-cases (sameLabel y x) false h)
-  where
-    go : (sameLabel y x ≡ true) ⊎ (false ≡ true) → y ≡ x
-    go (inl e) = same-eq y x e
-    go (inr e) = clash e refl
+unfolding holds leaves
+holds-leaf x y h = in-one-eq y x h
 
 pub holds-node : (p q : Tree) (x : Label) → holds (node p q) x ≡ (holds p x || holds q x)
 unfolding holds leaves
-holds-node p q x = isIn-append x (leaves p) (leaves q)
+holds-node p q x = in-append x (leaves p) (leaves q)
 
 pub holds-left : (p q : Tree) (x : Label) → holds p x ≡ true → holds (node p q) x ≡ true
 holds-left p q x h = holds-node p q x ∙ or-inl (holds p x) (holds q x) h
@@ -108,7 +42,11 @@ distinct-leaf x = refl
 
 pub distinct-node : (p q : Tree) → distinct (leaves (node p q)) ≡ true → Joined (leaves p) (leaves q)
 unfolding leaves
-distinct-node p q h = distinct-append (leaves p) (leaves q) h
+distinct-node p q h = record {
+  one = distinct-left (leaves p) (leaves q) h;
+  two = distinct-right (leaves p) (leaves q) h;
+  apart = distinct-apart (leaves p) (leaves q) h;
+}
 
 -- a label that a tree holds is another than one that it does not hold
 pub held-ne : (t : Tree) (a b : Label) → holds t a ≡ true → holds t b ≡ false → a ≡ b → ⊥

@@ -9,10 +9,10 @@ use Rattle.trees.specs.Label.{Label, sameLabel, isIn, distinct}
 use Rattle.trees.specs.Tree.{Tree, node, leaves}
 use Rattle.trees.proofs.Bools.{bool-cases, clash, or-inl, or-inr}
 use Rattle.trees.proofs.LabelLaws.{same-refl, eq-same, same-ne, ne-same, same-cases}
+use Rattle.trees.proofs.ListLaws.{distinct-head, distinct-tail, distinct-cons}
 use Rattle.agreement.specs.Closer.{holds}
 use Rattle.agreement.specs.Sets.{keep}
 use Rattle.agreement.specs.Weights.{weigh, weightIn}
-use Rattle.agreement.proofs.HoldsLaws.{distinct-cons, cons-distinct}
 
 pub keep-append : (X : Label → Bool) (xs ys : List Label) → keep X (xs ++ ys) ≡ keep X xs ++ keep X ys
 unfolding keep
@@ -44,14 +44,13 @@ isIn-keep X y (x ∷ xs) = go (same-cases y x) (bool-cases (X x)) (isIn-keep X y
     go (inr n) (inr k) ih = rw (k, n) ih
 
 pub distinct-keep : (X : Label → Bool) (xs : List Label) → distinct xs ≡ true → distinct (keep X xs) ≡ true
-unfolding keep distinct
-distinct-keep X [] h = refl
-distinct-keep X (x ∷ xs) h = go (distinct-cons x xs h) (bool-cases (X x)) (distinct-keep X xs)
+unfolding keep
+distinct-keep X [] h = h
+distinct-keep X (x ∷ xs) h = go (bool-cases (X x)) (distinct-keep X xs (distinct-tail x xs h))
   where
-    go : (isIn x xs ≡ false) × (distinct xs ≡ true) → (X x ≡ true) ⊎ (X x ≡ false) → (distinct xs ≡ true → distinct (keep X xs) ≡ true)
-        → distinct (cond (X x) (x ∷ keep X xs) (keep X xs)) ≡ true
-    go d (inl k) ih = rw k (cons-distinct x (keep X xs) (isIn-keep X x xs ∙ (rw (k, d .0) refl)) (ih (d .1)))
-    go d (inr k) ih = rw k (ih (d .1))
+    go : (X x ≡ true) ⊎ (X x ≡ false) → distinct (keep X xs) ≡ true → distinct (cond (X x) (x ∷ keep X xs) (keep X xs)) ≡ true
+    go (inl k) ih = rw k (distinct-cons x (keep X xs) (isIn-keep X x xs ∙ (rw (k, distinct-head x xs h) refl)) ih)
+    go (inr k) ih = rw k ih
 
 pub weigh-append : (w : Label → ℕ) (xs ys : List Label) → weigh w (xs ++ ys) ≡ weigh w xs + weigh w ys
 unfolding weigh
@@ -88,15 +87,14 @@ pub weigh-only : (w : Label → ℕ) (y : Label) (xs : List Label) → distinct 
     → weigh w (keep (only y) xs) ≡ cond (isIn y xs) (w y) 0
 unfolding keep weigh isIn
 weigh-only w y [] d = refl
-weigh-only w y (x ∷ xs) d = go (same-cases y x) (distinct-cons x xs d) (weigh-only w y xs)
+weigh-only w y (x ∷ xs) d = go (same-cases y x) (weigh-only w y xs (distinct-tail x xs d))
   where
-    go : (y ≡ x) ⊎ (sameLabel y x ≡ false) → (isIn x xs ≡ false) × (distinct xs ≡ true)
-        → (distinct xs ≡ true → weigh w (keep (only y) xs) ≡ cond (isIn y xs) (w y) 0)
+    go : (y ≡ x) ⊎ (sameLabel y x ≡ false) → weigh w (keep (only y) xs) ≡ cond (isIn y xs) (w y) 0
         → weigh w (cond (sameLabel x y) (x ∷ keep (only y) xs) (keep (only y) xs)) ≡ cond (sameLabel y x || isIn y xs) (w y) 0
-    go (inl e) k ih =
-        let z : weigh w (keep (only y) xs) ≡ 0 = ih (k .1) ∙ (rw (ap (λ v. isIn v xs) e ∙ k .0) refl) in
+    go (inl e) ih =
+        let z : weigh w (keep (only y) xs) ≡ 0 = ih ∙ (rw (ap (λ v. isIn v xs) e ∙ distinct-head x xs d) refl) in
         rw (eq-same x y (sym e), eq-same y x e) (omega (arith, ap w e))
-    go (inr n) k ih = rw (ne-same x y (λ e. same-ne y x n (sym e)), n) (ih (k .1))
+    go (inr n) ih = rw (ne-same x y (λ e. same-ne y x n (sym e)), n) ih
 
 -- over the leaves of a tree
 

@@ -7,11 +7,11 @@ use mathlib.Core.Logic.{_⊎_, inl, inr, ⊎-swap}
 use native.Mathlib.Omega.{arith, max-cases}
 use Rattle.trees.specs.Label.{Label, distinct}
 use Rattle.trees.specs.Tree.{Tree, leaf, node, leaves}
-use Rattle.trees.proofs.Bools.{bool-cases, clash, or-cases}
+use Rattle.trees.proofs.Bools.{bool-cases, clash, or-cases, refute}
 use Rattle.trees.proofs.LabelLaws.{same-eq, eq-same}
 use Rattle.agreement.specs.Closer.{holds, closer, Agree, Common}
 use Rattle.agreement.specs.Weights.{weightIn, best}
-use Rattle.agreement.proofs.HoldsLaws.{refute, holds-self, holds-leaf, distinct-leaf}
+use Rattle.agreement.proofs.HoldsLaws.{holds-self, holds-leaf, distinct-leaf}
 use Rattle.agreement.proofs.KeepLaws.{only, weight-cong, weight-none, weight-only, weight-mono}
 use Rattle.agreement.proofs.Children.{Children, flip, closer-apart}
 use Rattle.agreement.proofs.PairInduction.{by-pairs}

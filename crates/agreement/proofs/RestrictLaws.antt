@@ -29,12 +29,12 @@ lcaKept (some r) a b = some (lca r a b)
 
 -- one child left empty
 
-join-none : (o : Option Tree) → joinKept o none ≡ o
+pub join-none : (o : Option Tree) → joinKept o none ≡ o
 unfolding joinKept
 join-none none = refl
 join-none (some p) = refl
 
-none-join : (o : Option Tree) → joinKept none o ≡ o
+pub none-join : (o : Option Tree) → joinKept none o ≡ o
 unfolding joinKept
 none-join none = refl
 none-join (some p) = refl

@@ -1,7 +1,7 @@
 -- Laws of sets of labels as increasing lists: members, order, sorting, common leaves, sublists. Assumes nothing.
 use Prim.Native.Nat.{suc, _≤_}
 use mathlib.Core.Path.{_≡_, refl, sym, _∙_, ap, ap₂, fun-ext}
-use mathlib.Core.Bool.{Bool, true, false, cond, _||_}
+use mathlib.Core.Bool.{Bool, true, false, cond, _&&_, _||_}
 use mathlib.Core.Logic.{_⊎_, inl, inr, ⊎-elim, ⊎-map}
 use mathlib.Core.List.{List, [], _∷_, _++_, map}
 use mathlib.Core.List.{List·Memᴰ as Among, List·Memᴰ·head as among-head, List·Memᴰ·tail as among-tail, Memᴰ·append-left, Memᴰ·append-right}
@@ -10,20 +10,18 @@ use native.Mathlib.Omega.{arith}
 use lib.ListN.{length}
 use Rattle.trees.specs.Label.{Label, sameLabel, labelLess, isIn, distinct}
 use Rattle.trees.specs.Tree.{Tree, leaves}
-use Rattle.trees.proofs.Bools.{clash, or-cases, or-inl, or-inr}
+use Rattle.trees.proofs.Bools.{clash, or-cases, or-inl, or-inr, refute, and-left, and-right, and-intro}
 use Rattle.trees.proofs.LabelLaws.{same-refl, same-eq, same-cases, same-ne, ne-same, less-irrefl, less-trans, less-asym, less-ne, not-less}
+use Rattle.trees.proofs.ListLaws.{distinct-head, distinct-tail, distinct-cons}
 use Rattle.agreement.specs.Closer.{holds, Common}
 use Rattle.agreement.specs.Sets.{below, increasing, insert, sorted, keep, common, setOf, allIn, First, sublists}
+use Rattle.agreement.proofs.KeepLaws.{isIn-keep, distinct-keep}
 
 -- two tests are equal if each passes where the other does
 pub test-ext : (a b : Bool) → (a ≡ true → b ≡ true) → (b ≡ true → a ≡ true) → a ≡ b
 test-ext true b f g = sym (f refl)
 test-ext false true f g = g refl
 test-ext false false f g = refl
-
-pub fails : (b : Bool) → (b ≡ true → ⊥) → b ≡ false
-fails true h = absurd (h refl)
-fails false h = refl
 
 or-swap : (a b c : Bool) → (a || (b || c)) ≡ (b || (a || c))
 or-swap true true c = refl
@@ -83,28 +81,6 @@ within-allIn [] X f = refl
 within-allIn (k ∷ K) X f =
     both-intro (isIn k X) (allIn K X) (f k (in-head k K)) (within-allIn K X (λ x m. f x (in-tail x k K m)))
 
--- lists in which no label stands twice
-
-pub distinct-head : (x : Label) (xs : List Label) → distinct (x ∷ xs) ≡ true → isIn x xs ≡ false
-unfolding distinct
-distinct-head x xs h = go (isIn x xs) h
-  where
-    go : (b : Bool) → cond b false (distinct xs) ≡ true → b ≡ false
-    go true k = sym k
-    go false k = refl
-
-pub distinct-tail : (x : Label) (xs : List Label) → distinct (x ∷ xs) ≡ true → distinct xs ≡ true
-unfolding distinct
-distinct-tail x xs h = go (isIn x xs) h
-  where
-    go : (b : Bool) → cond b false (distinct xs) ≡ true → distinct xs ≡ true
-    go true k = clash k refl
-    go false k = k
-
-pub distinct-cons : (x : Label) (xs : List Label) → isIn x xs ≡ false → distinct xs ≡ true → distinct (x ∷ xs) ≡ true
-unfolding distinct
-distinct-cons x xs n h = rw n h
-
 -- increasing lists
 
 below-less : (x : Label) (ys : List Label) → below x ys ≡ true → (z : Label) → isIn z ys ≡ true → labelLess x z ≡ true
@@ -138,7 +114,7 @@ unfolding increasing
 inc-cons x xs f h = both-intro (below x xs) (increasing xs) (less-below x xs f) h
 
 pub inc-new : (x : Label) (xs : List Label) → increasing (x ∷ xs) ≡ true → isIn x xs ≡ false
-inc-new x xs h = fails (isIn x xs) (λ m. clash (inc-head x xs h x m) (less-irrefl x))
+inc-new x xs h = refute (isIn x xs) (λ m. clash (inc-head x xs h x m) (less-irrefl x))
 
 pub inc-distinct : (xs : List Label) → increasing xs ≡ true → distinct xs ≡ true
 unfolding distinct
@@ -147,7 +123,7 @@ inc-distinct (x ∷ xs) h = distinct-cons x xs (inc-new x xs h) (inc-distinct xs
 
 -- no member is less than the first
 pub inc-least : (x : Label) (xs : List Label) → increasing (x ∷ xs) ≡ true → (z : Label) → labelLess z x ≡ true → isIn z (x ∷ xs) ≡ false
-inc-least x xs h z l = fails (isIn z (x ∷ xs)) (λ m. ⊎-elim (less-ne z x l) later (in-cases z x xs m))
+inc-least x xs h z l = refute (isIn z (x ∷ xs)) (λ m. ⊎-elim (less-ne z x l) later (in-cases z x xs m))
   where
     later : isIn z xs ≡ true → ⊥
     later m = clash (inc-head x xs h z m) (less-asym z x l)
@@ -214,7 +190,7 @@ insert-inc x (y ∷ ys) h n = go (labelLess x y) refl (insert-inc x ys (inc-tail
     other e = clash (rw e (in-head y ys)) n
 
     fresh : isIn x ys ≡ false
-    fresh = fails (isIn x ys) (λ m. clash (in-tail x y ys m) n)
+    fresh = refute (isIn x ys) (λ m. clash (in-tail x y ys m) n)
 
     before : labelLess x y ≡ true → (z : Label) → (z ≡ y) ⊎ (isIn z ys ≡ true) → labelLess x z ≡ true
     before l z (inl e) = rw e l
@@ -249,32 +225,12 @@ sorted-inc (x ∷ xs) h =
 -- the part of a list that is in a set
 
 pub in-keep : (X : Label → Bool) (z : Label) (ys : List Label) → isIn z (keep X ys) ≡ true → (isIn z ys ≡ true) × (X z ≡ true)
-unfolding keep
-in-keep X z [] m = in-nil z m
-in-keep X z (y ∷ ys) m = go (X y) refl (in-keep X z ys) m
-  where
-    later : (isIn z ys ≡ true) × (X z ≡ true) → (isIn z (y ∷ ys) ≡ true) × (X z ≡ true)
-    later p = (in-tail z y ys (p .0), p .1)
-
-    here : X y ≡ true → z ≡ y → (isIn z (y ∷ ys) ≡ true) × (X z ≡ true)
-    here h e = (rw e (in-head y ys), rw e h)
-
-    go : (b : Bool) → X y ≡ b → (isIn z (keep X ys) ≡ true → (isIn z ys ≡ true) × (X z ≡ true))
-        → isIn z (cond b (y ∷ keep X ys) (keep X ys)) ≡ true → (isIn z (y ∷ ys) ≡ true) × (X z ≡ true)
-    go true h ih k = ⊎-elim (here h) (λ (l : isIn z (keep X ys) ≡ true). later (ih l)) (in-cases z y (keep X ys) k)
-    go false h ih k = later (ih k)
+in-keep X z ys m =
+    let k : (X z && isIn z ys) ≡ true = sym (isIn-keep X z ys) ∙ m in
+    (and-right (X z) (isIn z ys) k, and-left (X z) (isIn z ys) k)
 
 pub keep-in : (X : Label → Bool) (z : Label) (ys : List Label) → isIn z ys ≡ true → X z ≡ true → isIn z (keep X ys) ≡ true
-unfolding keep
-keep-in X z [] m h = in-nil z m
-keep-in X z (y ∷ ys) m h = go (X y) refl (in-cases z y ys m) (λ k. keep-in X z ys k h)
-  where
-    go : (b : Bool) → X y ≡ b → (z ≡ y) ⊎ (isIn z ys ≡ true) → (isIn z ys ≡ true → isIn z (keep X ys) ≡ true)
-        → isIn z (cond b (y ∷ keep X ys) (keep X ys)) ≡ true
-    go true e (inl d) ih = rw d (in-head y (keep X ys))
-    go true e (inr k) ih = in-tail z y (keep X ys) (ih k)
-    go false e (inl d) ih = clash (rw d at h) e
-    go false e (inr k) ih = ih k
+keep-in X z ys m h = isIn-keep X z ys ∙ and-intro (X z) (isIn z ys) h m
 
 pub keep-inc : (X : Label → Bool) (ys : List Label) → increasing ys ≡ true → increasing (keep X ys) ≡ true
 unfolding keep
@@ -285,24 +241,12 @@ keep-inc X (y ∷ ys) h = go (X y) (keep-inc X ys (inc-tail y ys h))
     go true ih = inc-cons y (keep X ys) (λ z m. inc-head y ys h z (in-keep X z ys m .0)) ih
     go false ih = ih
 
-pub keep-distinct : (X : Label → Bool) (ys : List Label) → distinct ys ≡ true → distinct (keep X ys) ≡ true
-unfolding keep
-keep-distinct X [] h = h
-keep-distinct X (y ∷ ys) h = go (X y) (keep-distinct X ys (distinct-tail y ys h))
-  where
-    fresh : isIn y (keep X ys) ≡ false
-    fresh = fails (isIn y (keep X ys)) (λ m. clash (in-keep X y ys m .0) (distinct-head y ys h))
-
-    go : (b : Bool) → distinct (keep X ys) ≡ true → distinct (cond b (y ∷ keep X ys) (keep X ys)) ≡ true
-    go true ih = distinct-cons y (keep X ys) fresh ih
-    go false ih = ih
-
 -- the leaves common to both trees
 
 -- in label order, if the labels of the first tree are all different
 pub common-inc : (s t : Tree) → distinct (leaves s) ≡ true → increasing (common s t) ≡ true
 unfolding common
-common-inc s t h = sorted-inc (keep (holds t) (leaves s)) (keep-distinct (holds t) (leaves s) h)
+common-inc s t h = sorted-inc (keep (holds t) (leaves s)) (distinct-keep (holds t) (leaves s) h)
 
 -- exactly the labels that both trees hold
 pub in-common : (s t : Tree) (x : Label) → isIn x (common s t) ≡ true → (holds s x ≡ true) × (holds t x ≡ true)
@@ -341,7 +285,7 @@ pub count-held : (Y L : List Label) → increasing Y ≡ true → distinct L ≡
 count-held Y L h d f =
     sym (length-sorted (keep (setOf Y) L))
     ∙ ap length
-    (inc-ext (sorted (keep (setOf Y) L)) Y (sorted-inc (keep (setOf Y) L) (keep-distinct (setOf Y) L d)) h
+    (inc-ext (sorted (keep (setOf Y) L)) Y (sorted-inc (keep (setOf Y) L) (distinct-keep (setOf Y) L d)) h
     (λ x m. in-keep (setOf Y) x L (sym (in-sorted x (keep (setOf Y) L)) ∙ m) .1)
     (λ x m. in-sorted x (keep (setOf Y) L) ∙ keep-in (setOf Y) x L (f x m) m))
 
@@ -452,12 +396,12 @@ first-with : (c : Label) (C X Y : List Label) → increasing (c ∷ C) ≡ true 
 first-with c C X Y h f g = record {
   at = c;
   held = in-head c X;
-  lacked = fails (isIn c Y) (λ m. clash (g c m) (inc-new c C h));
+  lacked = refute (isIn c Y) (λ m. clash (g c m) (inc-new c C h));
   smallest = λ z l. none z l (c ∷ X) (within-cons c X C f) ∙ sym (none z l Y (λ x m. in-tail x c C (g x m)));
 }
   where
     none : (z : Label) → labelLess z c ≡ true → (Z : List Label) → Within Z (c ∷ C) → isIn z Z ≡ false
-    none z l Z w = fails (isIn z Z) (λ m. clash (w z m) (inc-least c C h z l))
+    none z l Z w = refute (isIn z Z) (λ m. clash (w z m) (inc-least c C h z l))
 
 -- sublists stand in the order in which "first" compares sets
 pub sublists-ordered : (C : List Label) → increasing C ≡ true → Ordered (sublists C)

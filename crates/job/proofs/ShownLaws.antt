@@ -1,7 +1,7 @@
 -- Labels shown as parts of a text: those of a tree, of a list and of a job. Assumes nothing.
 use Prim.Native.Nat.{ℕ, zero, suc, _+_, _-_, _≤_, _<_, min}
 use mathlib.Core.Path.{_≡_, refl, sym, _∙_, ap, ap₂}
-use mathlib.Core.Bool.{Bool, true, false, cond, _&&_}
+use mathlib.Core.Bool.{true, false, cond, _&&_}
 use mathlib.Core.Logic.{_⊎_, inl, inr, ⊎-elim}
 use mathlib.Core.List.{List, [], _∷_, _++_, map, append-assoc}
 use native.Mathlib.Nat.{not-suc-le-zero, le-of-suc-le-suc}
@@ -16,7 +16,8 @@ use Rattle.trees.specs.Tree.{Tree, leaf, node}
 use Rattle.trees.specs.Text.{written, textOf}
 use Rattle.trees.specs.Stored.{partOf}
 use Rattle.trees.proofs.Bools.{bool-cases, clash, and-left, and-right, or-cases}
-use Rattle.trees.proofs.LabelLaws.{same-eq, same-refl}
+use Rattle.trees.proofs.LabelLaws.{same-eq}
+use Rattle.trees.proofs.ListLaws.{at-in}
 use Rattle.lists.specs.ReadList.{joined, padded}
 use Rattle.agreement.specs.Closer.{holds}
 use Rattle.agreement.specs.Places.{placeIn, placeOfLabel}
@@ -218,19 +219,13 @@ padded-at : (f : Label → ℕ) (X : List Label) (n : ℕ) → n < length X → 
 padded-at f X n h =
     List·getD-append (map f X) (replicate (80 - length (map f X)) 0) 0 n (omega (arith, length-map X f)) ∙ map-at f X n h
 
-in-at : (X : List Label) (n : ℕ) → n < length X → isIn (getD X n []) X ≡ true
-unfolding isIn
-in-at [] n h = absurd (not-suc-le-zero h)
-in-at (x ∷ X) zero h = rw (same-refl x) refl
-in-at (x ∷ X) (suc n) h = mathlib.Core.Path.subst (λ (b : Bool). b ≡ true) refl (Rattle.trees.proofs.Bools.or-inr (sameLabel (getD X n []) x) (isIn (getD X n []) X) (in-at X n (le-of-suc-le-suc h)))
-
 module _ (text : List ℕ) (place : Label → ℕ) (X : List Label)
     (all : (x : Label) → isIn x X ≡ true → Shown text (place x) x × (length x ≤ 16)) where
   labels-to : (n : ℕ) → n ≤ length X → labelsIn text (padded (map place X)) (padded (map (length {A = ℕ}) X)) n ≡ take n X
   unfolding labelsIn
   labels-to zero h = refl
   labels-to (suc n) h =
-      let k = all (getD X n []) (in-at X n h) in
+      let k = all (getD X n []) (at-in X n h) in
       ap₂ (λ (l : List Label) (y : Label). l ++ (y ∷ [])) (labels-to n (omega arith))
       (ap₂ (λ (i j : ℕ). labelIn text i j) (padded-at place X n h) (padded-at (length {A = ℕ}) X n h)
       ∙ shown-label text (place (getD X n [])) (getD X n []) (k .0) (k .1))

@@ -10,32 +10,14 @@ use borrow.Author.Tests.{ne-eqb}
 use Rattle.trees.specs.declared.Reason.the-variants.{LabelTooLong, TooMany, Repeated}
 use Rattle.trees.specs.Bytes.{isLabelByte, kindOf, commaByte}
 use Rattle.trees.specs.Label.{Label, labelLimit, isIn, goodLabels, distinct, allLabelBytes}
-use Rattle.trees.specs.Reading.{Reading, good, refused, labelRun, repeats}
-use Rattle.lists.specs.ReadList.{Phase, labelDue, inLabel, Step, next, stop, stepDue, stepLabel, step, readFrom, readList}
-use Rattle.lists.specs.ReadList.{joined, listLimit}
+use Rattle.trees.specs.Reading.{good, labelRun, repeats}
+use Rattle.lists.specs.ReadList.{labelDue, inLabel, next, stop, stepDue, stepLabel, step, readFrom, readList, joined, listLimit}
 use Rattle.trees.proofs.Bools.{and-left, and-right}
-use Rattle.trees.proofs.ReadingLaws.{kind-label, comma-plain, run-none, run-end, run-append, good-head, good-parts}
-use Rattle.trees.proofs.ReadingLaws.{distinct-fresh, fresh-repeats}
+use Rattle.trees.proofs.ListLaws.{good-head, good-parts, distinct-fresh}
+use Rattle.trees.proofs.ReadingLaws.{kind-label, comma-plain, run-none, run-end, run-append, fresh-repeats}
 use Rattle.lists.proofs.AcceptsRaw.{due}
 use Rattle.lists.proofs.ListFaultsWalk.{Result, reading}
-
--- what a step leads to
-follow : Step → ℕ → List ℕ → Reading (List Label)
-follow (next p seen) n rest = readFrom p seen (n + 1) rest
-follow (stop r) n rest = refused r n
-
-read-cons : (p : Phase) (seen : List Label) (n b : ℕ) (rest : List ℕ) → readFrom p seen n (b ∷ rest) ≡ follow (step p seen b rest) n rest
-unfolding readFrom follow
-read-cons p seen n b rest = go (step p seen b rest)
-  where
-    go : (z : Step) → elim z [ next p′ seen′ ↦ readFrom p′ seen′ (n + 1) rest | stop r ↦ refused r n ] ≡ follow z n rest
-    go (next p′ seen′) = refl
-    go (stop r) = refl
-
-read-next : (p : Phase) (seen : List Label) (n b : ℕ) (rest : List ℕ) (p′ : Phase) (seen′ : List Label) → step p seen b rest ≡ next p′ seen′
-    → readFrom p seen n (b ∷ rest) ≡ readFrom p′ seen′ (n + 1) rest
-unfolding follow
-read-next p seen n b rest p′ seen′ e = read-cons p seen n b rest ∙ ap (λ (z : Step). follow z n rest) e
+use Rattle.lists.proofs.ListSimulation.{read-next}
 
 -- the bytes of a label that is not too long
 read-label : (seen : List Label) (n : ℕ) (y x rest : List ℕ) → allLabelBytes x ≡ true → length y + length x ≤ labelLimit

@@ -11,10 +11,11 @@ use Rattle.trees.specs.declared.Kind.the-variants.{Label as LabelByte, Open, Cl
 use Rattle.trees.specs.Bytes.{isLabelByte, kindOf, commaByte}
 use Rattle.trees.specs.Label.{Label, looseLabels, allLabelBytes}
 use Rattle.trees.specs.Faults.{Continues}
+use Rattle.trees.proofs.ListLaws.{loose-head, loose-cons, loose-none, loose-join}
 use Rattle.lists.specs.ReadList.{Phase, atStart, labelDue, inLabel, joined}
 use Rattle.lists.specs.ListGrammar.{ListText}
 use Rattle.trees.proofs.RawRuns.{Raw, on, halt, rawRun, raw-nil, raw-cons, raw-label, stopped}
-use Rattle.trees.proofs.ReadingLaws.{kind-label, loose-head, loose-cons, loose-none, loose-append}
+use Rattle.trees.proofs.ReadingLaws.{kind-label}
 
 unfoldable pub rawStep : Phase → ℕ → Kind → Raw Phase
 rawStep atStart b LabelByte = on (inLabel (b ∷ []))
@@ -108,7 +109,7 @@ joined-last (y ∷ z ∷ zs) x = ap (λ (q : List ℕ). y ++ (commaByte ∷ q)) 
 pub label-continues : (xs : List Label) (x : Label) → looseLabels xs ≡ true → 1 ≤ length x → allLabelBytes x ≡ true
     → Continues ListText (leadText xs ++ x)
 label-continues xs x h l k =
-    ([], (xs ++ (x ∷ []), loose-append xs (x ∷ []) h (loose-cons x [] l k loose-none), append-nil (leadText xs ++ x) ∙ sym (joined-last xs x)))
+    ([], (xs ++ (x ∷ []), loose-join xs (x ∷ []) h (loose-cons x [] l k loose-none), append-nil (leadText xs ++ x) ∙ sym (joined-last xs x)))
 
 pub due-continues : (xs : List Label) → looseLabels xs ≡ true → Continues ListText (leadText xs)
 unfolding allLabelBytes isLabelByte

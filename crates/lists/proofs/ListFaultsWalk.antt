@@ -21,9 +21,9 @@ use Rattle.lists.specs.ReadList.{Phase, atStart, labelDue, inLabel, Step
 use Rattle.lists.specs.ReadList.{readFrom, readList, joined, listLimit}
 use Rattle.lists.specs.ListGrammar.{ListText, LabelCrowd, ListFault}
 use Rattle.trees.proofs.Bools.{clash}
-use Rattle.trees.proofs.ReadingLaws.{KindView, is-label, is-comma, kind-view, comma-plain, run-end, bytes-append, bytes-one}
-use Rattle.trees.proofs.ReadingLaws.{good-parts, good-intro, good-more, good-loose, seen-more, occurrences-append, occurs}
-use Rattle.trees.proofs.ReadingLaws.{occurs-not, occurs-none}
+use Rattle.trees.proofs.ListLaws.{bytes-snoc, bytes-one, good-parts, good-intro, good-more, good-loose}
+use Rattle.trees.proofs.ReadingLaws.{KindView, is-label, is-comma, kind-view, comma-plain, run-end, seen-more, occurrences-append}
+use Rattle.trees.proofs.ReadingLaws.{occurs, occurs-not, occurs-none}
 use Rattle.trees.proofs.FaultLaws.{Known, Edge, Inside, known-start, inside-edge, edge-not-long, Read, read-start, byte-here}
 use Rattle.trees.proofs.FaultLaws.{before-here, bad-here, crowd-here, plain-pass, plain-edge, plain-known, label-read}
 use Rattle.trees.proofs.FaultLaws.{label-known, long-here, letter-pass, letter-inside, starts-here, repeat-here, begin-pass}
@@ -152,7 +152,7 @@ module _ (text p : List ℕ) (b : ℕ) (rest : List ℕ) (i : ℕ) (seen : List 
           let g = good-parts x (h .marks .1) in
           subst (Continues ListText) (sym bytes⁺)
           (label-continues seen (x ++ (b ∷ [])) (loose h) (omega (arith, length-append x (b ∷ [])))
-          (bytes-append x (b ∷ []) (g .2) (bytes-one b n)))
+          (bytes-snoc x b (g .2) n))
 
       no-crowd : LabelCrowd text i → ⊥
       no-crowd w = inside-edge ListText text seen x i (h .marks .0) (w .starts .first)

@@ -1,78 +1,15 @@
--- How far a label runs, and where the labels of a list stand when each is followed by a comma. Assumes nothing.
-use Prim.Native.Nat.{ℕ, suc, _+_, _-_, _≤_, _<_}
+-- Where the labels of a list stand when each is followed by a comma. Assumes nothing.
+use Prim.Native.Nat.{ℕ, suc, _+_, _-_, _<_}
 use native.Mathlib.Nat.{add-zero}
 use native.Mathlib.Omega.{arith}
 use mathlib.Core.Path.{_≡_, refl, ap, sym, _∙_}
-use mathlib.Core.Bool.{Bool, true, false, cond}
-use mathlib.Core.List.{List, [], _∷_, _++_, append-assoc, append-nil}
-use lib.Dec.{eqb}
+use mathlib.Core.List.{List, [], _∷_, _++_, append-assoc}
 use lib.ListN.{length, set, replicate, length-append}
 use lib.Seq.{set-at, take-append-seam, drop-at}
-use borrow.Author.Tests.{eqb-true, le-leb, lt-leb}
-use Rattle.trees.specs.declared.Kind.{Kind}
-use Rattle.trees.specs.declared.Kind.the-variants.{Label as LabelByte, Open, Close, Comma, Semicolon, Other}
-use Rattle.trees.specs.Bytes.{isLabelByte, kindOf, openByte, closeByte, commaByte, semicolonByte}
-use Rattle.trees.specs.Label.{Label, labelLimit, isIn, allLabelBytes}
-use Rattle.trees.specs.Reading.{labelRun, repeats}
-use Rattle.trees.proofs.Bools.{and-left, and-right, and-intro}
+use Rattle.trees.specs.Bytes.{commaByte}
+use Rattle.trees.specs.Label.{Label}
 use Rattle.lists.specs.ReadList.{listLimit, padded, sizesOf, startsOf}
 use Rattle.lists.specs.TextParts.{part, partsOf}
-
--- what the kind of a byte tells of it
-abbrev pub Told : ℕ → Kind → Type 0
-Told b LabelByte = isLabelByte b ≡ true
-Told b Open = isLabelByte b ≡ false
-Told b Close = isLabelByte b ≡ false
-Told b Comma = (isLabelByte b ≡ false) × (b ≡ commaByte)
-Told b Semicolon = isLabelByte b ≡ false
-Told b Other = isLabelByte b ≡ false
-
-told-by : (b : ℕ) (l o c m s : Bool) → isLabelByte b ≡ l → eqb b commaByte ≡ m
-    → Told b (cond l LabelByte (cond o Open (cond c Close (cond m Comma (cond s Semicolon Other)))))
-told-by b true o c m s p q = p
-told-by b false true c m s p q = p
-told-by b false false true m s p q = p
-told-by b false false false true s p q = (p, eqb-true b commaByte q)
-told-by b false false false false true p q = p
-told-by b false false false false false p q = p
-
-pub told-of : (b : ℕ) → Told b (kindOf b)
-unfolding kindOf
-told-of b =
-    told-by b (isLabelByte b) (eqb b openByte) (eqb b closeByte) (eqb b commaByte) (eqb b semicolonByte) refl refl
-
-run-append : (x : Label) (rest : List ℕ) → allLabelBytes x ≡ true → labelRun (x ++ rest) ≡ x ++ labelRun rest
-unfolding labelRun allLabelBytes
-run-append [] rest h = refl
-run-append (a ∷ x) rest h =
-    rw (and-left (isLabelByte a) (allLabelBytes x) h)
-    (ap (λ (y : Label). a ∷ y) (run-append x rest (and-right (isLabelByte a) (allLabelBytes x) h)))
-
-pub no-run : (b : ℕ) (rest : List ℕ) → isLabelByte b ≡ false → labelRun (b ∷ rest) ≡ []
-unfolding labelRun
-no-run b rest h = rw h refl
-
--- a label that ends here is compared
-pub repeats-here : (seen : List Label) (x : Label) (rest : List ℕ) → allLabelBytes x ≡ true → length x ≤ labelLimit
-    → labelRun rest ≡ [] → repeats seen (x ++ rest) ≡ isIn x seen
-unfolding repeats
-repeats-here seen x rest h l e =
-    rw (run-append x rest h, e, append-nil x, le-leb (length x) labelLimit l) refl
-
--- an overlong one is not
-pub no-repeat : (seen : List Label) (x : Label) (b : ℕ) (rest : List ℕ) → allLabelBytes x ≡ true → isLabelByte b ≡ true
-    → length x ≡ labelLimit → repeats seen (x ++ (b ∷ rest)) ≡ false
-unfolding repeats labelRun
-no-repeat seen x b rest h g l =
-    let long : labelLimit < length (x ++ (b ∷ labelRun rest)) = simp length-append (omega arith) in
-    rw (run-append x (b ∷ rest) h, g, lt-leb (length (x ++ (b ∷ labelRun rest))) labelLimit long) refl
-
-pub all-snoc : (x : Label) (b : ℕ) → allLabelBytes x ≡ true → isLabelByte b ≡ true → allLabelBytes (x ++ (b ∷ [])) ≡ true
-unfolding allLabelBytes
-all-snoc [] b h g = rw g refl
-all-snoc (a ∷ x) b h g =
-    and-intro (isLabelByte a) (allLabelBytes (x ++ (b ∷ []))) (and-left (isLabelByte a) (allLabelBytes x) h)
-    (all-snoc x b (and-right (isLabelByte a) (allLabelBytes x) h) g)
 
 -- the text of complete labels, a comma after each
 unfoldable pub consumed : List Label → List ℕ

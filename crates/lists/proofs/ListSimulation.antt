@@ -19,6 +19,9 @@ use Rattle.trees.specs.Bytes.{isLabelByte, kindOf, commaByte}
 use Rattle.trees.specs.Label.{Label, labelLimit, isIn, allLabelBytes}
 use Rattle.trees.specs.Reading.{Reading, refused, labelRun, repeats}
 use Rattle.trees.proofs.Bools.{bool-cases}
+use Rattle.trees.proofs.ListLaws.{bytes-one, bytes-snoc}
+use Rattle.trees.proofs.ReadingLaws.{KindView, is-label, is-open, is-close, is-comma, is-semicolon, is-other, kind-view, run-none}
+use Rattle.trees.proofs.ReadingLaws.{repeats-ended, repeats-long}
 use Rattle.lists.specs.declared.Stage.{Stage}
 use Rattle.lists.specs.declared.Stage.the-variants.{Start, Due, Inside}
 use Rattle.lists.specs.declared.Outcome.{Outcome}
@@ -48,23 +51,8 @@ use Rattle.lists.specs.ReadList.{
 }
 use Rattle.lists.specs.TextParts.{part, partsOf}
 use Rattle.lists.specs.ListMachine.{After, after, answerOf, closeOf, dueOf, endAt, insideOf, repeatOf, runFrom, stepOf}
-use Rattle.lists.proofs.ListPlaces.{
-  Told,
-  all-snoc,
-  consumed,
-  consumed-snoc,
-  length-sizes,
-  length-starts,
-  no-repeat,
-  no-run,
-  part-at,
-  parts-at,
-  repeats-here,
-  sizes-snoc,
-  starts-snoc,
-  store,
-  told-of,
-}
+use Rattle.lists.proofs.ListPlaces.{consumed, consumed-snoc, length-sizes, length-starts, part-at, parts-at, sizes-snoc}
+use Rattle.lists.proofs.ListPlaces.{starts-snoc, store}
 use Rattle.lists.proofs.MachineLaws.{Kept, answer-refused, close-new, close-repeat, end-new, end-repeat, run-end, run-next, run-stop}
 
 -- ---- both readers inside a label
@@ -119,7 +107,7 @@ module _ (text : List ℕ) (seen : List Label) (x : Label) (first at : ℕ) (res
 read-on : Phase → List Label → ℕ → List ℕ → Step → Reading (List Label)
 read-on p seen at rest s = elim s [ next p′ seen′ ↦ readFrom p′ seen′ (at + 1) rest | stop r ↦ refused r at ]
 
-read-next : (p : Phase) (seen : List Label) (at b : ℕ) (rest : List ℕ) (p′ : Phase) (seen′ : List Label)
+pub read-next : (p : Phase) (seen : List Label) (at b : ℕ) (rest : List ℕ) (p′ : Phase) (seen′ : List Label)
     → step p seen b rest ≡ next p′ seen′ → readFrom p seen at (b ∷ rest) ≡ readFrom p′ seen′ (at + 1) rest
 unfolding readFrom read-on
 read-next p seen at b rest p′ seen′ e = ap (read-on p seen at rest) e
@@ -167,7 +155,7 @@ module _ (text : List ℕ) (body : Body) where
   inside-end seen x first at w = go (bool-cases (isIn x seen))
     where
       look : repeats seen (x ++ []) ≡ isIn x seen
-      look = repeats-here seen x [] (w .letters) (w .short) refl
+      look = repeats-ended seen x [] (w .letters) (w .short) refl
 
       go : (isIn x seen ≡ true) ⊎ (isIn x seen ≡ false) → insideRun seen x first at [] ≡ looked seen x first at []
       go (inl h) =
@@ -198,7 +186,7 @@ module _ (text : List ℕ) (body : Body) where
     closed o ends same new = go (bool-cases (isIn x seen))
       where
         look : repeats seen (x ++ (b ∷ rest)) ≡ isIn x seen
-        look = repeats-here seen x (b ∷ rest) (w .letters) (w .short) ends
+        look = repeats-ended seen x (b ∷ rest) (w .letters) (w .short) ends
 
         go : (isIn x seen ≡ true) ⊎ (isIn x seen ≡ false) → Agreed
         go (inl h) =
@@ -211,7 +199,7 @@ module _ (text : List ℕ) (body : Body) where
 
     bad-after : isLabelByte b ≡ false → stepped ≡ closing (Stop BadByte at) → step (inLabel x) seen b rest ≡ stop BadByte → Agreed
     bad-after l same read =
-        closed (Stop BadByte at) (no-run b rest l) same
+        closed (Stop BadByte at) (run-none b rest l) same
         (λ e. run-stop text body _ _ _ at b rest BadByte at _ _ e
         ∙ ap (listRead body) (sym (read-stop (inLabel x) seen at b rest BadByte read)))
 
@@ -222,7 +210,7 @@ module _ (text : List ℕ) (body : Body) where
         let text-is : text ≡ consumed (seen ++ (x ∷ [])) ++ rest =
         w .text-is ∙ rw (c, consumed-snoc seen x) (simp append-assoc) in
         let at-is : at + 1 ≡ length (consumed (seen ++ (x ∷ []))) = rw (consumed-snoc seen x) (simp length-append (omega arith)) in
-        closed (Next (Due (length seen + 1))) (no-run b rest l) same
+        closed (Next (Due (length seen + 1))) (run-none b rest l) same
         (λ e. run-next text body _ _ _ at b rest _ _ _ e
         ∙ rw count (due-same (seen ++ (x ∷ [])) (at + 1) text-is at-is (omega arith))
         ∙ ap (listRead body) (sym (read-next (inLabel x) seen at b rest labelDue (seen ++ (x ∷ [])) read)))
@@ -239,7 +227,7 @@ module _ (text : List ℕ) (body : Body) where
           at-is = rw (← longer) (omega arith);
           few = w .few;
           short = rw (← longer) (omega arith);
-          letters = all-snoc x b (w .letters) l;
+          letters = bytes-snoc x b (w .letters) l;
         } in
         let small : ltb (length x) labelLimit ≡ true = lt-ltb (length x) labelLimit h in
         let differ : eqb (length x) labelLimit ≡ false = ne-eqb (length x) labelLimit (λ e. omega arith) in
@@ -251,13 +239,13 @@ module _ (text : List ℕ) (body : Body) where
     overlong : isLabelByte b ≡ true → kindOf b ≡ LabelByte → length x ≡ labelLimit → Agreed
     unfolding stepOf insideOf step stepLabel
     overlong l k h =
-        rw (no-repeat seen x b rest (w .letters) l h)
+        rw (repeats-long seen x b rest (w .letters) l (omega arith))
         (run-stop text body _ _ _ at b rest LabelTooLong at (starting seen) (sizing seen) (rw (k, h) refl)
         ∙ ap (listRead body) (sym (read-stop (inLabel x) seen at b rest LabelTooLong (rw (k, h) refl))))
 
     inside-cons : DueSame rest → InsideSame rest → Agreed
     unfolding stepOf insideOf step stepLabel
-    inside-cons due-same inside-same = go (kindOf b) refl (told-of b)
+    inside-cons due-same inside-same = go (kindOf b) refl (kind-view b)
       where
         letter : kindOf b ≡ LabelByte → isLabelByte b ≡ true
             → (ltb (length x) labelLimit ≡ true) ⊎ (ltb (length x) labelLimit ≡ false) → Agreed
@@ -266,13 +254,13 @@ module _ (text : List ℕ) (body : Body) where
             let far : labelLimit ≤ length x = ltb-false (length x) labelLimit h in
             overlong l k (omega arith)
 
-        go : (k : Kind) → kindOf b ≡ k → Told b k → Agreed
-        go LabelByte k l = letter k l (bool-cases (ltb (length x) labelLimit))
-        go Open k l = bad-after l (rw k refl) (rw k refl)
-        go Close k l = bad-after l (rw k refl) (rw k refl)
-        go Comma k l = comma-after due-same (l .0) (l .1) (rw k refl) (rw k refl)
-        go Semicolon k l = bad-after l (rw k refl) (rw k refl)
-        go Other k l = bad-after l (rw k refl) (rw k refl)
+        go : (k : Kind) → kindOf b ≡ k → KindView b k → Agreed
+        go LabelByte k (is-label l) = letter k l (bool-cases (ltb (length x) labelLimit))
+        go Open k (is-open e l) = bad-after l (rw k refl) (rw k refl)
+        go Close k (is-close e l) = bad-after l (rw k refl) (rw k refl)
+        go Comma k (is-comma e l) = comma-after due-same l e (rw k refl) (rw k refl)
+        go Semicolon k (is-semicolon e l) = bad-after l (rw k refl) (rw k refl)
+        go Other k (is-other l) = bad-after l (rw k refl) (rw k refl)
 
   -- a byte where a label must begin, at the start or after a comma
   module _
@@ -308,14 +296,14 @@ module _ (text : List ℕ) (body : Body) where
     begin-label l k h =
         let first : dueOf (kindOf b) at (length seen) ≡ Next (Inside at 1 (length seen)) = rw (k, lt-ltb (length seen) listLimit h) refl in
         let within : Within text seen (b ∷ []) at (at + 1) rest =
-        record { text-is = text-is; first-is = at-is; at-is = refl; few = h; short = omega arith; letters = all-snoc [] b refl l } in
+        record { text-is = text-is; first-is = at-is; at-is = refl; few = h; short = omega arith; letters = bytes-one b l } in
         run-next text body _ _ _ at b rest _ _ _ (sym (machine (kindOf b) ∙ ap (λ (o : Outcome). after o (starting seen) (sizing seen)) first))
         ∙ inside-same seen (b ∷ []) at (at + 1) within
         ∙ begin-looked k h
 
     begin : Same
     unfolding dueOf stepDue
-    begin = go (kindOf b) refl (told-of b)
+    begin = go (kindOf b) refl (kind-view b)
       where
         letter : kindOf b ≡ LabelByte → isLabelByte b ≡ true → (ltb (length seen) listLimit ≡ true) ⊎ (ltb (length seen) listLimit ≡ false) → Same
         letter k l (inl h) = begin-label l k (ltb-true (length seen) listLimit h)
@@ -324,8 +312,8 @@ module _ (text : List ℕ) (body : Body) where
             let full : length seen ≡ listLimit = omega arith in
             begin-stop TooMany (rw (k, h) refl) (rw (k, full) refl)
 
-        go : (k : Kind) → kindOf b ≡ k → Told b k → Same
-        go LabelByte k l = letter k l (bool-cases (ltb (length seen) listLimit))
+        go : (k : Kind) → kindOf b ≡ k → KindView b k → Same
+        go LabelByte k (is-label l) = letter k l (bool-cases (ltb (length seen) listLimit))
         go Open k l = begin-stop BadByte (rw k refl) (rw k refl)
         go Close k l = begin-stop BadByte (rw k refl) (rw k refl)
         go Comma k l = begin-stop BadByte (rw k refl) (rw k refl)

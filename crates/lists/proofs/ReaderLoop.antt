@@ -10,8 +10,7 @@ use lib.Seq.{drop-cons}
 use Rattle.trees.specs.declared.Kind.{Kind}
 use Rattle.trees.specs.declared.Reason.{Reason}
 use Rattle.trees.specs.declared.Body.{Body}
-use Rattle.trees.specs.Bytes.{kindOf, kindOfCode, classTable}
-use Rattle.trees.proofs.ByteLaws.{class-rule}
+use Rattle.trees.specs.Bytes.{kindOf}
 use Rattle.lists.specs.declared.Stage.{Stage}
 use Rattle.lists.specs.declared.Stage.the-variants.{Start}
 use Rattle.lists.specs.declared.Outcome.{Outcome}
@@ -31,10 +30,6 @@ pub record Running (text : List ℕ) (body : Body) (stage : Stage) (start size :
 
 pub running-start : (text : List ℕ) (body : Body) → Running text body Start (replicate listLimit 0) (replicate listLimit 0) 0
 running-start text body = record { inside = omega arith; room = omega arith; run = simulated text body }
-
--- the kind that the class table tells is the byte's
-pub kind-told : (table : List ℕ) (b : ℕ) (k : Kind) → table ≡ classTable → b < 256 → k ≡ kindOfCode (getD table b 0) → k ≡ kindOf b
-kind-told table b k t h e = e ∙ rw t (class-rule b h)
 
 module _
     (text : List ℕ) (body : Body) (stage : Stage) (start size : List ℕ) (i : ℕ) (r : Running text body stage start size i)

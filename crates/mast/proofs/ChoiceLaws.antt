@@ -13,6 +13,7 @@ use borrow.Author.Tests.{eq-eqb, ne-eqb, eqb-true, eqb-false}
 use Rattle.trees.specs.Label.{Label, isIn, distinct}
 use Rattle.trees.specs.Tree.{Tree, leaves}
 use Rattle.trees.proofs.Bools.{bool-cases, clash}
+use Rattle.trees.proofs.ListLaws.{at-in}
 use Rattle.agreement.specs.Closer.{Common}
 use Rattle.agreement.specs.Sets.{increasing, insert, sorted, keep, common, setOf}
 use Rattle.agreement.specs.Weights.{forcing, forcedUnit}
@@ -25,7 +26,7 @@ use Rattle.agreement.proofs.Promises.{oracle-promise, oracle-refusal}
 use Rattle.mast.specs.Engine.{Weighs, forcedFrom}
 use Rattle.mast.specs.Table.{Side}
 use Rattle.mast.specs.Choice.{Job, greatest, Filled, Forced, Tried, Passed, Solved}
-use Rattle.mast.proofs.RankLaws.{at-in, inc-differ}
+use Rattle.mast.proofs.RankLaws.{inc-differ}
 use Rattle.mast.proofs.SideLaws.{greatest-is}
 
 -- weights

@@ -16,15 +16,15 @@ use Rattle.trees.specs.Tree.{Tree, leaf, node, leaves, Valid}
 use Rattle.trees.specs.Text.{written, textOf}
 use Rattle.trees.specs.Arrays.{nodesOf, nodeLimit, starts, sizes, arraysOf, isLeaf}
 use Rattle.trees.specs.Postorder.{postorder, subtree}
-use Rattle.trees.proofs.Bools.{bool-cases, clash}
+use Rattle.trees.proofs.Bools.{bool-cases, clash, refute}
 use Rattle.trees.proofs.ListLaws.{in-one, in-one-eq, in-append, in-right, distinct-left, distinct-right, distinct-apart}
-use Rattle.trees.proofs.ArrayLaws.{own-stands, good-at, label-inside, few-nodes}
-use Rattle.trees.proofs.PostorderLaws.{Third, in-first, in-second, at-last, third, third-first, third-second, third-last, length-postorder, subtree-in, holds-leaf, node-leaf, leaf-once, label-shown}
+use Rattle.trees.proofs.ArrayLaws.{own-stands, good-at, label-inside, few-nodes, starts-length}
+use Rattle.trees.proofs.PostorderLaws.{Third, in-first, in-second, at-last, third, third-first, third-second, third-last}
+use Rattle.trees.proofs.PostorderLaws.{length-postorder, subtree-in, holds-leaf, node-leaf, leaf-once, label-shown, leaf-label}
 use Rattle.lists.specs.declared.LabelPlaces.{LabelPlaces}
 use Rattle.lists.specs.ReadList.{padded, listLimit}
 use Rattle.lists.proofs.ListPlaces.{store}
 use Rattle.agreement.specs.Closer.{holds}
-use Rattle.agreement.proofs.HoldsLaws.{refute}
 use Rattle.agreement.specs.Places.{placeIn}
 use Rattle.agreement.specs.Weights.{forcedUnit}
 use Rattle.leaves.proofs.OwnLaws.{own-leaf}
@@ -33,12 +33,6 @@ use Rattle.mast.specs.Largest.{setPlaces}
 use Rattle.mast.specs.Finish.{placesFrom, Stored, Flagged}
 
 -- a leaf's start in the arrays of a tree whose text starts at p
-length-starts : (t : Tree) (p : ℕ) → length (starts t p) ≡ nodesOf t
-unfolding starts nodesOf
-length-starts (leaf x) p = refl
-length-starts (node a b) p =
-    simp (length-append) (omega (arith, length-starts a (p + 1), length-starts b (p + 1 + length (written a) + 1)))
-
 abbrev PlacedAt : Tree → ℕ → Type 0
 PlacedAt t p = (i : ℕ) → i < nodesOf t → (x : Label) → subtree (postorder t) i ≡ leaf x → getD (starts t p) i 0 ≡ placeIn t p x
 
@@ -59,7 +53,7 @@ module _ (a b : Tree) (p i : ℕ) (x : Label) where
         let k : subtree (postorder a) i ≡ leaf x =
         sym (third-first (postorder a) (postorder b) (node a b) (leaf []) i (omega (arith, length-postorder a))) ∙ e
         in
-        third-first (starts a (p + 1)) (starts b (p + 1 + length (written a) + 1)) 0 0 i (omega (arith, length-starts a (p + 1)))
+        third-first (starts a (p + 1)) (starts b (p + 1 + length (written a) + 1)) 0 0 i (omega (arith, starts-length a (p + 1)))
         ∙ f i h x k ∙ sym (place-first (subtree-in a i h x (holds-leaf (subtree (postorder a) i) x k)))
     placed-split (in-second j h m) =
         let k : subtree (postorder b) j ≡ leaf x =
@@ -67,8 +61,8 @@ module _ (a b : Tree) (p i : ℕ) (x : Label) where
         (omega (arith, length-postorder b)) m)
         ∙ e
         in
-        third-second (starts a (p + 1)) (starts b (p + 1 + length (written a) + 1)) 0 0 (nodesOf a) i j (length-starts a (p + 1))
-        (omega (arith, length-starts b (p + 1 + length (written a) + 1))) m
+        third-second (starts a (p + 1)) (starts b (p + 1 + length (written a) + 1)) 0 0 (nodesOf a) i j (starts-length a (p + 1))
+        (omega (arith, starts-length b (p + 1 + length (written a) + 1))) m
         ∙ g j h x k
         ∙ sym (place-second (refute (isIn x (leaves a)) (λ (q : isIn x (leaves a) ≡ true).
         clash (subtree-in b j h x (holds-leaf (subtree (postorder b) j) x k)) (distinct-apart (leaves a) (leaves b) d x q))))
@@ -92,7 +86,7 @@ module _ (t : Tree) (v : Valid t) (u : ℕ) (x : Label) (l : LeafIs t u x) where
   pub own-start : getD (arraysOf t .start) u 0 ≡ placeIn t 0 x
   unfolding arraysOf
   own-start =
-      List·getD-append (starts t 0) (replicate (nodeLimit - length (starts t 0)) 0) 0 u (omega (arith, length-starts t 0, l .below))
+      List·getD-append (starts t 0) (replicate (nodeLimit - length (starts t 0)) 0) 0 u (omega (arith, starts-length t 0, l .below))
       ∙ placed t (v .different) 0 u (l .below) x (l .is)
 
   pub own-size : getD (arraysOf t .size) u 0 ≡ length x
@@ -104,9 +98,6 @@ module _ (t : Tree) (v : Valid t) (u : ℕ) (x : Label) (l : LeafIs t u x) where
       sym (length-take-le (getD (arraysOf t .size) u 0) (drop (getD (arraysOf t .start) u 0) (textOf t))
       (omega (arith, i .inside, length-drop (getD (arraysOf t .start) u 0) (textOf t))))
       ∙ ap length e
-
-leaf-label : (x y : Label) → leaf x ≡ leaf y → x ≡ y
-leaf-label x y e = cc
 
 -- the forced labels of a list with one label more
 cond-append : (b : Bool) (c : Label) (xs ys : List Label) → cond b (c ∷ (xs ++ ys)) (xs ++ ys) ≡ cond b (c ∷ xs) xs ++ ys

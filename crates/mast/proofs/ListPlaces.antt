@@ -1,6 +1,6 @@
 -- A label of a list stands in the list's text where its start and size say. Assumes nothing.
 use Prim.Native.Nat.{ℕ, zero, suc, _+_, _-_, _<_}
-use mathlib.Core.Path.{_≡_, refl, ap, subst}
+use mathlib.Core.Path.{_≡_, refl, subst}
 use mathlib.Core.List.{List, [], _∷_, _++_, append-assoc, append-nil}
 use native.Mathlib.Omega.{arith}
 use lib.ListN.{length, getD, replicate, length-append, List·getD-append}
@@ -9,6 +9,7 @@ use borrow.Author.Tests.{le-leb}
 use Rattle.trees.specs.Label.{Label}
 use Rattle.trees.specs.Stored.{partOf}
 use Rattle.lists.specs.ReadList.{joined, startsOf, sizesOf, placesOf, listLimit}
+use Rattle.lists.proofs.ListPlaces.{length-starts, length-sizes}
 use Rattle.mast.specs.Engine.{OwnList}
 
 -- a part between others
@@ -33,16 +34,6 @@ joined-part (x ∷ y ∷ ys) pre p e (suc k) h =
     subst (λ (z : List ℕ). partOf (getD (startsOf (y ∷ ys) (p + length x + 1)) k 0) (getD (sizesOf (y ∷ ys)) k 0) z ≡ getD (y ∷ ys) k [])
     (simp append-assoc)
     (joined-part (y ∷ ys) (pre ++ (x ++ (44 ∷ []))) (p + length x + 1) (simp length-append (omega arith)) k (omega arith))
-
-length-starts : (K : List Label) (p : ℕ) → length (startsOf K p) ≡ length K
-unfolding startsOf
-length-starts [] p = refl
-length-starts (x ∷ xs) p = ap suc (length-starts xs (p + length x + 1))
-
-length-sizes : (K : List Label) → length (sizesOf K) ≡ length K
-unfolding sizesOf
-length-sizes [] = refl
-length-sizes (x ∷ xs) = ap suc (length-sizes xs)
 
 pub list-part : {K : List Label} {text start size : List ℕ} {count : ℕ} → OwnList K text start size count → (k : ℕ) → k < count
     → partOf (getD start k 0) (getD size k 0) text ≡ getD K k []

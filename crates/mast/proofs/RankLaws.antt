@@ -19,11 +19,11 @@ use Rattle.trees.specs.Postorder.{postorder, subtree, leafLabels}
 use Rattle.trees.proofs.Bools.{bool-cases, clash}
 use Rattle.trees.proofs.ArrayLaws.{few-nodes}
 use Rattle.trees.proofs.LabelLaws.{less-ne}
-use Rattle.trees.proofs.PostorderLaws.{length-postorder, leaf-labels, leaf-once}
+use Rattle.trees.proofs.ListLaws.{at-in}
+use Rattle.trees.proofs.PostorderLaws.{length-postorder, leaf-labels, leaf-once, leaf-label}
 use Rattle.agreement.specs.Closer.{holds}
 use Rattle.agreement.specs.Sets.{increasing, insert, sorted, keep, common}
-use Rattle.agreement.proofs.SetLaws.{in-nil, in-head, in-tail, in-cases, inc-head, inc-tail, length-sorted, length-insert}
-use Rattle.agreement.proofs.SetLaws.{common-inc, in-common, keep-few, within-few}
+use Rattle.agreement.proofs.SetLaws.{inc-head, inc-tail, length-sorted, length-insert, common-inc, in-common, keep-few, within-few}
 use Rattle.leaves.specs.Find.{foundLeaf}
 use Rattle.leaves.proofs.OwnLaws.{own-leaf, own-inner, own-label, ownFound, found, missing}
 use Rattle.mast.specs.Engine.{OwnLeaves, LeafIs, Numbered, Ordered, Ranked}
@@ -360,11 +360,6 @@ collected-all s t order1 order2 m c =
 
 -- ranks
 
-pub at-in : (C : List Label) (j : ℕ) → j < length C → isIn (getD C j []) C ≡ true
-at-in [] j h = absurd (omega arith)
-at-in (x ∷ xs) zero h = in-head x xs
-at-in (x ∷ xs) (suc j) h = in-tail (getD xs j []) x xs (at-in xs j (omega arith))
-
 -- labels at different ranks differ
 inc-less : (C : List Label) → increasing C ≡ true → (i j : ℕ) → i < j → j < length C
     → labelLess (getD C i []) (getD C j []) ≡ true
@@ -380,19 +375,6 @@ inc-differ C h i j p q n e = go (decLt i j)
     go : Dec (i < j) → ⊥
     go (yes l) = less-ne (getD C i []) (getD C j []) (inc-less C h i j l q) e
     go (no l) = less-ne (getD C j []) (getD C i []) (inc-less C h j i (omega arith) p) (sym e)
-
--- a member has a rank
-pub in-at : (x : Label) (C : List Label) → isIn x C ≡ true → ((r : ℕ) × (r < length C) × (getD C r [] ≡ x))
-in-at x [] m = in-nil x m
-in-at x (y ∷ ys) m = go (in-cases x y ys m) (in-at x ys)
-  where
-    go : (x ≡ y) ⊎ (isIn x ys ≡ true) → (isIn x ys ≡ true → ((r : ℕ) × (r < length ys) × (getD ys r [] ≡ x)))
-        → ((r : ℕ) × (r < suc (length ys)) × (getD (y ∷ ys) r [] ≡ x))
-    go (inl e) f = (0, omega arith, sym e)
-    go (inr k) f = let a = f k in (suc (a .0), omega (arith, a .1), a .2)
-
-leaf-label : (x y : Label) → leaf x ≡ leaf y → x ≡ y
-leaf-label x y e = cc
 
 pub length-ranks : (order : List ℕ) (r : ℕ) → length (ranksOf order r) ≡ 159
 unfolding ranksOf

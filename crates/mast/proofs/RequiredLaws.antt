@@ -15,17 +15,19 @@ use Rattle.trees.specs.Label.{Label, isIn}
 use Rattle.trees.specs.Tree.{Tree}
 use Rattle.trees.specs.Stored.{partOf}
 use Rattle.trees.proofs.Bools.{bool-cases}
+use Rattle.trees.proofs.ListLaws.{at-in}
 use Rattle.agreement.specs.Closer.{holds, Common}
 use Rattle.agreement.specs.Sets.{increasing, common, sorted, setOf}
 use Rattle.agreement.specs.Weights.{forcing, forcedUnit}
 use Rattle.agreement.specs.Answer.{firstLacks, secondLacks, lacking}
 use Rattle.agreement.proofs.SetLaws.{in-nil, in-head, in-cases, in-other, in-sorted, common-inc, common-in}
+use Rattle.triples.proofs.Ranks.{number-of}
 use Rattle.leaves.specs.Find.{foundLeaf}
 use Rattle.mast.specs.declared.required.Lack.the-variants.{Nothing, First, Second}
 use Rattle.mast.specs.Engine.{OwnLeaves, OwnList, Ranked, Weighs}
 use Rattle.mast.specs.Required.{lackOf, answerOf, startWeights, forcedAt, rankOrNone}
 use Rattle.mast.proofs.ListPlaces.{list-part}
-use Rattle.mast.proofs.RankLaws.{own-low, search-found, search-missing, at-in, in-at, inc-differ}
+use Rattle.mast.proofs.RankLaws.{own-low, search-found, search-missing, inc-differ}
 
 -- the search tells whether the tree holds a label
 pub search-holds : {t : Tree} {text left start size : List ℕ} {nodes : ℕ} → OwnLeaves t text left start size nodes → (x : Label)
@@ -191,10 +193,10 @@ module _ {s : Tree} (t : Tree) {text left start size : List ℕ} {nodes : ℕ} (
   weighs-next K c k h weight w =
       let x = getD K k [] in
       let both = c x (at-in K k h) in
-      let a = in-at x (common s t) (common-in s t x (both .0) (both .1)) in
-      rw (rank-is x (both .0) (a .0) (a .1) (a .2), lt-ltb (a .0) 80 (omega (arith, a .1, w .few)), drop-cons K k [] h)
-      (subst (λ (y : Label). Weighs (common s t) (y ∷ drop (suc k) K) (set weight (a .0) forcedUnit)) (a .2)
-      (weighs-force (common s t) (drop (suc k) K) weight (common-inc s t (o .valid .different)) w (a .0) (a .1)))
+      let a = number-of (common s t) x (common-in s t x (both .0) (both .1)) in
+      rw (rank-is x (both .0) (a .at) (a .below) (a .is), lt-ltb (a .at) 80 (omega (arith, a .below, w .few)), drop-cons K k [] h)
+      (subst (λ (y : Label). Weighs (common s t) (y ∷ drop (suc k) K) (set weight (a .at) forcedUnit)) (a .is)
+      (weighs-force (common s t) (drop (suc k) K) weight (common-inc s t (o .valid .different)) w (a .at) (a .below)))
 
   -- the same, in the terms of the code
   pub weighs-step : {K : List Label} {list starts sizes : List ℕ} {count : ℕ} → OwnList K list starts sizes count

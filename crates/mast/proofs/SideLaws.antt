@@ -25,13 +25,14 @@ use Rattle.agreement.specs.Weights.{best, forcing, forcedUnit}
 use Rattle.agreement.specs.Greatest.{Greatest}
 use Rattle.agreement.proofs.SetLaws.{common-in}
 use Rattle.agreement.proofs.Recurrence.{Reach, best-bound, best-reached}
+use Rattle.triples.proofs.Ranks.{Numbered as HasRank, number-of}
 use Rattle.leaves.proofs.OwnLaws.{own-laid}
 use Rattle.mast.specs.Engine.{Numbered, Ranked, Weighs}
 use Rattle.mast.specs.Table.{cell, Side, Shape, leafValue, Setting, AllRight, RightWhereUnmarked}
 use Rattle.mast.specs.Marks.{LeafOf, Marked}
 use Rattle.mast.specs.Choice.{Ready, OwnSide, Job, greatest, Filled, Topped}
 use Rattle.mast.proofs.TableLaws.{NodeCase, is-leaf, is-node, node-case}
-use Rattle.mast.proofs.RankLaws.{common-few, in-at}
+use Rattle.mast.proofs.RankLaws.{common-few}
 use Rattle.mast.proofs.MarkLaws.{leaf-of, unmarked-right}
 
 -- children have no larger numbers
@@ -123,13 +124,9 @@ leaf-value-apart weight p q f = go (eqb p q) refl
 module _ (s t : Tree) (rank1 rank2 : List ℕ) (F : List Label) (weight : List ℕ) (one : Ranked s (common s t) rank1)
     (two : Ranked t (common s t) rank2) (weighs : Weighs (common s t) F weight) (u v : ℕ) (hu : u < nodesOf s) (hv : v < nodesOf t)
     (x y : Label) (p : subtree (postorder s) u ≡ leaf x) (q : subtree (postorder t) v ≡ leaf y) where
-  -- a label's rank
-  abbrev Rank : Label → Type 0
-  Rank z = (r : ℕ) × (r < length (common s t)) × (getD (common s t) r [] ≡ z)
-
   ranks-same : x ≡ y → leafValue weight (getD rank1 u 0) (getD rank2 v 0) ≡ forcing F x
   unfolding holds
-  ranks-same e = go (in-at x (common s t) (common-in s t x held (rw e held2)))
+  ranks-same e = go (number-of (common s t) x (common-in s t x held (rw e held2)))
     where
       held : isIn x (leaves s) ≡ true
       held = subtree-in s u hu x (holds-leaf (subtree (postorder s) u) x p)
@@ -137,30 +134,30 @@ module _ (s t : Tree) (rank1 rank2 : List ℕ) (F : List Label) (weight : List �
       held2 : isIn y (leaves t) ≡ true
       held2 = subtree-in t v hv y (holds-leaf (subtree (postorder t) v) y q)
 
-      go : Rank x → leafValue weight (getD rank1 u 0) (getD rank2 v 0) ≡ forcing F x
+      go : HasRank (common s t) x → leafValue weight (getD rank1 u 0) (getD rank2 v 0) ≡ forcing F x
       go c =
-          leaf-value-same weight (getD rank1 u 0) (getD rank2 v 0) (c .0)
-          (one .held u (c .0) hu (c .1) (p ∙ ap leaf (sym (c .2))))
-          (two .held v (c .0) hv (c .1) (q ∙ ap leaf (sym e ∙ sym (c .2))))
-          ∙ weighs .each (c .0) (c .1) ∙ ap (forcing F) (c .2)
+          leaf-value-same weight (getD rank1 u 0) (getD rank2 v 0) (c .at)
+          (one .held u (c .at) hu (c .below) (p ∙ ap leaf (sym (c .is))))
+          (two .held v (c .at) hv (c .below) (q ∙ ap leaf (sym e ∙ sym (c .is))))
+          ∙ weighs .each (c .at) (c .below) ∙ ap (forcing F) (c .is)
 
   ranks-apart : (x ≡ y → ⊥) → leafValue weight (getD rank1 u 0) (getD rank2 v 0) ≡ 0
   ranks-apart n = leaf-value-apart weight (getD rank1 u 0) (getD rank2 v 0) (λ e. first e (bool-cases (isIn x (common s t))))
     where
-      second : getD rank1 u 0 ≡ getD rank2 v 0 → Rank x
+      second : getD rank1 u 0 ≡ getD rank2 v 0 → HasRank (common s t) x
           → (isIn y (common s t) ≡ true) ⊎ (isIn y (common s t) ≡ false) → ⊥
       second e c (inl k) =
-          let d = in-at y (common s t) k in
-          let i = one .held u (c .0) hu (c .1) (p ∙ ap leaf (sym (c .2))) in
-          let j = two .held v (d .0) hv (d .1) (q ∙ ap leaf (sym (d .2))) in
-          n (sym (c .2) ∙ ap (λ (k : ℕ). getD (common s t) k []) (sym i ∙ e ∙ j) ∙ d .2)
+          let d = number-of (common s t) y k in
+          let i = one .held u (c .at) hu (c .below) (p ∙ ap leaf (sym (c .is))) in
+          let j = two .held v (d .at) hv (d .below) (q ∙ ap leaf (sym (d .is))) in
+          n (sym (c .is) ∙ ap (λ (k : ℕ). getD (common s t) k []) (sym i ∙ e ∙ j) ∙ d .is)
       second e c (inr k) =
-          let i = one .held u (c .0) hu (c .1) (p ∙ ap leaf (sym (c .2))) in
-          omega (arith, i, e, two .other v y hv q k, c .1, weighs .few)
+          let i = one .held u (c .at) hu (c .below) (p ∙ ap leaf (sym (c .is))) in
+          omega (arith, i, e, two .other v y hv q k, c .below, weighs .few)
 
       first : getD rank1 u 0 ≡ getD rank2 v 0 → (isIn x (common s t) ≡ true) ⊎ (isIn x (common s t) ≡ false)
           → getD weight (getD rank1 u 0) 0 ≡ 0
-      first e (inl k) = absurd (second e (in-at x (common s t) k) (bool-cases (isIn y (common s t))))
+      first e (inl k) = absurd (second e (number-of (common s t) x k) (bool-cases (isIn y (common s t))))
       first e (inr k) = rw (one .other u x hu p k) (weighs .nothing)
 
   ranks-right : leafValue weight (getD rank1 u 0) (getD rank2 v 0) ≡ cond (sameLabel x y) (forcing F x) 0

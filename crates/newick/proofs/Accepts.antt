@@ -18,11 +18,13 @@ use Rattle.trees.specs.Faults.{occurrences}
 use Rattle.newick.specs.ReadTree.{Opened, first, second, Phase, nodeDue, inLabel, afterNode, ended, State, Step, next, stop}
 use Rattle.newick.specs.ReadTree.{stepAfter, stepDue, stepLabel, step, readFrom, readTree}
 use Rattle.trees.proofs.Bools.{clash, and-left, and-right}
-use Rattle.trees.proofs.ReadingLaws.{KindView, is-label, is-open, is-close, is-comma, is-semicolon, is-other, kind-view}
-use Rattle.trees.proofs.ReadingLaws.{kind-label, close-plain, comma-plain, semicolon-plain, run-none, run-append, good-head}
-use Rattle.trees.proofs.ReadingLaws.{good-parts, good-split, distinct-left, distinct-fresh, fresh-repeats, good-loose}
+use Rattle.trees.proofs.ListLaws.{good-head, good-parts, good-split, distinct-left, distinct-fresh, good-loose}
+use Rattle.trees.proofs.ReadingLaws.{KindView, is-label, is-open, is-close, is-comma, is-semicolon, is-other, kind-view, kind-label}
+use Rattle.trees.proofs.ReadingLaws.{close-plain, comma-plain, semicolon-plain, run-none, run-append, fresh-repeats}
+use Rattle.trees.proofs.WrittenLaws.{text-read, written-node}
 use Rattle.newick.proofs.TreeFaultsWalk.{Result, reading, opens-text}
-use Rattle.newick.proofs.AcceptsRaw.{written-node, written-leaf, text-unique}
+use Rattle.newick.proofs.AcceptsRaw.{written-leaf}
+use Rattle.newick.proofs.OpenNodes.{inner, leaves-inner}
 
 -- the reader's state
 abbrev at : Phase → List Opened → ℕ → List Label → State
@@ -105,17 +107,6 @@ gets-leaf stack opens seen (b ∷ x) c rest l m h d n =
     (gets-label stack opens seen (b ∷ []) x (c ∷ rest) (and-right (isLabelByte b) (allLabelBytes x) h) (omega arith))
     (gets-label-end stack opens seen (b ∷ x) c rest n))
 
--- how many `(` a tree's text has
-inner : Tree → ℕ
-inner (leaf x) = 0
-inner (node a b) = suc (inner a + inner b)
-
--- one less than its leaves
-inner-leaves : (t : Tree) → length (leaves t) ≡ suc (inner t)
-unfolding inner leaves
-inner-leaves (leaf x) = refl
-inner-leaves (node a b) = omega (arith, length-append (leaves a) (leaves b), inner-leaves a, inner-leaves b)
-
 -- a node's text is read as that node
 gets-node : (t : Tree) (stack : List Opened) (opens : ℕ) (seen : List Label) (c : ℕ) (rest : List ℕ) → goodLabels (leaves t) ≡ true
     → distinct (seen ++ leaves t) ≡ true → opens + inner t < leafLimit → isLabelByte c ≡ false
@@ -163,24 +154,24 @@ gets-node (node a b) stack opens seen c rest g d l n =
     s₄ = at (afterNode b) (second a ∷ stack) (opens + 1 + inner a + inner b) ((seen ++ leaves a) ++ leaves b)
 
     s₅ : State
-    s₅ = at (afterNode (node a b)) stack (opens + suc (inner a + inner b)) (seen ++ (leaves a ++ leaves b))
+    s₅ = at (afterNode (node a b)) stack (opens + (inner a + inner b + 1)) (seen ++ (leaves a ++ leaves b))
 
     d′ : distinct ((seen ++ leaves a) ++ leaves b) ≡ true
     d′ = subst (λ (w : List Label). distinct w ≡ true) (sym (append-assoc seen (leaves a) (leaves b))) d
 
-    count : opens + 1 + inner a + inner b ≡ opens + suc (inner a + inner b)
+    count : opens + 1 + inner a + inner b ≡ opens + (inner a + inner b + 1)
     count = omega arith
 
     last : next (at (afterNode (node a b)) stack (opens + 1 + inner a + inner b) ((seen ++ leaves a) ++ leaves b)) ≡ next s₅
     last =
         ap (λ (w : ℕ). next (at (afterNode (node a b)) stack w ((seen ++ leaves a) ++ leaves b))) count
-        ∙ ap (λ (w : List Label). next (at (afterNode (node a b)) stack (opens + suc (inner a + inner b)) w)) (append-assoc seen (leaves a) (leaves b))
+        ∙ ap (λ (w : List Label). next (at (afterNode (node a b)) stack (opens + (inner a + inner b + 1)) w)) (append-assoc seen (leaves a) (leaves b))
 
 -- the text of a valid tree is read as that tree
 pub reads : (t : Tree) → Valid t → readTree (textOf t) ≡ good t
 unfolding readTree textOf step kindOf
 reads t v =
-    let g = gets-node t [] 0 [] semicolonByte [] (v .labels) (v .different) (omega (arith, v .few, inner-leaves t)) semicolon-plain 0 in
+    let g = gets-node t [] 0 [] semicolonByte [] (v .labels) (v .different) (omega (arith, v .few, leaves-inner t)) semicolon-plain 0 in
     let h = gets-next (afterNode t) [] (0 + inner t) (leaves t) semicolonByte [] (at (ended t) [] (0 + inner t) (leaves t)) refl (g .0) in g .1 ∙ h .1
 
 -- a text that is accepted is the text of the tree read, and that tree is valid
@@ -189,7 +180,7 @@ accepts text t e = let r = subst (Result text) e (reading text) in (r .0, r .1)
 
 -- trees with the same text are the same, if they are valid
 pub text-injective : (s t : Tree) → Valid s → Valid t → textOf s ≡ textOf t → s ≡ t
-text-injective s t v w e = text-unique s t (good-loose (leaves s) (v .labels)) (good-loose (leaves t) (w .labels)) e
+text-injective s t v w e = text-read s t (good-loose (leaves s) (v .labels)) (good-loose (leaves t) (w .labels)) e
 
 -- an accepted text has one `(` less than the tree has leaves
 pub accepted-opens : (text : List ℕ) (t : Tree) → readTree text ≡ good t → length (leaves t) ≡ suc (occurrences openByte text)

@@ -1,7 +1,7 @@
 -- Reading without limits and without the test for repeats: it stops exactly at the first byte after which the text can no longer be
 -- continued to one of the grammar. Assumes nothing.
 use Prim.Native.Nat.{ℕ, _≤_}
-use mathlib.Core.Path.{_≡_, refl, sym, _∙_, ap, subst}
+use mathlib.Core.Path.{_≡_, refl, _∙_, ap, subst}
 use mathlib.Core.Bool.{true, false}
 use mathlib.Core.List.{List, [], _∷_, _++_, append-assoc}
 use native.Mathlib.Omega.{arith}
@@ -16,10 +16,11 @@ use Rattle.trees.specs.Faults.{Continues}
 use Rattle.newick.specs.ReadTree.{Opened, first, second, Phase, nodeDue, inLabel, afterNode, ended}
 use Rattle.newick.specs.Grammar.{TreeText}
 use Rattle.trees.proofs.Bools.{clash}
-use Rattle.trees.proofs.RawRuns.{Raw, on, halt, rawRun, raw-nil, raw-cons, raw-same, raw-label, stopped, on-same}
-use Rattle.trees.proofs.ReadingLaws.{KindView, is-label, is-open, is-close, is-comma, is-semicolon, is-other, kind-view}
-use Rattle.trees.proofs.ReadingLaws.{kind-label, close-plain, comma-plain, semicolon-plain, loose-head, loose-cons, loose-none}
-use Rattle.trees.proofs.ReadingLaws.{loose-append, loose-split}
+use Rattle.trees.proofs.ListLaws.{loose-head, loose-cons, loose-none, loose-join, loose-split}
+use Rattle.trees.proofs.RawRuns.{Raw, on, halt, rawRun, raw-nil, raw-cons, raw-same, raw-label, stopped}
+use Rattle.trees.proofs.ReadingLaws.{KindView, is-label, is-open, is-close, is-comma, is-semicolon, is-other, kind-view, kind-label}
+use Rattle.trees.proofs.ReadingLaws.{close-plain, comma-plain, semicolon-plain}
+use Rattle.trees.proofs.WrittenLaws.{written-node}
 
 -- a place in the text: the phase and the open `(`
 abbrev pub Spot : Type 0
@@ -83,11 +84,6 @@ raw-leaf stack x c rest l h n =
     same Semicolon (is-semicolon e l) = refl
     same Other (is-other l) = refl
 
--- the text of a node with two children, followed by q
-pub written-node : (a b : Tree) (q : List ℕ) → written (node a b) ++ q ≡ openByte ∷ (written a ++ (commaByte ∷ (written b ++ (closeByte ∷ q))))
-unfolding written
-written-node a b q = simp append-assoc
-
 pub written-leaf : (x : Label) → written (leaf x) ≡ x
 unfolding written
 written-leaf x = refl
@@ -113,13 +109,6 @@ unfolding textOf rawStep kindOf
 raw-text t h =
     raw-node t [] semicolonByte [] h semicolon-plain ∙ raw-cons rawByte (afterNode t, []) (ended t, []) semicolonByte [] refl
     ∙ raw-nil rawByte (ended t, [])
-
--- so trees with the same text are the same
-pub text-unique : (s t : Tree) → looseLabels (leaves s) ≡ true → looseLabels (leaves t) ≡ true → textOf s ≡ textOf t → s ≡ t
-text-unique s t h k e = go (ap (λ (z : Spot). z .0) (on-same (sym (raw-text s h) ∙ ap rawText e ∙ raw-text t k)))
-  where
-    go : ended s ≡ ended t → s ≡ t
-    go p = cc
 
 -- and where the reading stopped, no text of the grammar goes on
 pub tree-stopped : (p : List ℕ) → rawText p ≡ halt → Continues TreeText p → ⊥
@@ -158,9 +147,9 @@ closed-loose : (stack : List Opened) (t : Tree) → looseLabels (stackLabels sta
 unfolding closed leaves looseLabels allLabelBytes isLabelByte
 closed-loose [] t h k = k
 closed-loose (first ∷ stack) t h k =
-    closed-loose stack (node t (leaf (97 ∷ []))) h (loose-append (leaves t) ((97 ∷ []) ∷ []) k refl)
+    closed-loose stack (node t (leaf (97 ∷ []))) h (loose-join (leaves t) ((97 ∷ []) ∷ []) k refl)
 closed-loose (second a ∷ stack) t h k =
-    let g = loose-split (stackLabels stack) (leaves a) h in closed-loose stack (node a t) (g .0) (loose-append (leaves a) (leaves t) (g .1) k)
+    let g = loose-split (stackLabels stack) (leaves a) h in closed-loose stack (node a t) (g .0) (loose-join (leaves a) (leaves t) (g .1) k)
 
 -- what was read can be continued, after a node, inside a label, and where a node is due
 pub after-continues : (stack : List Opened) (t : Tree) → looseLabels (stackLabels stack) ≡ true → looseLabels (leaves t) ≡ true

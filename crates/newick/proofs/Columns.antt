@@ -10,9 +10,10 @@ use Rattle.trees.specs.Label.{Label}
 use Rattle.trees.specs.Tree.{Tree, leaf, node}
 use Rattle.trees.specs.Text.{written}
 use Rattle.trees.specs.Arrays.{nodesOf, lefts, rights, starts, sizes, padded, nodeLimit}
+use Rattle.trees.proofs.ArrayLaws.{padded-length}
 use Rattle.newick.specs.ReadTree.{Opened, first, second, Phase, nodeDue, inLabel, afterNode, ended}
 use Rattle.newick.proofs.OpenNodes.{textIn, nodesIn, second-place}
-use Rattle.newick.proofs.Entries.{stored, kept, padded-length}
+use Rattle.newick.proofs.Entries.{stored, kept}
 
 -- an array's entries for a tree whose first node has number n and whose text starts at p
 abbrev pub Column : Type 0

@@ -4,7 +4,7 @@ use mathlib.Core.Path.{_≡_, ap}
 use mathlib.Core.List.{List, [], _∷_, _++_}
 use native.Mathlib.Omega.{arith}
 use native.Mathlib.Nat.{suc-inj}
-use lib.ListN.{length, getD, set, replicate, length-append, length-replicate}
+use lib.ListN.{length, getD, set, replicate, length-append}
 use lib.Seq.{set-append-seam, append-snoc}
 use Rattle.trees.specs.Arrays.{padded, nodeLimit}
 
@@ -18,9 +18,6 @@ pub padded-more : (xs : List ℕ) (v : ℕ) → length xs < nodeLimit → padded
 padded-more xs v h =
     let e : length (xs ++ (v ∷ [])) ≡ suc (length xs) = simp length-append (omega arith) in
     rw e (append-snoc xs v (replicate (nodeLimit - suc (length xs)) 0))
-
-pub padded-length : (xs : List ℕ) → length xs ≤ nodeLimit → length (padded xs) ≡ nodeLimit
-padded-length xs h = simp (length-append, length-replicate) (omega arith)
 
 -- an entry stored just after those that are filled
 pub stored : {a : List ℕ} (xs ys : List ℕ) (v n : ℕ) → n ≡ length xs → n < nodeLimit → ys ≡ xs ++ (v ∷ []) → a ≡ padded xs → set a n v ≡ padded ys

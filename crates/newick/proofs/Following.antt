@@ -12,14 +12,15 @@ use Rattle.trees.specs.Label.{Label, labelLimit, allLabelBytes}
 use Rattle.trees.specs.Tree.{Tree, leaf, node, leaves}
 use Rattle.trees.specs.Text.{written, textOf}
 use Rattle.trees.specs.Arrays.{nodesOf, nodeLimit}
-use Rattle.trees.proofs.Bools.{and-left, and-right, and-intro}
+use Rattle.trees.proofs.ListLaws.{bytes-snoc}
+use Rattle.trees.proofs.ArrayLaws.{nodes-pos, node-length}
 use Rattle.newick.specs.declared.Mode.{Mode}
 use Rattle.newick.specs.declared.Mode.the-variants.{Due, Inside, After, Done}
 use Rattle.newick.specs.declared.Scan.{Scan}
 use Rattle.newick.specs.ReadTree.{Opened, first, second, Phase, nodeDue, inLabel, afterNode, ended}
 use Rattle.newick.specs.Machine.{openLimit, Arrays, arrays, scan, leafScan, leafArrays}
 use Rattle.newick.proofs.OpenNodes.{inner, nodes-inner, textIn, nodesIn, leavesIn, opensIn, second-place, nodes-bound}
-use Rattle.newick.proofs.OpenNodes.{depth-bound, heading, opensHere, nodesHere, labelsBy, written-node, nodes-some}
+use Rattle.newick.proofs.OpenNodes.{depth-bound, heading, opensHere, nodesHere, labelsBy}
 use Rattle.newick.proofs.Columns.{Column, columnIn, filled, Columns, refilled, comma-filled, same-length, leaf-columns}
 use Rattle.newick.proofs.Columns.{node-columns}
 use Rattle.newick.proofs.Entries.{pair-stored}
@@ -67,13 +68,6 @@ pub record Follows (text : List ℕ) (ph : Phase) (s : List Opened) (seen : List
   pub stack : Stacked s (a .stack)
   pub within : (v : ℕ) → getD (a .start) v 0 + getD (a .size) v 0 ≤ i
   pub mode : ModeIs ph s (st .mode)
-
-bytes-snoc : (x : List ℕ) (b : ℕ) → allLabelBytes x ≡ true → isLabelByte b ≡ true → allLabelBytes (x ++ (b ∷ [])) ≡ true
-unfolding allLabelBytes
-bytes-snoc [] b h k = rw k
-bytes-snoc (c ∷ x) b h k =
-    and-intro (isLabelByte c) (allLabelBytes (x ++ (b ∷ []))) (and-left (isLabelByte c) (allLabelBytes x) h)
-    (bytes-snoc x b (and-right (isLabelByte c) (allLabelBytes x) h) k)
 
 module _ {text : List ℕ} {s : List Opened} {seen : List Label} {st : Scan} {a : Arrays} {i : ℕ} {rest : List ℕ} where
   -- a label begins
@@ -164,7 +158,7 @@ module _ {text : List ℕ} {s : List Opened} {seen : List Label} {st : Scan} {a 
   comma-follows {t = t} eb F =
       let C = F .counts in
       let d : st .depth - 1 ≡ length s = omega (arith, C .depth) in
-      let m : nodesIn s + nodesOf t - 1 + 1 ≡ nodesIn s + nodesOf t = omega (arith, nodes-some t) in
+      let m : nodesIn s + nodesOf t - 1 + 1 ≡ nodesIn s + nodesOf t = omega (arith, nodes-pos t) in
       let inside : length s < length (a .stack) = omega (arith, F .stack .wide, C .few, C .opens, depth-bound s) in
       record {
         parted = F .parted ∙ rw eb (simp append-assoc);
@@ -195,13 +189,13 @@ module _ {text : List ℕ} {s : List Opened} {seen : List Label} {st : Scan} {a 
       let room : st .nodes < nodeLimit = omega (arith, C .nodes, C .opens, C .few, nodes-bound (second c ∷ s), nodes-inner t) in
       record {
         parted = F .parted ∙ rw eb (simp append-assoc);
-        place = omega (arith, F .place, second-place c s, written-node c t);
+        place = omega (arith, F .place, second-place c s, node-length c t);
         counts = record { depth = d; opens = omega (arith, C .opens); few = C .few; nodes = omega (arith, C .nodes) };
         labels = F .labels ∙ append-assoc (leavesIn s) (leaves c) (leaves t);
         columns = node-columns (st .nodes) (getD (a .stack) (st .depth - 1) 0) (F .columns) (C .nodes) room (rw d (F .stack .holds .0));
         stack = record { wide = F .stack .wide; holds = F .stack .holds .1 };
         within = λ (v : ℕ). omega (arith, F .within v);
-        mode = ap After (omega (arith, C .nodes, nodes-some t));
+        mode = ap After (omega (arith, C .nodes, nodes-pos t));
       }
 
 -- `;` after the whole tree

@@ -1,6 +1,6 @@
 -- The reading machine, one step of a loop that counts down at a time, and where its mode is known. Assumes nothing.
 use Prim.Native.Nat.{ℕ, zero, suc, _+_, _-_, _<_, _≤_}
-use mathlib.Core.Path.{_≡_, refl, ap, _∙_, subst}
+use mathlib.Core.Path.{_≡_, refl, ap, subst}
 use mathlib.Core.Bool.{true, false, _&&_, _||_}
 use mathlib.Core.List.{List}
 use native.Mathlib.Omega.{arith}
@@ -11,8 +11,6 @@ use borrow.Author.Tests.{eq-eqb, ne-eqb}
 use Rattle.trees.specs.declared.Kind.{Kind}
 use Rattle.trees.specs.declared.Body.{Body}
 use Rattle.trees.specs.declared.Reason.the-variants.{BadByte}
-use Rattle.trees.specs.Bytes.{kindOf, kindOfCode, classTable}
-use Rattle.trees.proofs.ByteLaws.{class-rule}
 use Rattle.newick.specs.declared.Mode.{Mode}
 use Rattle.newick.specs.declared.Mode.the-variants.{Due, Inside, After, Done}
 use Rattle.newick.specs.declared.Scan.{Scan}
@@ -58,10 +56,6 @@ pub repeat-miss : (text start size : List ℕ) (i first len : ℕ) → 0 < i
     → sameLeaf text (getD start (i - 1) 0) (getD size (i - 1) 0) first len ≡ false
     → repeatOf text start size i first len ≡ repeatOf text start size (i - 1) first len
 repeat-miss text start size i first len h e = rw (repeat-step text start size i first len h) (rw e)
-
--- the class table tells the kind of each byte
-pub kind-told : (table : List ℕ) (b : ℕ) (k : Kind) → table ≡ classTable → b < 256 → k ≡ kindOfCode (getD table b 0) → k ≡ kindOf b
-kind-told table b k e h q = q ∙ ap (λ (t : List ℕ). kindOfCode (getD t b 0)) e ∙ class-rule b h
 
 -- a step where the mode is known
 pub move-due : (m : Mode) (text : List ℕ) (st : Scan) (a : Arrays) (i : ℕ) (k : Kind) → m ≡ Due

@@ -4,21 +4,24 @@ use Prim.Native.Nat.{ℕ, _+_, _-_, _≤_, _<_}
 use mathlib.Core.Path.{_≡_, refl, ap, sym, _∙_, subst}
 use mathlib.Core.Bool.{Bool, true, false, cond}
 use mathlib.Core.Logic.{_⊎_, inl, inr}
-use mathlib.Core.List.{List, [], _∷_, _++_, append-assoc, append-nil}
+use mathlib.Core.List.{List, [], _∷_, _++_, append-assoc}
 use native.Mathlib.Omega.{arith}
 use lib.Dec.{eqb, ltb}
 use lib.ListN.{length, getD, set, length-append}
 use lib.Seq.{drop-at, take-at}
-use borrow.Author.Tests.{eq-eqb, ne-eqb, eqb-true, ltb-true, ltb-false, le-leb, lt-leb}
+use borrow.Author.Tests.{eq-eqb, ne-eqb, ltb-true, ltb-false}
 use Rattle.trees.specs.declared.Kind.{Kind}
 use Rattle.trees.specs.declared.Kind.the-variants.{Label as LabelByte, Open, Close, Comma, Semicolon, Other}
 use Rattle.trees.specs.declared.Reason.the-variants.{LabelTooLong, TooMany, Repeated}
-use Rattle.trees.specs.Bytes.{isLabelByte, kindOf, openByte, closeByte, commaByte, semicolonByte}
-use Rattle.trees.specs.Label.{Label, labelLimit, allLabelBytes, isIn}
+use Rattle.trees.specs.Bytes.{isLabelByte, kindOf}
+use Rattle.trees.specs.Label.{Label, labelLimit, isIn}
 use Rattle.trees.specs.Tree.{Tree, leaf, node, leafLimit}
-use Rattle.trees.specs.Reading.{Reading, refused, labelRun, repeats}
+use Rattle.trees.specs.Reading.{Reading, refused, repeats}
 use Rattle.trees.specs.Arrays.{nodesOf}
-use Rattle.trees.proofs.Bools.{bool-cases, and-left, and-right}
+use Rattle.trees.proofs.Bools.{bool-cases}
+use Rattle.trees.proofs.ReadingLaws.{KindView, is-label, is-open, is-close, is-comma, is-semicolon, is-other, kind-view, run-none}
+use Rattle.trees.proofs.ReadingLaws.{repeats-ended, repeats-long}
+use Rattle.trees.proofs.ArrayLaws.{nodes-pos}
 use Rattle.newick.specs.declared.Mode.the-variants.{Due, Inside}
 use Rattle.newick.specs.declared.Scan.{Scan}
 use Rattle.newick.specs.ReadTree.{Opened, first, second, Phase, nodeDue, inLabel, afterNode, ended, State, Step, next, stop}
@@ -26,36 +29,11 @@ use Rattle.newick.specs.ReadTree.{step, stepAfter, stepDue, stepLabel, r
 use Rattle.newick.specs.Machine.{openLimit, Arrays, arrays, Outcome, on, halt, scan, leafScan, leafArrays, repeatOf, dueOf}
 use Rattle.newick.specs.Machine.{closeOf, commaOf, afterOf, labelEnd, insideOf, moveOf}
 use Rattle.newick.proofs.MachineLaws.{move-due, move-inside, move-after, move-done}
-use Rattle.newick.proofs.OpenNodes.{textIn, nodesIn, nodes-some}
+use Rattle.newick.proofs.OpenNodes.{textIn, nodesIn}
 use Rattle.newick.proofs.Columns.{filled}
 use Rattle.newick.proofs.RepeatLaws.{repeat-seen}
 use Rattle.newick.proofs.Following.{Follows, begin-follows, more-follows, leaf-follows, open-follows, comma-follows}
 use Rattle.newick.proofs.Following.{close-follows, semicolon-follows}
-
--- what a byte's kind says of it
-abbrev KindSays : Kind → ℕ → Type 0
-KindSays LabelByte b = isLabelByte b ≡ true
-KindSays Open b = (b ≡ openByte) × (isLabelByte b ≡ false)
-KindSays Close b = (b ≡ closeByte) × (isLabelByte b ≡ false)
-KindSays Comma b = (b ≡ commaByte) × (isLabelByte b ≡ false)
-KindSays Semicolon b = (b ≡ semicolonByte) × (isLabelByte b ≡ false)
-KindSays Other b = isLabelByte b ≡ false
-
-kind-says : (b : ℕ) → KindSays (kindOf b) b
-unfolding kindOf
-kind-says b =
-    go (bool-cases (isLabelByte b)) (bool-cases (eqb b openByte)) (bool-cases (eqb b closeByte)) (bool-cases (eqb b commaByte))
-    (bool-cases (eqb b semicolonByte))
-  where
-    go : (isLabelByte b ≡ true) ⊎ (isLabelByte b ≡ false) → (eqb b openByte ≡ true) ⊎ (eqb b openByte ≡ false)
-        → (eqb b closeByte ≡ true) ⊎ (eqb b closeByte ≡ false) → (eqb b commaByte ≡ true) ⊎ (eqb b commaByte ≡ false)
-        → (eqb b semicolonByte ≡ true) ⊎ (eqb b semicolonByte ≡ false) → KindSays (kindOf b) b
-    go (inl h) p q r s = rw h h
-    go (inr h) (inl p) q r s = rw (h, p) (eqb-true b openByte p, h)
-    go (inr h) (inr p) (inl q) r s = rw (h, p, q) (eqb-true b closeByte q, h)
-    go (inr h) (inr p) (inr q) (inl r) s = rw (h, p, q, r) (eqb-true b commaByte r, h)
-    go (inr h) (inr p) (inr q) (inr r) (inl s) = rw (h, p, q, r, s) (eqb-true b semicolonByte s, h)
-    go (inr h) (inr p) (inr q) (inr r) (inr s) = rw (h, p, q, r, s) h
 
 -- inside a label the reading has looked ahead: a repeat was told at its first byte
 abbrev pub pending : Phase → List Label → List ℕ → Bool
@@ -114,58 +92,30 @@ module _ {text : List ℕ} {t : Tree} {s : List Opened} {seen : List Label} {st 
       let e : st .depth - 1 ≡ length s = omega (arith, F .counts .depth) in
       let v : getD (a .stack) (st .depth - 1) 0 ≡ nodesIn s + nodesOf c = rw e (F .stack .holds .0) in
       ne-eqb (getD (a .stack) (st .depth - 1) 0) 0
-      (λ (q : getD (a .stack) (st .depth - 1) 0 ≡ 0). absurd (omega (arith, nodes-some c, v, q)))
+      (λ (q : getD (a .stack) (st .depth - 1) 0 ≡ 0). absurd (omega (arith, nodes-pos c, v, q)))
 
 -- a byte after a node
 moves-after : {text : List ℕ} {t : Tree} (s : List Opened) {seen : List Label} {st : Scan} {a : Arrays} {i b : ℕ} {rest : List ℕ} (k : Kind)
-    → KindSays k b → Follows text (afterNode t) s seen st a i (b ∷ rest)
+    → KindView b k → Follows text (afterNode t) s seen st a i (b ∷ rest)
     → Leads text (after (stepAfter t s (st .opens) seen k) i rest) (i + 1) rest (afterOf st a (nodesIn s + nodesOf t - 1) i k)
 unfolding stepAfter afterOf closeOf commaOf nodesIn
 moves-after s LabelByte h F = refl
 moves-after s Open h F = refl
 moves-after [] {st = st} Close h F = rw (eq-eqb (st .depth) 0 (F .counts .depth))
 moves-after (first ∷ s) Close h F = rw (not-flat F, top-first F)
-moves-after {t = t} (second c ∷ s) {seen = seen} Close h F =
+moves-after {t = t} (second c ∷ s) {seen = seen} Close (is-close e l) F =
     rw (not-flat F, top-second F)
-    (record { ph = afterNode (node c t); s = s; seen = seen; follows = close-follows (h .0) F; told = refl })
+    (record { ph = afterNode (node c t); s = s; seen = seen; follows = close-follows e F; told = refl })
 moves-after [] {st = st} Comma h F = rw (eq-eqb (st .depth) 0 (F .counts .depth))
-moves-after {t = t} (first ∷ s) {seen = seen} Comma h F =
+moves-after {t = t} (first ∷ s) {seen = seen} Comma (is-comma e l) F =
     rw (not-flat F, top-first F)
-    (record { ph = nodeDue; s = second t ∷ s; seen = seen; follows = comma-follows (h .0) F; told = refl })
+    (record { ph = nodeDue; s = second t ∷ s; seen = seen; follows = comma-follows e F; told = refl })
 moves-after (second c ∷ s) Comma h F = rw (not-flat F, top-second F)
-moves-after {t = t} [] {seen = seen} {st = st} Semicolon h F =
+moves-after {t = t} [] {seen = seen} {st = st} Semicolon (is-semicolon e l) F =
     rw (eq-eqb (st .depth) 0 (F .counts .depth))
-    (record { ph = ended t; s = []; seen = seen; follows = semicolon-follows (h .0) F; told = refl })
+    (record { ph = ended t; s = []; seen = seen; follows = semicolon-follows e F; told = refl })
 moves-after (p ∷ s) Semicolon h F = rw (not-flat F)
 moves-after s Other h F = refl
-
--- the longest run of label bytes goes through label bytes
-run-through : (x r : List ℕ) → allLabelBytes x ≡ true → labelRun (x ++ r) ≡ x ++ labelRun r
-unfolding labelRun allLabelBytes
-run-through [] r h = refl
-run-through (b ∷ x) r h =
-    rw (and-left (isLabelByte b) (allLabelBytes x) h)
-    (ap (λ (l : List ℕ). b ∷ l) (run-through x r (and-right (isLabelByte b) (allLabelBytes x) h)))
-
-run-stops : (b : ℕ) (r : List ℕ) → isLabelByte b ≡ false → labelRun (b ∷ r) ≡ []
-unfolding labelRun
-run-stops b r h = rw h
-
--- a label that ends here repeats exactly if it was seen
-pub repeats-ended : (seen : List Label) (x r : List ℕ) → allLabelBytes x ≡ true → length x ≤ labelLimit → labelRun r ≡ []
-    → repeats seen (x ++ r) ≡ isIn x seen
-unfolding repeats
-repeats-ended seen x r h l e =
-    let q : labelRun (x ++ r) ≡ x = run-through x r h ∙ ap (λ (w : List ℕ). x ++ w) e ∙ append-nil x in
-    rw (q, le-leb (length x) labelLimit l)
-
--- an overlong one does not
-repeats-long : (seen : List Label) (x : Label) (b : ℕ) (r : List ℕ) → allLabelBytes x ≡ true → isLabelByte b ≡ true
-    → labelLimit ≤ length x → repeats seen (x ++ (b ∷ r)) ≡ false
-unfolding repeats labelRun
-repeats-long seen x b r h k l =
-    let q : labelRun (x ++ (b ∷ r)) ≡ x ++ (b ∷ labelRun r) = run-through x (b ∷ r) h ∙ rw k in
-    rw (q, lt-leb (length (x ++ (b ∷ labelRun r))) labelLimit (omega (arith, length-append x (b ∷ labelRun r), l)))
 
 module _ {text : List ℕ} {x : Label} {s : List Opened} {seen : List Label} {st : Scan} {a : Arrays} {i : ℕ} {rest : List ℕ} where
   -- the code's comparison
@@ -185,14 +135,14 @@ module _ {text : List ℕ} {x : Label} {s : List Opened} {seen : List Label} {st
 module _ {text : List ℕ} {x : Label} {s : List Opened} {seen : List Label} {st : Scan} {a : Arrays} {i b : ℕ} {rest : List ℕ}
     (F : Follows text (inLabel x) s seen st a i (b ∷ rest)) where
   -- the byte after a label
-  moves-end : (k : Kind) → KindSays k b → isLabelByte b ≡ false
+  moves-end : (k : Kind) → KindView b k → isLabelByte b ≡ false
       → stepLabel x s (st .opens) seen b k ≡ stepAfter (leaf x) s (st .opens) (seen ++ (x ∷ [])) k
       → Leads text
       (cond (repeats seen (x ++ (b ∷ rest))) (refused Repeated (length (textIn s))) (after (stepLabel x s (st .opens) seen b k) i rest))
       (i + 1) rest (labelEnd text st a (length (textIn s)) (length x) i k)
   unfolding labelEnd nodesOf
   moves-end k h n e =
-      rw (repeats-ended seen x (b ∷ rest) (F .mode .1) (F .mode .3) (run-stops b rest n), seen-before F, e) (go (bool-cases (isIn x seen)))
+      rw (repeats-ended seen x (b ∷ rest) (F .mode .1) (F .mode .3) (run-none b rest n), seen-before F, e) (go (bool-cases (isIn x seen)))
     where
       u : nodesIn s + nodesOf (leaf x) - 1 ≡ st .nodes
       u = omega (arith, F .counts .nodes)
@@ -207,12 +157,12 @@ module _ {text : List ℕ} {x : Label} {s : List Opened} {seen : List Label} {st
       go (inr q) = rw q (rw u at (moves-after s k h (leaf-follows F)))
 
   -- a byte inside or just after a label
-  moves-label : (k : Kind) → KindSays k b
+  moves-label : (k : Kind) → KindView b k
       → Leads text
       (cond (repeats seen (x ++ (b ∷ rest))) (refused Repeated (length (textIn s))) (after (stepLabel x s (st .opens) seen b k) i rest))
       (i + 1) rest (insideOf text st a (length (textIn s)) (length x) i k)
   unfolding insideOf stepLabel stepAfter
-  moves-label LabelByte h = go (bool-cases (ltb (length x) labelLimit))
+  moves-label LabelByte (is-label h) = go (bool-cases (ltb (length x) labelLimit))
     where
       go : (ltb (length x) labelLimit ≡ true) ⊎ (ltb (length x) labelLimit ≡ false)
           → Leads text
@@ -234,19 +184,19 @@ module _ {text : List ℕ} {x : Label} {s : List Opened} {seen : List Label} {st
       go (inr q) =
           let l : labelLimit ≤ length x = ltb-false (length x) labelLimit q in
           rw (q, repeats-long seen x b rest (F .mode .1) h l, eq-eqb (length x) labelLimit (omega (arith, l, F .mode .3)))
-  moves-label Open h = moves-end Open h (h .1) refl
-  moves-label Close h = moves-end Close h (h .1) refl
-  moves-label Comma h = moves-end Comma h (h .1) refl
-  moves-label Semicolon h = moves-end Semicolon h (h .1) refl
-  moves-label Other h = moves-end Other h h refl
+  moves-label Open (is-open e l) = moves-end Open (is-open e l) l refl
+  moves-label Close (is-close e l) = moves-end Close (is-close e l) l refl
+  moves-label Comma (is-comma e l) = moves-end Comma (is-comma e l) l refl
+  moves-label Semicolon (is-semicolon e l) = moves-end Semicolon (is-semicolon e l) l refl
+  moves-label Other (is-other l) = moves-end Other (is-other l) l refl
 
 -- a byte where a node must begin
 module _ {text : List ℕ} {s : List Opened} {seen : List Label} {st : Scan} {a : Arrays} {i b : ℕ} {rest : List ℕ}
     (F : Follows text nodeDue s seen st a i (b ∷ rest)) where
-  moves-due : (k : Kind) → KindSays k b
+  moves-due : (k : Kind) → KindView b k
       → Leads text (after (stepDue s (st .opens) seen (repeats seen (b ∷ rest)) b k) i rest) (i + 1) rest (dueOf st a i k)
   unfolding stepDue dueOf
-  moves-due LabelByte h =
+  moves-due LabelByte (is-label h) =
       record { ph = inLabel (b ∷ []); s = s; seen = seen; follows = begin-follows h F; told = go (repeats seen (b ∷ rest)) }
     where
       go : (q : Bool)
@@ -254,7 +204,7 @@ module _ {text : List ℕ} {s : List Opened} {seen : List Label} {st : Scan} {a 
           ≡ after (cond q (stop Repeated) (next (state (inLabel (b ∷ [])) s (st .opens) seen))) i rest
       go true = ap (refused Repeated) (omega (arith, F .place))
       go false = refl
-  moves-due Open h = go (bool-cases (ltb (st .opens) openLimit))
+  moves-due Open (is-open o n) = go (bool-cases (ltb (st .opens) openLimit))
     where
       go : (ltb (st .opens) openLimit ≡ true) ⊎ (ltb (st .opens) openLimit ≡ false)
           → Leads text
@@ -267,7 +217,7 @@ module _ {text : List ℕ} {s : List Opened} {seen : List Label} {st : Scan} {a 
       go (inl q) =
           let l : st .opens < openLimit = ltb-true (st .opens) openLimit q in
           rw (q, ne-eqb (st .opens) openLimit (λ (e : st .opens ≡ openLimit). absurd (omega (arith, l, e))))
-          (record { ph = nodeDue; s = first ∷ s; seen = seen; follows = open-follows (h .0) l F; told = refl })
+          (record { ph = nodeDue; s = first ∷ s; seen = seen; follows = open-follows o l F; told = refl })
       go (inr q) =
           let l : openLimit ≤ st .opens = ltb-false (st .opens) openLimit q in
           rw (q, eq-eqb (st .opens) openLimit (omega (arith, l, F .counts .few)))
@@ -288,15 +238,15 @@ pub moves : {text : List ℕ} (ph : Phase) {s : List Opened} {seen : List Label}
 unfolding step
 moves {text = text} nodeDue {s = s} {seen = seen} {st = st} {a = a} {i = i} {b = b} {rest = rest} F =
     leads-as text (i + 1) rest (sym (read-cons (state nodeDue s (st .opens) seen) i b rest))
-    (sym (move-due (st .mode) text st a i (kindOf b) (F .mode))) (moves-due F (kindOf b) (kind-says b))
+    (sym (move-due (st .mode) text st a i (kindOf b) (F .mode))) (moves-due F (kindOf b) (kind-view b))
 moves {text = text} (inLabel x) {s = s} {seen = seen} {st = st} {a = a} {i = i} {b = b} {rest = rest} F =
     leads-as text (i + 1) rest
     (ap (λ (r : Reading Tree). cond (repeats seen (x ++ (b ∷ rest))) (refused Repeated (length (textIn s))) r)
     (sym (read-cons (state (inLabel x) s (st .opens) seen) i b rest)))
-    (sym (move-inside (st .mode) text st a i (kindOf b) (length (textIn s)) (length x) (F .mode .0))) (moves-label F (kindOf b) (kind-says b))
+    (sym (move-inside (st .mode) text st a i (kindOf b) (length (textIn s)) (length x) (F .mode .0))) (moves-label F (kindOf b) (kind-view b))
 moves {text = text} (afterNode t) {s = s} {seen = seen} {st = st} {a = a} {i = i} {b = b} {rest = rest} F =
     leads-as text (i + 1) rest (sym (read-cons (state (afterNode t) s (st .opens) seen) i b rest))
-    (sym (move-after (st .mode) text st a i (kindOf b) (nodesIn s + nodesOf t - 1) (F .mode))) (moves-after s (kindOf b) (kind-says b) F)
+    (sym (move-after (st .mode) text st a i (kindOf b) (nodesIn s + nodesOf t - 1) (F .mode))) (moves-after s (kindOf b) (kind-view b) F)
 moves {text = text} (ended t) {s = s} {seen = seen} {st = st} {a = a} {i = i} {b = b} {rest = rest} F =
     leads-as text (i + 1) rest (sym (read-cons (state (ended t) s (st .opens) seen) i b rest))
     (sym (move-done (st .mode) text st a i (kindOf b) (F .mode .0))) refl

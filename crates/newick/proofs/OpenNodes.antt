@@ -92,10 +92,3 @@ labelsBy s nodeDue = leavesIn s
 labelsBy s (inLabel x) = leavesIn s
 labelsBy s (afterNode t) = leavesIn s ++ leaves t
 labelsBy s (ended t) = leavesIn s ++ leaves t
-
-pub written-node : (a t : Tree) → length (written (node a t)) ≡ length (written a) + length (written t) + 3
-unfolding written
-written-node a t = simp length-append (omega arith)
-
-pub nodes-some : (t : Tree) → 1 ≤ nodesOf t
-nodes-some t = omega (arith, nodes-inner t)

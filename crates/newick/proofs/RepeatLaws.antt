@@ -1,7 +1,7 @@
 -- The comparison of a label with the leaves so far is the test whether it was seen. Assumes nothing.
 use Prim.Native.Nat.{ℕ, zero, suc, _+_, _-_, _≤_}
 use mathlib.Core.Path.{_≡_, refl, ap, ap₂, sym, _∙_}
-use mathlib.Core.Bool.{Bool, true, false, _&&_, _||_, or-false}
+use mathlib.Core.Bool.{Bool, true, false, _&&_, _||_, or-false, and-assoc, and-comm, or-assoc}
 use mathlib.Core.Logic.{_⊎_, inl, inr}
 use mathlib.Core.List.{List, [], _∷_, _++_, append-assoc}
 use native.Mathlib.Omega.{arith}
@@ -17,36 +17,18 @@ use Rattle.trees.specs.Text.{written}
 use Rattle.trees.specs.Arrays.{starts, sizes, padded, nodeLimit}
 use Rattle.trees.proofs.Bools.{bool-cases}
 use Rattle.trees.proofs.LabelLaws.{ne-same}
+use Rattle.trees.proofs.ListLaws.{in-append}
 use Rattle.newick.specs.ReadTree.{Opened, first, second}
 use Rattle.newick.specs.Machine.{sameBytes, sameLeaf, repeatOf}
 use Rattle.newick.proofs.OpenNodes.{textIn, nodesIn, leavesIn}
 use Rattle.newick.proofs.Columns.{columnIn, startColumn, sizeColumn, start-columnar, size-columnar, column-length}
 use Rattle.newick.proofs.Columns.{column-in-length}
 
-or-assoc : (a b c : Bool) → ((a || b) || c) ≡ (a || (b || c))
-or-assoc true b c = refl
-or-assoc false b c = refl
-
 or-last : (a b : Bool) → (a || (b || false)) ≡ (b || a)
 or-last true true = refl
 or-last true false = refl
 or-last false true = refl
 or-last false false = refl
-
-and-comm : (a b : Bool) → (a && b) ≡ (b && a)
-and-comm true true = refl
-and-comm true false = refl
-and-comm false true = refl
-and-comm false false = refl
-
-and-assoc : (a b c : Bool) → (a && (b && c)) ≡ ((a && b) && c)
-and-assoc true b c = refl
-and-assoc false b c = refl
-
-in-append : (x : Label) (l m : List Label) → isIn x (l ++ m) ≡ (isIn x l || isIn x m)
-unfolding isIn
-in-append x [] m = refl
-in-append x (y ∷ l) m = ap (λ (b : Bool). sameLabel x y || b) (in-append x l m) ∙ sym (or-assoc (sameLabel x y) (isIn x l) (isIn x m))
 
 -- labels compared from their ends
 same-snoc : (x y : Label) (a b : ℕ) → length x ≡ length y → sameLabel (x ++ (a ∷ [])) (y ++ (b ∷ [])) ≡ (eqb a b && sameLabel x y)
@@ -56,7 +38,7 @@ same-snoc [] (c ∷ y) a b e = absurd (omega (arith, e))
 same-snoc (c ∷ x) [] a b e = absurd (omega (arith, e))
 same-snoc (c ∷ x) (d ∷ y) a b e =
     ap (λ (t : Bool). eqb c d && t) (same-snoc x y a b (suc-inj e) ∙ and-comm (eqb a b) (sameLabel x y))
-    ∙ and-assoc (eqb c d) (sameLabel x y) (eqb a b)
+    ∙ sym (and-assoc (eqb c d) (sameLabel x y) (eqb a b))
     ∙ and-comm (eqb c d && sameLabel x y) (eqb a b)
 
 bytes-label : (text : List ℕ) (p q n : ℕ) → p + n ≤ length text → q + n ≤ length text

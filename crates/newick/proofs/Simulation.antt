@@ -17,6 +17,7 @@ use Rattle.trees.specs.Label.{Label, isIn}
 use Rattle.trees.specs.Tree.{Tree, leaves}
 use Rattle.trees.specs.Reading.{good, refused, labelRun}
 use Rattle.trees.specs.Arrays.{nodesOf, nodeLimit, arraysOf}
+use Rattle.trees.proofs.ReadingLaws.{repeats-ended}
 use Rattle.newick.specs.declared.Mode.the-variants.{Due}
 use Rattle.newick.specs.declared.Scan.{Scan}
 use Rattle.newick.specs.declared.Move.{Move}
@@ -31,7 +32,7 @@ use Rattle.newick.proofs.OpenNodes.{nodes-inner, leaves-inner, textIn, 
 use Rattle.newick.proofs.OpenNodes.{depth-bound}
 use Rattle.newick.proofs.Columns.{columnIn, filled}
 use Rattle.newick.proofs.Following.{Follows}
-use Rattle.newick.proofs.Moves.{Follower, Leads, expected, moves, leads-as, seen-before, repeats-ended}
+use Rattle.newick.proofs.Moves.{Follower, Leads, expected, moves, leads-as, seen-before}
 
 -- the machine stands where the reading of this text does
 abbrev pub Simulates : List ℕ → Scan → Arrays → ℕ → Type 0

@@ -24,9 +24,9 @@ use Rattle.newick.specs.ReadTree.{Opened, first, second, Phase, nodeDue,
 use Rattle.newick.specs.ReadTree.{stepAfter, stepDue, stepLabel, step, endOf, readFrom, readTree, startState}
 use Rattle.newick.specs.Grammar.{TreeText, OpenCrowd, TreeFault}
 use Rattle.trees.proofs.Bools.{clash}
+use Rattle.trees.proofs.ListLaws.{bytes-snoc, bytes-one, good-parts, good-intro, good-more, good-loose, loose-split, loose-head}
 use Rattle.trees.proofs.ReadingLaws.{KindView, is-label, is-open, is-close, is-comma, is-semicolon, kind-view, open-plain}
-use Rattle.trees.proofs.ReadingLaws.{bytes-append, bytes-one, good-parts, good-intro, good-more, good-loose, loose-split}
-use Rattle.trees.proofs.ReadingLaws.{loose-head, occurrences-append, occurs, occurs-not, occurs-none, occurs-label}
+use Rattle.trees.proofs.ReadingLaws.{occurrences-append, occurs, occurs-not, occurs-none, occurs-label}
 use Rattle.trees.proofs.FaultLaws.{lt-or-le, Known, Edge, Inside, known-start, Read, read-start, byte-here, before-here}
 use Rattle.trees.proofs.FaultLaws.{allowed-here, bad-here, crowd-here, plain-not-long-here, plain-pass, plain-edge, plain-known}
 use Rattle.trees.proofs.FaultLaws.{label-read, label-known, long-here, letter-pass, letter-inside, repeat-here, begin-pass}
@@ -229,7 +229,7 @@ module _ (text p : List ℕ) (b : ℕ) (rest : List ℕ) (i : ℕ) where
           let g = good-parts x (h .marks .1) in
           subst (Continues TreeText) (sym bytes⁺)
           (label-continues stack (x ++ (b ∷ [])) (loose h) (omega (arith, length-append x (b ∷ [])))
-          (bytes-append x (b ∷ []) (g .2) (bytes-one b n)))
+          (bytes-snoc x b (g .2) n))
 
       go : (c : Bool) → eqb (length x) labelLimit ≡ c
           → Good text (p ++ (b ∷ [])) rest i

@@ -17,6 +17,7 @@ use Rattle.trees.specs.Arrays.{nodeLimit, isLeaf, labelAt, goodNode, goodNodes,
 use Rattle.trees.proofs.Bools.{bool-cases}
 use Rattle.trees.proofs.ArrayLaws.{label-inside, ChildrenBelow, children-below, good-at, all-good, good-leaf, good-inner, inner-not-leaf, tree-leaf, tree-node}
 use Rattle.agreement.specs.Restrict.{joinKept}
+use Rattle.agreement.proofs.RestrictLaws.{none-join, join-none}
 use Rattle.restriction.specs.declared.Fate.{Fate}
 use Rattle.restriction.specs.declared.Fate.the-variants.{Known, Fresh}
 use Rattle.restriction.specs.Kept.{keptAt}
@@ -72,15 +73,6 @@ joined-both p q h k =
     rw (ne-eqb p nodeLimit (λ (e : p ≡ nodeLimit). omega arith), ne-eqb q nodeLimit (λ (e : q ≡ nodeLimit). omega arith)) refl
 
 -- what is kept below two children
-none-join : (o : Option Tree) → joinKept none o ≡ o
-unfolding joinKept
-none-join none = refl
-none-join (some x) = refl
-
-join-none : (x : Tree) → joinKept (some x) none ≡ some x
-unfolding joinKept
-join-none x = refl
-
 join-two : (x y : Tree) → joinKept (some x) (some y) ≡ some (node x y)
 unfolding joinKept
 join-two x y = refl
@@ -281,7 +273,7 @@ module _ (a : TreeArrays) (text : List ℕ) (kept : List Bool) (u : ℕ) (s : Pa
           → keptAt (suc u) a text kept u ≡ joinKept o v → Passed a text kept (suc u) (settled (joined p q) u s)
       go {v = v} {q = q} (nothing {p} h) f m = rw (joined-second p q h) (known-step q (rw (m ∙ none-join v) f))
       go (something {p} {t = x} h d) (nothing {p = q} l) m =
-          rw (joined-first p q (omega (arith, i .few)) l) (known-step p (rw (m ∙ join-none x) (something h d)))
+          rw (joined-first p q (omega (arith, i .few)) l) (known-step p (rw (m ∙ join-none (some x)) (something h d)))
       go (something {p} {t = x} h d) (something {p = q} {t = y} l c) m =
           rw (joined-both p q (omega (arith, i .few)) (omega (arith, i .few))) (fresh-inner p q x y h l d c (m ∙ join-two x y))
 

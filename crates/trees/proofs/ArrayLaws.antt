@@ -19,6 +19,7 @@ use Rattle.trees.specs.Text.{written, textOf}
 use Rattle.trees.specs.Arrays.{nodeLimit, nodesOf, lefts, rights, starts, sizes, padded, arraysOf}
 use Rattle.trees.specs.Arrays.{labelAt, shownLabel, isLeaf, goodNode, goodNodes, treeAt, noLeaf, oneTree, noTree, treeOf}
 use Rattle.trees.proofs.Bools.{bool-cases, and-left, and-right, and-intro}
+use Rattle.trees.proofs.ListLaws.{good-split}
 use Rattle.trees.proofs.PlaceLaws.{At, at-whole, at-left, at-right, at-tail, at-head, at-take, second-part, last-element}
 
 -- lengths
@@ -66,20 +67,13 @@ few-nodes t v = omega (arith, nodes-leaves t, v .few)
 
 -- labels of the children
 
-pub good-append : (xs ys : List Label) → goodLabels (xs ++ ys) ≡ true → (goodLabels xs ≡ true) × (goodLabels ys ≡ true)
-unfolding goodLabels
-good-append [] ys h = (refl, h)
-good-append (x ∷ xs) ys h =
-    let r = good-append xs ys (and-right (goodLabel x) (goodLabels (xs ++ ys)) h) in
-    (and-intro (goodLabel x) (goodLabels xs) (and-left (goodLabel x) (goodLabels (xs ++ ys)) h) (r .0), r .1)
-
 pub good-first : (a b : Tree) → goodLabels (leaves (node a b)) ≡ true → goodLabels (leaves a) ≡ true
 unfolding leaves
-good-first a b h = good-append (leaves a) (leaves b) h .0
+good-first a b h = good-split (leaves a) (leaves b) h .0
 
 pub good-second : (a b : Tree) → goodLabels (leaves (node a b)) ≡ true → goodLabels (leaves b) ≡ true
 unfolding leaves
-good-second a b h = good-append (leaves a) (leaves b) h .1
+good-second a b h = good-split (leaves a) (leaves b) h .1
 
 -- text length
 

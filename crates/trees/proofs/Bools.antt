@@ -11,6 +11,11 @@ pub clash {ℓ} : {G : Type ℓ} {b : Bool} → b ≡ true → b ≡ false → G
 clash {b = true} p q = absurd (mathlib.Core.Bool.true≢false q)
 clash {b = false} p q = absurd (false≢true p)
 
+-- a test that cannot pass fails
+pub refute : (b : Bool) → (b ≡ true → ⊥) → b ≡ false
+refute true h = absurd (h refl)
+refute false h = refl
+
 pub and-left : (a b : Bool) → (a && b) ≡ true → a ≡ true
 and-left true b h = refl
 and-left false b h = absurd (false≢true h)
@@ -34,3 +39,11 @@ or-inl false b h = absurd (false≢true h)
 pub or-inr : (a b : Bool) → b ≡ true → (a || b) ≡ true
 or-inr true b h = refl
 or-inr false b h = h
+
+pub or-none-left : (a b : Bool) → (a || b) ≡ false → a ≡ false
+or-none-left true b h = h
+or-none-left false b h = refl
+
+pub or-none-right : (a b : Bool) → (a || b) ≡ false → b ≡ false
+or-none-right true b h = clash refl h
+or-none-right false b h = h

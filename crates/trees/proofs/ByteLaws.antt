@@ -1,6 +1,7 @@
 -- The rule of the class table at each byte, from the table as a whole. Assumes nothing.
 use Prim.Native.Nat.{ℕ, zero, suc, _+_, _<_}
 use mathlib.Core.Path.{_≡_, refl, ap, _∙_, sym}
+use mathlib.Core.List.{List}
 use native.Mathlib.Nat.{le-of-suc-le-suc, not-suc-le-zero, add-zero, zero-add, add-suc, suc-add}
 use lib.ListN.{getD}
 use Rattle.trees.specs.declared.Kind.{Kind}
@@ -28,3 +29,7 @@ pub class-rule : (b : ℕ) → b < 256 → kindOfCode (getD classTable b 0) ≡ 
 unfolding classTable
 class-rule b h =
     ap kindOfCode (code-at 256 0 b h ∙ ap (λ (m : ℕ). codeOf (kindOf m)) (zero-add b)) ∙ kind-code (kindOf b)
+
+-- the class table tells the kind of each byte
+pub kind-told : (table : List ℕ) (b : ℕ) (k : Kind) → table ≡ classTable → b < 256 → k ≡ kindOfCode (getD table b 0) → k ≡ kindOf b
+kind-told table b k e h q = q ∙ ap (λ (t : List ℕ). kindOfCode (getD t b 0)) e ∙ class-rule b h

@@ -20,8 +20,8 @@ use Rattle.trees.specs.Refusals.{numberOf}
 use Rattle.trees.specs.Faults.{Continues, LabelStarts, labelFrom, Fault, bad-byte, ends-too-soon, label-too-long, too-many}
 use Rattle.trees.specs.Faults.{repeated, FirstFault}
 use Rattle.trees.proofs.Bools.{bool-cases, clash, and-intro}
-use Rattle.trees.proofs.ReadingLaws.{run-byte, run-length, run-cons, run-none, in-none, in-left, in-here, in-last-cases}
-use Rattle.trees.proofs.ReadingLaws.{repeats-parts, seen-more, good-none, distinct-none}
+use Rattle.trees.proofs.ListLaws.{in-none, in-left, in-here, in-last-cases, good-none, distinct-none}
+use Rattle.trees.proofs.ReadingLaws.{run-byte, run-length, run-cons, run-none, repeats-parts, seen-more}
 
 pub lt-or-le : (a b : ℕ) → (a < b) ⊎ (b ≤ a)
 lt-or-le a b = ⊎-elim (λ (h : ltb a b ≡ true). inl (ltb-true a b h)) (λ (h : ltb a b ≡ false). inr (ltb-false a b h)) (bool-cases (ltb a b))

@@ -2,8 +2,8 @@
 -- hold, and that two of them which share a leaf are nested. Assumes nothing.
 use Prim.Native.Nat.{ℕ, zero, suc, _+_, _-_, _<_, _≤_}
 use mathlib.Core.Path.{_≡_, refl, sym, _∙_, ap, ap₂, subst}
-use mathlib.Core.Logic.{_⊎_, inl, inr, ⊎-elim}
-use mathlib.Core.Bool.{Bool, true, false, _||_}
+use mathlib.Core.Logic.{_⊎_, ⊎-elim}
+use mathlib.Core.Bool.{Bool, true, false}
 use mathlib.Core.List.{List, [], _∷_, _++_, append-assoc}
 use native.Mathlib.Omega.{arith}
 use native.Mathlib.Decide.{decLt}
@@ -210,17 +210,17 @@ subtree-in t i h x =
 
 -- the three parts of a node's postorder
 module _ (a b : Tree) (i : ℕ) where
-  at-left : i < nodesOf a → subtree (postorder (node a b)) i ≡ subtree (postorder a) i
+  pub at-left : i < nodesOf a → subtree (postorder (node a b)) i ≡ subtree (postorder a) i
   unfolding postorder
   at-left h = third-first (postorder a) (postorder b) (node a b) (leaf []) i (omega (arith, length-postorder a))
 
-  at-right : (j : ℕ) → j < nodesOf b → i ≡ nodesOf a + j → subtree (postorder (node a b)) i ≡ subtree (postorder b) j
+  pub at-right : (j : ℕ) → j < nodesOf b → i ≡ nodesOf a + j → subtree (postorder (node a b)) i ≡ subtree (postorder b) j
   unfolding postorder
   at-right j h e =
       third-second (postorder a) (postorder b) (node a b) (leaf []) (nodesOf a) i j (length-postorder a)
       (omega (arith, length-postorder b)) e
 
-  at-root : i ≡ nodesOf a + nodesOf b → subtree (postorder (node a b)) i ≡ node a b
+  pub at-root : i ≡ nodesOf a + nodesOf b → subtree (postorder (node a b)) i ≡ node a b
   unfolding postorder
   at-root e =
       third-last (postorder a) (postorder b) (node a b) (leaf []) (nodesOf a) (nodesOf b) i (length-postorder a)
@@ -376,7 +376,7 @@ shown-split a b text p f g i x e (in-second j h k) =
     (g j h x (sym (at-right a b i j h k) ∙ e))
 shown-split a b text p f g i x e (at-last k) = absurd (node-leaf a b x (sym (at-root a b i k) ∙ e))
 
-leaf-label : (x y : Label) → leaf x ≡ leaf y → x ≡ y
+pub leaf-label : (x y : Label) → leaf x ≡ leaf y → x ≡ y
 leaf-label x y e = cc
 
 shown : (t : Tree) (pre post : List ℕ) (p : ℕ) → length pre ≡ p → Shown t (pre ++ (written t ++ post)) p

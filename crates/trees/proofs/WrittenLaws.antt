@@ -10,7 +10,7 @@ use Rattle.trees.specs.Label.{Label, allLabelBytes, looseLabels}
 use Rattle.trees.specs.Tree.{Tree, leaf, node, leaves}
 use Rattle.trees.specs.Text.{written, textOf}
 use Rattle.trees.proofs.Bools.{clash, and-left, and-right}
-use Rattle.trees.proofs.ListLaws.{loose-left, loose-right}
+use Rattle.trees.proofs.ListLaws.{loose-split}
 
 -- whether a text begins with a label byte
 abbrev pub beginsLabel : List ℕ → Bool
@@ -42,13 +42,14 @@ unfolding looseLabels allLabelBytes
 loose-begins [] p h = clash h refl
 loose-begins (b ∷ x) p h = and-left (isLabelByte b) (allLabelBytes x) (loose-bytes (b ∷ x) h)
 
--- what follows a node's first child, and the text of a node before any rest
-abbrev afterFirst : Tree → List ℕ → List ℕ
-afterFirst b p = commaByte ∷ (written b ++ (closeByte ∷ p))
-
-written-node : (a b : Tree) (p : List ℕ) → written (node a b) ++ p ≡ openByte ∷ (written a ++ afterFirst b p)
+-- the text of a node before any rest
+pub written-node : (a b : Tree) (p : List ℕ) → written (node a b) ++ p ≡ openByte ∷ (written a ++ (commaByte ∷ (written b ++ (closeByte ∷ p))))
 unfolding written
 written-node a b p = ap (λ (l : List ℕ). openByte ∷ l) (simp append-assoc)
+
+-- what follows a node's first child
+abbrev afterFirst : Tree → List ℕ → List ℕ
+afterFirst b p = commaByte ∷ (written b ++ (closeByte ∷ p))
 
 -- a label is no node in brackets
 leaf-node : (x : Label) (c d : Tree) (p q : List ℕ) → looseLabels (x ∷ []) ≡ true → x ++ p ≡ written (node c d) ++ q → ⊥
@@ -67,12 +68,12 @@ node-read a b c d first second p q h k f g e = (ap₂ node (r .0) (u .0), tail-e
   where
     r : (a ≡ c) × (afterFirst b p ≡ afterFirst d q)
     r =
-        first (afterFirst b p) (afterFirst d q) (loose-left (leaves a) (leaves b) h) (loose-left (leaves c) (leaves d) k) refl
+        first (afterFirst b p) (afterFirst d q) (loose-split (leaves a) (leaves b) h .0) (loose-split (leaves c) (leaves d) k .0) refl
         refl (tail-eq-of-cons-eq (sym (written-node a b p) ∙ e ∙ written-node c d q))
 
     u : (b ≡ d) × (_≡_ {A = List ℕ} (closeByte ∷ p) (closeByte ∷ q))
     u =
-        second (closeByte ∷ p) (closeByte ∷ q) (loose-right (leaves a) (leaves b) h) (loose-right (leaves c) (leaves d) k)
+        second (closeByte ∷ p) (closeByte ∷ q) (loose-split (leaves a) (leaves b) h .1) (loose-split (leaves c) (leaves d) k .1)
         refl refl (tail-eq-of-cons-eq (r .1))
 
 -- unique readability

@@ -4,7 +4,7 @@ use Prim.Native.Nat.{ℕ, zero, suc, _+_, _-_, _<_, _≤_}
 use mathlib.Core.Path.{_≡_, refl, sym, _∙_, ap}
 use mathlib.Core.Bool.{true, false, not, _&&_}
 use mathlib.Core.Logic.{_⊎_, inl, inr}
-use mathlib.Core.List.{List, []}
+use mathlib.Core.List.{List}
 use native.Mathlib.Omega.{arith}
 use lib.Dec.{ltb, leb, eqb}
 use lib.ListN.{getD}
@@ -13,34 +13,16 @@ use Rattle.trees.specs.Label.{Label, distinct}
 use Rattle.trees.specs.Tree.{Tree, leaf, node, leaves}
 use Rattle.trees.specs.Arrays.{nodesOf}
 use Rattle.trees.specs.Postorder.{postorder, subtree, LaidNode, laid-leaf, laid-node, Laid}
-use Rattle.trees.proofs.Bools.{bool-cases, clash, and-left, and-right, and-intro}
+use Rattle.trees.proofs.Bools.{bool-cases, clash, and-left, and-right, and-intro, refute}
 use Rattle.trees.proofs.ArrayLaws.{nodes-pos}
-use Rattle.trees.proofs.PostorderLaws.{Third, in-first, in-second, at-last, third, third-first, third-second, third-last}
-use Rattle.trees.proofs.PostorderLaws.{length-postorder, root-last, subtree-in, nested, leaf-at, leaf-once}
-use Rattle.trees.proofs.PostorderLaws.{holds-leaf as leaf-held}
+use Rattle.trees.proofs.PostorderLaws.{Third, in-first, in-second, at-last, third, length-postorder, root-last, subtree-in, nested}
+use Rattle.trees.proofs.PostorderLaws.{leaf-at, leaf-once, holds-leaf as leaf-held, at-left, at-right, at-root}
 use Rattle.agreement.specs.Closer.{holds, lca, closer}
-use Rattle.agreement.proofs.HoldsLaws.{distinct-node, refute}
+use Rattle.agreement.proofs.HoldsLaws.{distinct-node}
 use Rattle.agreement.proofs.CloserLaws.{lca-left, lca-right, lca-top}
 use Rattle.leaves.specs.Find.{leafFrom}
 use Rattle.triples.specs.Loops.{LowAt, bothBelow, lcaNumber}
 use Rattle.triples.proofs.LoopLaws.{FirstHit, hit, none, first-hit}
-
-module _ (a b : Tree) (i : ℕ) where
-  at-left : i < nodesOf a → subtree (postorder (node a b)) i ≡ subtree (postorder a) i
-  unfolding postorder
-  at-left h = third-first (postorder a) (postorder b) (node a b) (leaf []) i (omega (arith, length-postorder a))
-
-  at-right : (j : ℕ) → j < nodesOf b → i ≡ nodesOf a + j → subtree (postorder (node a b)) i ≡ subtree (postorder b) j
-  unfolding postorder
-  at-right j h e =
-      third-second (postorder a) (postorder b) (node a b) (leaf []) (nodesOf a) i j (length-postorder a)
-      (omega (arith, length-postorder b)) e
-
-  at-root : i ≡ nodesOf a + nodesOf b → subtree (postorder (node a b)) i ≡ node a b
-  unfolding postorder
-  at-root e =
-      third-last (postorder a) (postorder b) (node a b) (leaf []) (nodesOf a) (nodesOf b) i (length-postorder a)
-      (length-postorder b) e
 
 -- the nodes of subtree s, which ends at number w, stand in the tree's numbering from `low` on
 record Run (t : Tree) (w : ℕ) (s : Tree) : Type 0 where

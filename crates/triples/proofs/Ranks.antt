@@ -11,21 +11,16 @@ use Rattle.trees.specs.Label.{Label, labelLess, sameLabel, isIn, distinct}
 use Rattle.trees.specs.Stored.{partOf}
 use Rattle.trees.proofs.Bools.{clash}
 use Rattle.trees.proofs.LabelLaws.{less-irrefl, less-asym, same-refl, ne-same}
+use Rattle.trees.proofs.ListLaws.{at-in, distinct-head, distinct-tail}
 use Rattle.lists.specs.ReadList.{joined, startsOf, sizesOf, placesOf, listLimit}
 use Rattle.lists.specs.TextParts.{part}
 use Rattle.lists.proofs.ListPlaces.{part-at, length-starts, length-sizes}
 use Rattle.agreement.specs.Sets.{insert, sorted, increasing}
 use Rattle.agreement.specs.Places.{placeOfNumber, placeOfLabel}
-use Rattle.agreement.proofs.SetLaws.{in-head, in-tail, in-nil, in-cases, distinct-head, distinct-tail, inc-head, inc-tail}
-use Rattle.agreement.proofs.SetLaws.{in-sorted, sorted-inc, length-sorted}
+use Rattle.agreement.proofs.SetLaws.{in-head, in-tail, in-nil, in-cases, inc-head, inc-tail, in-sorted, sorted-inc, length-sorted}
 use Rattle.triples.specs.Loops.{labelIn, lessCount, rankIn, InOrder}
 
 -- labels by number
-pub getD-in : (xs : List Label) (k : ℕ) → k < length xs → isIn (getD xs k []) xs ≡ true
-getD-in [] k h = absurd (omega arith)
-getD-in (x ∷ xs) zero h = in-head x xs
-getD-in (x ∷ xs) (suc k) h = in-tail (getD xs k []) x xs (getD-in xs k (omega arith))
-
 pub record Numbered (xs : List Label) (x : Label) : Type 0 where
   pub at : ℕ
   pub below : at < length xs
@@ -84,7 +79,7 @@ place-at (x ∷ xs) p (suc k) d h =
     let l : k < length xs = omega arith in
     let other : sameLabel (getD xs k []) x ≡ false =
     ne-same (getD xs k []) x
-    (λ (e : getD xs k [] ≡ x). clash (subst (λ (y : Label). isIn y xs ≡ true) e (getD-in xs k l)) (distinct-head x xs d)) in
+    (λ (e : getD xs k [] ≡ x). clash (subst (λ (y : Label). isIn y xs ≡ true) e (at-in xs k l)) (distinct-head x xs d)) in
     rw other (place-at xs (p + length x + 1) k (distinct-tail x xs d) l)
 
 pub place-of : (xs : List Label) (k : ℕ) → distinct xs ≡ true → k < length xs
@@ -143,7 +138,7 @@ count-position [] r i h = absurd (omega arith)
 count-position (c ∷ cs) zero i h = rw (less-irrefl c, count-none c cs (inc-head c cs i)) (omega arith)
 count-position (c ∷ cs) (suc r) i h =
     let l : r < length cs = omega arith in
-    rw (inc-head c cs i (getD cs r []) (getD-in cs r l), count-position cs r (inc-tail c cs i) l) (omega arith)
+    rw (inc-head c cs i (getD cs r []) (at-in cs r l), count-position cs r (inc-tail c cs i) l) (omega arith)
 
 module _ (xs : List Label) (d : distinct xs ≡ true) (text start size : List ℕ) (count : ℕ) (len : count ≡ length xs)
     (shown : (k : ℕ) → k < length xs → labelIn text start size k ≡ getD xs k []) where
@@ -164,7 +159,7 @@ module _ (xs : List Label) (d : distinct xs ≡ true) (text start size : List �
       m : Numbered xs (getD (sorted xs) r [])
       m =
           number-of xs (getD (sorted xs) r [])
-          (sym (in-sorted (getD (sorted xs) r []) xs) ∙ getD-in (sorted xs) r (omega (arith, length-sorted xs)))
+          (sym (in-sorted (getD (sorted xs) r []) xs) ∙ at-in (sorted xs) r (omega (arith, length-sorted xs)))
 
       e : rankIn text start size count (m .at) ≡ r
       e = rank-is (m .at) r (m .below) h (m .is)
@@ -178,7 +173,7 @@ module _ (xs : List Label) (d : distinct xs ≡ true) (text start size : List �
       low = omega (arith, len, g .0)
 
       q : Numbered (sorted xs) (getD xs (getD order r 0) [])
-      q = number-of (sorted xs) (getD xs (getD order r 0) []) (in-sorted (getD xs (getD order r 0) []) xs ∙ getD-in xs (getD order r 0) low)
+      q = number-of (sorted xs) (getD xs (getD order r 0) []) (in-sorted (getD xs (getD order r 0) []) xs ∙ at-in xs (getD order r 0) low)
 
       same : q .at ≡ r
       same = sym (rank-is (getD order r 0) (q .at) low (omega (arith, q .below, length-sorted xs)) (sym (q .is))) ∙ g .1

@@ -1,20 +1,17 @@
--- Nodes of good arrays: what a good node says, and that the tree below a node is made of those below its children.
--- Assumes nothing.
-use Prim.Native.Nat.{ℕ, zero, suc, _+_, _≤_, _<_}
+-- Nodes of good arrays: the tree below a node is made of those below its children. Assumes nothing.
+use Prim.Native.Nat.{ℕ, zero, suc, _<_}
 use mathlib.Core.Path.{_≡_, _∙_, ap, ap₂}
-use mathlib.Core.Bool.{Bool, true, false, cond, _&&_}
+use mathlib.Core.Bool.{Bool, true, false, cond}
 use mathlib.Core.Logic.{_⊎_, inl, inr}
 use mathlib.Core.List.{List}
-use native.Mathlib.Nat.{le-of-suc-le-suc, not-suc-le-zero, eq-or-lt-of-le, lt-suc-self}
+use native.Mathlib.Nat.{not-suc-le-zero, lt-suc-self}
 use native.Mathlib.Omega.{arith}
-use lib.Dec.{ltb, leb}
-use lib.ListN.{length, getD}
-use borrow.Author.Tests.{leb-true, ltb-true}
+use lib.ListN.{getD}
 use Rattle.trees.specs.declared.TreeArrays.{TreeArrays}
-use Rattle.trees.specs.Label.{labelLimit}
 use Rattle.trees.specs.Tree.{Tree, leaf, node}
-use Rattle.trees.specs.Arrays.{isLeaf, labelAt, goodNode, goodNodes, treeAt}
-use Rattle.trees.proofs.Bools.{bool-cases, and-left, and-right}
+use Rattle.trees.specs.Arrays.{isLeaf, labelAt, goodNodes, treeAt}
+use Rattle.trees.proofs.Bools.{bool-cases}
+use Rattle.trees.proofs.ArrayLaws.{good-at, children-below}
 use Rattle.writer.specs.Passes.{below}
 
 -- induction over node numbers
@@ -24,46 +21,6 @@ by-number P step u = go (suc u) u (lt-suc-self u)
     go : (m v : ℕ) → v < m → P v
     go zero v h = absurd (not-suc-le-zero h)
     go (suc m) v h = step v (λ k l. go m k (omega arith))
-
-pub good-at : (a : TreeArrays) (text : List ℕ) (n u : ℕ) → goodNodes a text n ≡ true → u < n → goodNode a text u ≡ true
-unfolding goodNodes
-good-at a text zero u g h = absurd (not-suc-le-zero h)
-good-at a text (suc n) u g h =
-    go (good-at a text n u (and-left (goodNodes a text n) (goodNode a text n) g)) (eq-or-lt-of-le (le-of-suc-le-suc h))
-  where
-    go : (u < n → goodNode a text u ≡ true) → (u ≡ n) ⊎ (u < n) → goodNode a text u ≡ true
-    go ih (inl e) = rw e (and-right (goodNodes a text n) (goodNode a text n) g)
-    go ih (inr l) = ih l
-
-module _ (a : TreeArrays) (text : List ℕ) (u : ℕ) (g : goodNode a text u ≡ true) where
-  -- a leaf's label lies in the text
-  leaf-tests : isLeaf a u ≡ true
-      → (leb (getD (a .size) u 0) labelLimit && leb (getD (a .start) u 0 + getD (a .size) u 0) (length text)) ≡ true
-  unfolding goodNode isLeaf
-  leaf-tests e = rw e at g
-
-  pub leaf-size : isLeaf a u ≡ true → getD (a .size) u 0 ≤ 16
-  leaf-size e =
-      leb-true (getD (a .size) u 0) labelLimit
-      (and-left (leb (getD (a .size) u 0) labelLimit) (leb (getD (a .start) u 0 + getD (a .size) u 0) (length text)) (leaf-tests e))
-
-  pub leaf-end : isLeaf a u ≡ true → getD (a .start) u 0 + getD (a .size) u 0 ≤ length text
-  leaf-end e =
-      leb-true (getD (a .start) u 0 + getD (a .size) u 0) (length text)
-      (and-right (leb (getD (a .size) u 0) labelLimit) (leb (getD (a .start) u 0 + getD (a .size) u 0) (length text)) (leaf-tests e))
-
-  -- children have smaller numbers
-  child-tests : isLeaf a u ≡ false → (ltb (getD (a .left) u 0) u && ltb (getD (a .right) u 0) u) ≡ true
-  unfolding goodNode isLeaf
-  child-tests e = rw e at g
-
-  pub left-below : isLeaf a u ≡ false → getD (a .left) u 0 < u
-  left-below e =
-      ltb-true (getD (a .left) u 0) u (and-left (ltb (getD (a .left) u 0) u) (ltb (getD (a .right) u 0) u) (child-tests e))
-
-  pub right-below : isLeaf a u ≡ false → getD (a .right) u 0 < u
-  right-below e =
-      ltb-true (getD (a .right) u 0) u (and-right (ltb (getD (a .left) u 0) u) (ltb (getD (a .right) u 0) u) (child-tests e))
 
 module _ (a : TreeArrays) (text : List ℕ) (n : ℕ) (g : goodNodes a text n ≡ true) where
   -- any room above the node's number is enough
@@ -82,15 +39,15 @@ module _ (a : TreeArrays) (text : List ℕ) (n : ℕ) (g : goodNodes a text n �
       go ih (inl e) = rw e
       go ih (inr e) =
           ap₂ (λ (x y : Tree). cond (isLeaf a u) (leaf (labelAt a text u)) (node x y))
-          (ih (getD (a .left) u 0) (left-below a text u (good-at a text n u g h) e))
-          (ih (getD (a .right) u 0) (right-below a text u (good-at a text n u g h) e))
+          (ih (getD (a .left) u 0) (children-below a text u (good-at a text n g u h) e .left-below))
+          (ih (getD (a .right) u 0) (children-below a text u (good-at a text n g u h) e .right-below))
 
   pub below-node : (u : ℕ) → u < n → isLeaf a u ≡ false
       → below a text u ≡ node (below a text (getD (a .left) u 0)) (below a text (getD (a .right) u 0))
   unfolding below treeAt
   below-node u h e =
-      let l : getD (a .left) u 0 < u = left-below a text u (good-at a text n u g h) e in
-      let r : getD (a .right) u 0 < u = right-below a text u (good-at a text n u g h) e in
+      let l : getD (a .left) u 0 < u = children-below a text u (good-at a text n g u h) e .left-below in
+      let r : getD (a .right) u 0 < u = children-below a text u (good-at a text n g u h) e .right-below in
       ap (λ (b : Bool). cond b (leaf (labelAt a text u)) (node (treeAt u a text (getD (a .left) u 0)) (treeAt u a text (getD (a .right) u 0)))) e
       ∙ ap₂ node
       (any-room (getD (a .left) u 0) (omega arith) u (suc (getD (a .left) u 0)) l (lt-suc-self (getD (a .left) u 0)))

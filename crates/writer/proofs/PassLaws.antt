@@ -17,8 +17,9 @@ use Rattle.trees.specs.Tree.{Tree, leaf, node, leaves, smallest, normal}
 use Rattle.trees.specs.Text.{written}
 use Rattle.trees.specs.Arrays.{isLeaf, labelAt, goodNodes}
 use Rattle.trees.proofs.Bools.{bool-cases}
+use Rattle.trees.proofs.ArrayLaws.{good-at, label-inside, children-below}
 use Rattle.writer.specs.Passes.{pass, sumAt, labelIn, goesFirst, leastAt, below, nodeText, Leasts}
-use Rattle.writer.proofs.NodeLaws.{by-number, good-at, leaf-size, leaf-end, left-below, right-below, below-leaf, below-node}
+use Rattle.writer.proofs.NodeLaws.{by-number, below-leaf, below-node}
 
 abbrev in-order : Bool → Tree → Tree → Tree
 in-order b x y = cond b (node x y) (node y x)
@@ -76,8 +77,8 @@ module _ (a : TreeArrays) (text : List ℕ) (n : ℕ) (g : goodNodes a text n �
       go s u h all (inr e) =
           let x : ℕ = getD (a .left) u 0 in
           let y : ℕ = getD (a .right) u 0 in
-          let p : getD s x 0 ≡ min cap (f (below a text x)) = all x (left-below a text u (good-at a text n u g h) e) in
-          let q : getD s y 0 ≡ min cap (f (below a text y)) = all y (right-below a text u (good-at a text n u g h) e) in
+          let p : getD s x 0 ≡ min cap (f (below a text x)) = all x (children-below a text u (good-at a text n g u h) e .left-below) in
+          let q : getD s y 0 ≡ min cap (f (below a text y)) = all y (children-below a text u (good-at a text n g u h) e .right-below) in
           let d : f (below a text u) ≡ f (below a text x) + f (below a text y) =
           ap f (below-node a text n g u h e) ∙ at-node (below a text x) (below a text y) in
           rw e (omega arith)
@@ -85,7 +86,7 @@ module _ (a : TreeArrays) (text : List ℕ) (n : ℕ) (g : goodNodes a text n �
   label-length : (u : ℕ) → u < n → isLeaf a u ≡ true → length (labelAt a text u) ≡ getD (a .size) u 0
   unfolding labelAt
   label-length u h e =
-      simp (length-take, length-drop) (omega (arith, leaf-end a text u (good-at a text n u g h) e))
+      simp (length-take, length-drop) (omega (arith, label-inside a text u (good-at a text n g u h) e .inside))
 
   pub leaves-found : (t : List ℕ) → n ≤ length t → n ≤ 159
       → (u : ℕ) → u < n
@@ -113,12 +114,12 @@ module _ (a : TreeArrays) (text : List ℕ) (n : ℕ) (g : goodNodes a text n �
       go : (u : ℕ) → ((k : ℕ) → k < u → k < n → length (written (below a text k)) + 3 ≤ 19 * length (leaves (below a text k)))
           → u < n → (isLeaf a u ≡ true) ⊎ (isLeaf a u ≡ false)
           → length (written (below a text u)) + 3 ≤ 19 * length (leaves (below a text u))
-      go u all h (inl e) = rw (below-leaf a text u e) (omega (arith, label-length u h e, leaf-size a text u (good-at a text n u g h) e))
+      go u all h (inl e) = rw (below-leaf a text u e) (omega (arith, label-length u h e, label-inside a text u (good-at a text n g u h) e .short))
       go u all h (inr e) =
           let x : Tree = below a text (getD (a .left) u 0) in
           let y : Tree = below a text (getD (a .right) u 0) in
-          let l : getD (a .left) u 0 < u = left-below a text u (good-at a text n u g h) e in
-          let r : getD (a .right) u 0 < u = right-below a text u (good-at a text n u g h) e in
+          let l : getD (a .left) u 0 < u = children-below a text u (good-at a text n g u h) e .left-below in
+          let r : getD (a .right) u 0 < u = children-below a text u (good-at a text n g u h) e .right-below in
           rw (below-node a text n g u h e)
           (omega (
             arith,
@@ -148,9 +149,9 @@ module _ (a : TreeArrays) (text : List ℕ) (n : ℕ) (g : goodNodes a text n �
           let x : ℕ = getD (a .left) u 0 in
           let y : ℕ = getD (a .right) u 0 in
           let p : labelIn text (a .start) (a .size) (getD s x 0) ≡ smallest (below a text x) =
-          all x (left-below a text u (good-at a text n u g h) e) in
+          all x (children-below a text u (good-at a text n g u h) e .left-below) in
           let q : labelIn text (a .start) (a .size) (getD s y 0) ≡ smallest (below a text y) =
-          all y (right-below a text u (good-at a text n u g h) e) in
+          all y (children-below a text u (good-at a text n g u h) e .right-below) in
           let b : Bool = labelLess (labelIn text (a .start) (a .size) (getD s x 0)) (labelIn text (a .start) (a .size) (getD s y 0)) in
           ap (λ (d : Bool). labelIn text (a .start) (a .size) (cond d u (cond b (getD s x 0) (getD s y 0)))) e
           ∙ pair (getD s x 0) (getD s y 0) (smallest (below a text x)) (smallest (below a text y)) b p q
@@ -168,9 +169,9 @@ module _ (a : TreeArrays) (text : List ℕ) (n : ℕ) (g : goodNodes a text n �
       let x : ℕ = getD (a .left) u 0 in
       let y : ℕ = getD (a .right) u 0 in
       let p : labelIn text (a .start) (a .size) (getD t x 0) ≡ smallest (below a text x) =
-      least x (omega (arith, left-below a text u (good-at a text n u g h) e)) in
+      least x (omega (arith, children-below a text u (good-at a text n g u h) e .left-below)) in
       let q : labelIn text (a .start) (a .size) (getD t y 0) ≡ smallest (below a text y) =
-      least y (omega (arith, right-below a text u (good-at a text n u g h) e)) in
+      least y (omega (arith, children-below a text u (good-at a text n g u h) e .right-below)) in
       ap (λ (s : Tree). written (normal s)) (below-node a text n g u h e)
       ∙ ap (λ (c : Bool). written (in-order c (normal (below a text x)) (normal (below a text y))))
       (sym (d ∙ ap₂ labelLess p q))
@@ -217,8 +218,8 @@ module _ (a : TreeArrays) (text : List ℕ) (n : ℕ) (g : goodNodes a text n �
   unfolding isLeaf
   pair-of t least u h l r el er ne b eb f s ef es =
       let e : isLeaf a u ≡ false = ne-eqb (getD (a .left) u 0) u (λ (k : getD (a .left) u 0 ≡ u). ne (el ∙ k)) in
-      let x : getD (a .left) u 0 < u = left-below a text u (good-at a text n u g h) e in
-      let y : getD (a .right) u 0 < u = right-below a text u (good-at a text n u g h) e in
+      let x : getD (a .left) u 0 < u = children-below a text u (good-at a text n g u h) e .left-below in
+      let y : getD (a .right) u 0 < u = children-below a text u (good-at a text n g u h) e .right-below in
       let f′ : f ≡ cond b (getD (a .left) u 0) (getD (a .right) u 0) = ef ∙ ap₂ (cond b) el er in
       let s′ : s ≡ cond b (getD (a .right) u 0) (getD (a .left) u 0) = es ∙ ap₂ (cond b) er el in
       let m : nodeText a text u ≡ 40 ∷ (nodeText a text f ++ (44 ∷ (nodeText a text s ++ (41 ∷ [])))) =

@@ -12,8 +12,8 @@ use borrow.Author.Tests.{leb-true, leb-false, le-leb, lt-leb, lt-ltb, le-ltb, eq
 use Rattle.trees.specs.declared.TreeArrays.{TreeArrays}
 use Rattle.trees.specs.Arrays.{isLeaf, goodNode, goodNodes}
 use Rattle.trees.proofs.Bools.{bool-cases, clash, and-intro}
+use Rattle.trees.proofs.ArrayLaws.{good-at}
 use Rattle.writer.specs.Passes.{sumAt, leastAt, goesFirst}
-use Rattle.writer.proofs.NodeLaws.{good-at}
 
 -- ---- the test of a node; l, r, s and n are its entries
 
@@ -59,7 +59,7 @@ pub good-fails : (a : TreeArrays) (text : List ℕ) (n u : ℕ) → u < n → go
 good-fails a text n u h e = go (bool-cases (goodNodes a text n))
   where
     go : (goodNodes a text n ≡ true) ⊎ (goodNodes a text n ≡ false) → false ≡ goodNodes a text n
-    go (inl g) = clash (good-at a text n u g h) e
+    go (inl g) = clash (good-at a text n g u h) e
     go (inr g) = sym g
 
 pub good-more : (a : TreeArrays) (text : List ℕ) (u : ℕ) → goodNodes a text u ≡ true → goodNode a text u ≡ true

@@ -4,7 +4,8 @@ use native.Mathlib.Omega.{arith}
 use mathlib.Core.Path.{_∙_}
 use borrow.Author.Needs.{needs}
 use lib.ListN.{length}
-use Rattle.lists.proofs.ReaderLoop.{Running, running-start, running-next, running-stop, running-end, kind-told}
+use Rattle.trees.proofs.ByteLaws.{kind-told}
+use Rattle.lists.proofs.ReaderLoop.{Running, running-start, running-next, running-stop, running-end}
 use Rattle.lists.proofs.read_list.Statement.{statement}
 use Rattle.lists.proofs.read_list.Tie as tie
 

@@ -1,7 +1,8 @@
 -- `step` takes the step `moveOf` on the byte's kind, which the class table tells. Assumes nothing.
 use mathlib.Core.Path.{sym, ap, _∙_}
+use Rattle.trees.proofs.ByteLaws.{kind-told}
 use Rattle.newick.specs.Machine.{dueOf, insideOf, afterOf}
-use Rattle.newick.proofs.MachineLaws.{ready-as, kind-told, move-due, move-inside, move-after, move-done}
+use Rattle.newick.proofs.MachineLaws.{ready-as, move-due, move-inside, move-after, move-done}
 use borrow.Author.Needs.{needs}
 use Rattle.newick.proofs.step.Statement.{statement}
 use Rattle.newick.proofs.step.Tie as tie
