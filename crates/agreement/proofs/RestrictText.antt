@@ -1,12 +1,10 @@
 -- The restriction of a valid tree is valid, and the restrictions of two trees to a set on which they agree have one normal text.
 -- Assumes nothing.
-use Prim.Native.Nat.{_≤_}
 use mathlib.Core.Path.{_≡_, refl, sym, _∙_, ap}
 use mathlib.Core.Bool.{Bool, true, false, cond}
 use mathlib.Core.List.{List, [], _∷_}
 use mathlib.Core.Option.{Option, some}
 use native.Mathlib.Omega.{arith}
-use lib.ListN.{length}
 use Rattle.trees.specs.Label.{Label, goodLabel, goodLabels}
 use Rattle.trees.specs.Tree.{Tree, leaves, Valid}
 use Rattle.trees.specs.Text.{textOf, normalText}

@@ -1,7 +1,6 @@
 -- Least common ancestor, closer pair and agreement. Scope paper, "Agreement"; source paper 003, section 2.
-use Prim.Native.Nat.{ℕ}
 use mathlib.Core.Path.{_≡_}
-use mathlib.Core.Bool.{Bool, true, false, cond, not, _&&_}
+use mathlib.Core.Bool.{Bool, true, cond, not, _&&_}
 use Rattle.trees.specs.Label.{Label, isIn}
 use Rattle.trees.specs.Tree.{Tree, leaf, node, leaves}
 

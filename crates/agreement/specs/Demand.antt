@@ -2,12 +2,12 @@
 use Prim.Native.Nat.{ℕ, _≤_, _<_}
 use mathlib.Core.Path.{_≡_}
 use mathlib.Core.Logic.{_⊎_}
-use mathlib.Core.Bool.{Bool, true, false}
+use mathlib.Core.Bool.{true, false}
 use mathlib.Core.List.{List, []}
 use lib.ListN.{length, getD}
 use Rattle.trees.specs.Label.{Label, labelLess, isIn}
 use Rattle.trees.specs.Tree.{Tree}
-use Rattle.agreement.specs.Closer.{holds, closer, Agree, Common}
+use Rattle.agreement.specs.Closer.{holds, Agree, Common}
 use Rattle.agreement.specs.Sets.{increasing, setOf, First}
 use Rattle.agreement.specs.Answer.{clashing}
 

@@ -1,6 +1,6 @@
 -- Restriction of a tree to a set of leaves. Source paper 003, section 2: discard the other leaves and the inner nodes left
 -- with one child. Scope paper, "Agreement".
-use mathlib.Core.Bool.{Bool, true, false, cond}
+use mathlib.Core.Bool.{Bool, cond}
 use mathlib.Core.Option.{Option, some, none}
 use Rattle.trees.specs.Label.{Label}
 use Rattle.trees.specs.Tree.{Tree, leaf, node}

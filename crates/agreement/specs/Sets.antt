@@ -1,5 +1,4 @@
 -- Sets of labels as lists in label order. Scope paper, "Agreement": largest and first.
-use Prim.Native.Nat.{ℕ, _≤_}
 use mathlib.Core.Path.{_≡_}
 use mathlib.Core.Bool.{Bool, true, false, cond}
 use mathlib.Core.List.{List, [], _∷_, _++_, map}

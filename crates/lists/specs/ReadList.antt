@@ -1,7 +1,7 @@
 -- Reading a list of labels from left to right: "The required list is empty, or labels joined by `,` with nothing else, at most
 -- 80, all different." Scope paper, "Tree text" and rows 1 to 5 of "Why a job is turned down".
 use Prim.Native.Nat.{ℕ, _+_, _-_}
-use mathlib.Core.Bool.{Bool, true, false, cond}
+use mathlib.Core.Bool.{Bool, cond}
 use mathlib.Core.List.{List, [], _∷_, _++_}
 use lib.Dec.{eqb}
 use lib.ListN.{length, replicate}
@@ -13,7 +13,6 @@ use Rattle.trees.specs.declared.Body.{Body}
 use Rattle.trees.specs.Bytes.{kindOf}
 use Rattle.trees.specs.Label.{Label, labelLimit}
 use Rattle.trees.specs.Reading.{Reading, good, refused, repeats}
-use Rattle.lists.specs.declared.ListAnswer.{ListAnswer}
 use Rattle.lists.specs.declared.ListAnswer.the-variants.{Labels, Refused}
 use Rattle.lists.specs.declared.LabelPlaces.{LabelPlaces}
 use Rattle.lists.specs.declared.ListRead.{ListRead}

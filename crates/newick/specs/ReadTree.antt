@@ -2,7 +2,7 @@
 -- Scope paper, "Tree text" and rows 1 to 5 of "Why a job is turned down". A repeat is told at its first byte, so the first
 -- fault that is met is the one with the smallest place.
 use Prim.Native.Nat.{ℕ, _+_, _-_}
-use mathlib.Core.Bool.{Bool, true, false, cond}
+use mathlib.Core.Bool.{Bool, cond}
 use mathlib.Core.List.{List, [], _∷_, _++_}
 use lib.Dec.{eqb}
 use lib.ListN.{length}
@@ -16,7 +16,6 @@ use Rattle.trees.specs.Label.{Label, labelLimit}
 use Rattle.trees.specs.Tree.{Tree, leaf, node, leaves, leafLimit}
 use Rattle.trees.specs.Reading.{Reading, good, refused, repeats}
 use Rattle.trees.specs.Arrays.{arraysOf, noArrays}
-use Rattle.newick.specs.declared.TreeAnswer.{TreeAnswer}
 use Rattle.newick.specs.declared.TreeAnswer.the-variants.{Leaves, Refused}
 use Rattle.newick.specs.declared.TreeRead.{TreeRead}
 

@@ -1,18 +1,17 @@
 -- Laws of labels: equality is a test, and label order is a strict total order. The crates above cite these laws and not the
 -- definitions. Assumes nothing.
 use Prim.Native.Nat.{ℕ, suc, _+_, _<_, _≤_}
-use mathlib.Core.Path.{_≡_, refl, sym, _∙_, ap, ap₂, subst}
-use mathlib.Core.Bool.{Bool, true, false, cond, _&&_, _||_}
+use mathlib.Core.Path.{_≡_, refl, sym, _∙_, ap₂}
+use mathlib.Core.Bool.{true, false, _&&_, _||_}
 use mathlib.Core.Logic.{_⊎_, inl, inr, ⊎-elim}
-use mathlib.Core.List.{List, [], _∷_}
+use mathlib.Core.List.{[], _∷_}
 use native.Mathlib.Omega.{arith}
 use lib.Dec.{eqb, ltb}
 use lib.ListN.{length, getD, drop, drop-of-length-le}
 use lib.Seq.{drop-cons}
 use native.Mathlib.Numerals.{add-one}
-use borrow.Author.Tests.{ltb-true, ltb-false, eqb-true, eqb-false, lt-ltb, le-ltb, eq-eqb, ne-eqb}
-use Rattle.trees.specs.Label.{Label, sameLabel, labelLess, isIn, distinct, orderOf}
-use Rattle.trees.specs.declared.Order.{Order}
+use borrow.Author.Tests.{ltb-true, ltb-false, eqb-true, lt-ltb, le-ltb, eq-eqb}
+use Rattle.trees.specs.Label.{Label, sameLabel, labelLess, orderOf}
 use Rattle.trees.specs.declared.Order.the-variants.{Less, Equal, Greater}
 use Rattle.trees.proofs.Bools.{bool-cases, clash, and-left, and-right, and-intro, or-cases, or-inl, or-inr}
 

@@ -1,7 +1,7 @@
 -- Rooted binary trees with labelled leaves, and when two of them are equal. Scope paper, "Tree text".
 use Prim.Native.Nat.{ℕ, _+_, _≤_}
 use mathlib.Core.Path.{_≡_}
-use mathlib.Core.Bool.{Bool, true, cond}
+use mathlib.Core.Bool.{true, cond}
 use mathlib.Core.List.{List, [], _∷_, _++_}
 use lib.ListN.{length}
 use Rattle.trees.specs.Label.{Label, labelLess, distinct, goodLabels}

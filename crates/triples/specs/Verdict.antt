@@ -1,11 +1,8 @@
 -- The verdict on two tree texts and a list of labels. Scope paper, "Agreement" and rows 1 to 8 of "Why a job is turned down".
 use Prim.Native.Nat.{ℕ}
 use mathlib.Core.List.{List}
-use Rattle.trees.specs.declared.Reason.{Reason}
 use Rattle.trees.specs.declared.Reason.the-variants.{FirstLacks, SecondLacks}
-use Rattle.trees.specs.declared.Body.{Body}
 use Rattle.trees.specs.declared.Body.the-variants.{S, T, K}
-use Rattle.trees.specs.declared.Refusal.{Refusal}
 use Rattle.trees.specs.Label.{Label}
 use Rattle.trees.specs.Tree.{Tree}
 use Rattle.trees.specs.Reading.{Reading, good, refused}
