@@ -19,9 +19,10 @@ use Rattle.trees.proofs.Bools.{bool-cases, clash}
 use Rattle.trees.proofs.LabelLaws.{same-cases, same-ne, eq-same}
 use Rattle.trees.proofs.PostorderLaws.{length-postorder, leaf-once}
 use Rattle.agreement.specs.Closer.{holds}
+use Rattle.agreement.specs.Weights.{best}
 use Rattle.agreement.proofs.HoldsLaws.{holds-node}
 use Rattle.agreement.proofs.LocalChange.{best-unmarked}
-use Rattle.mast.specs.Table.{AllRight, RightWhereUnmarked}
+use Rattle.mast.specs.Table.{cell, RowsCopied, AllRight, RightWhereUnmarked}
 use Rattle.mast.specs.Marks.{markValue, LeafOf, Marked, FirstMarked, Links}
 use Rattle.mast.proofs.RecurrenceLaws.{holds-same}
 use Rattle.mast.proofs.TableLaws.{NodeCase, is-leaf, is-node, node-case}
@@ -157,9 +158,25 @@ unmarked-right m n ss ts w w' x mark1 mark2 cells same p q h =
           ∙ best-unmarked w w' (subtree ss u) (subtree ts v) x same (rw (p .right u hu, q .right v hv) at k);
     }
 
+-- marked rows put aside before a fill and put back after it
+pub put-back : (m n : ℕ) (ss ts : List Tree) (w w' : Label → ℕ) (x : Label) (marks : List Bool) (cells aside kept filled back : List ℕ)
+    → n ≤ 159 → ((y : Label) → (y ≡ x → ⊥) → w y ≡ w' y) → Marked m ss x marks → AllRight m n ss ts w cells
+    → RowsCopied m marks cells aside kept → AllRight m n ss ts w' filled → RowsCopied m marks kept filled back
+    → AllRight m n ss ts w back
+put-back m n ss ts w w' x marks cells aside kept filled back few same p h a g b =
+    record { size = b .size ∙ g .size; right = λ u v hu hv. go u v hu hv (bool-cases (getD marks u false)) }
+  where
+    go : (u v : ℕ) → u < m → v < n → (getD marks u false ≡ true) ⊎ (getD marks u false ≡ false)
+        → cell back u v ≡ best w (subtree ss u) (subtree ts v)
+    go u v hu hv (inl k) = b .copied u v hu (omega arith) k ∙ a .copied u v hu (omega arith) k ∙ h .right u v hu hv
+    go u v hu hv (inr k) =
+        let lacked : holds (subtree ss u) x ≡ false = sym (p .right u hu) ∙ k in
+        b .kept u v (omega arith) (inl k) ∙ g .right u v hu hv
+        ∙ sym (best-unmarked w w' (subtree ss u) (subtree ts v) x same (rw lacked refl))
+
 -- the first marked node from each on, from the last down
 pub first-none : (nodes : ℕ) (marks : List Bool) → FirstMarked nodes marks nodes nodes
-first-none nodes marks = record { up = omega arith; low = omega arith; over = λ q l k. absurd (omega arith) }
+first-none nodes marks = record { up = omega arith; low = omega arith; hit = λ k. absurd (omega arith); over = λ q l k. absurd (omega arith) }
 
 pub first-next : (nodes v first : ℕ) (marks : List Bool) → v < nodes → FirstMarked nodes marks (v + 1) first
     → (x : ℕ) → x ≡ cond (getD marks v false) v first → FirstMarked nodes marks v x
@@ -168,12 +185,13 @@ first-next nodes v first marks h f x e = go (bool-cases (getD marks v false))
     go : (getD marks v false ≡ true) ⊎ (getD marks v false ≡ false) → FirstMarked nodes marks v x
     go (inl m) =
         let here : x ≡ v = e ∙ rw m refl in
-        record { up = omega arith; low = omega arith; over = λ q l k. absurd (omega arith) }
+        record { up = omega arith; low = omega arith; hit = λ k. rw here m; over = λ q l k. absurd (omega arith) }
     go (inr m) =
         let here : x ≡ first = e ∙ rw m refl in
         record {
           up = omega (arith, f .up);
           low = omega (arith, f .low);
+          hit = λ k. rw here (f .hit (omega arith));
           over = λ q l k. step q l (omega arith) (bool-cases (eqb q v));
         }
       where

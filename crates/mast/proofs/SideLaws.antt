@@ -28,12 +28,12 @@ use Rattle.agreement.proofs.Recurrence.{Reach, best-bound, best-reached}
 use Rattle.triples.proofs.Ranks.{Numbered as HasRank, number-of}
 use Rattle.leaves.proofs.OwnLaws.{own-laid}
 use Rattle.mast.specs.Engine.{Numbered, Ranked, Weighs}
-use Rattle.mast.specs.Table.{cell, Side, Shape, leafValue, Setting, AllRight, RightWhereUnmarked}
+use Rattle.mast.specs.Table.{cell, Side, Shape, leafValue, Setting, AllRight, RightWhereUnmarked, RowsCopied}
 use Rattle.mast.specs.Marks.{LeafOf, Marked}
 use Rattle.mast.specs.Choice.{Ready, OwnSide, Job, greatest, Filled, Topped}
 use Rattle.mast.proofs.TableLaws.{NodeCase, is-leaf, is-node, node-case}
 use Rattle.mast.proofs.RankLaws.{common-few}
-use Rattle.mast.proofs.MarkLaws.{leaf-of, unmarked-right}
+use Rattle.mast.proofs.MarkLaws.{leaf-of, unmarked-right, put-back}
 
 -- children have no larger numbers
 
@@ -203,6 +203,15 @@ module _ (s t : Tree) (one two : Side) (order1 order2 : List ℕ) (m : ℕ) (job
     where
       x : Label
       x = getD (common s t) r []
+
+  -- the table put back after a fill for other weights
+  pub job-back : (F G : List Label) (r : ℕ) → ((y : Label) → (y ≡ getD (common s t) r [] → ⊥) → forcing F y ≡ forcing G y)
+      → (marks : List Bool) (cells aside kept filled back : List ℕ) → Marked (one .nodes) (postorder s) (getD (common s t) r []) marks
+      → Filled s t F cells → RowsCopied (one .nodes) marks cells aside kept → Filled s t G filled
+      → RowsCopied (one .nodes) marks kept filled back → Filled s t F back
+  job-back F G r same marks cells aside kept filled back p f a g b =
+      put-back (nodesOf s) (nodesOf t) (postorder s) (postorder t) (forcing F) (forcing G) (getD (common s t) r []) marks cells aside kept filled back
+      (few-nodes t (job .second .valid)) same (rw (job .first .nodes-is) at p) f (rw (job .first .nodes-is) at a) g (rw (job .first .nodes-is) at b)
 
   -- the leaves of a label in both trees
   pub job-leaves : (r : ℕ) → r < m

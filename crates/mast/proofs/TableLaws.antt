@@ -13,10 +13,10 @@ use borrow.Author.Tests.{eq-eqb, ne-eqb, eqb-true, eqb-false, ltb-true, ltb-fals
 use Rattle.trees.specs.Label.{Label, sameLabel}
 use Rattle.trees.specs.Tree.{Tree, leaf, node, leaves, leafLimit}
 use Rattle.trees.specs.Postorder.{subtree, LaidNode, laid-leaf, laid-node}
-use Rattle.trees.proofs.Bools.{bool-cases}
+use Rattle.trees.proofs.Bools.{bool-cases, clash}
 use Rattle.agreement.specs.Weights.{best, forcedUnit}
 use Rattle.mast.specs.Table.{capped, cell, Told, Side, innerValue, pairValue}
-use Rattle.mast.specs.Table.{Setting, AllRight, RightWhereUnmarked, Done}
+use Rattle.mast.specs.Table.{RowCopied, RowsCopied, Setting, AllRight, RightWhereUnmarked, Done}
 use Rattle.mast.proofs.RecurrenceLaws.{best-leaves, best-leaf-node, best-node-leaf, best-inner}
 
 -- what arrays tell of node u
@@ -176,3 +176,78 @@ module _ (s t : Side) (weight : List ℕ) (ss ts : List Tree) (w : Label → ℕ
           getD-set-other cells (u * 159 + v) (p * 159 + q) x 0 (eqb-false _ _ other)
           ∙ done .right p q hp hq
           (⊎-map (λ (k : p * 159 + q < u * 159 + (v + 1)). omega (arith, eqb-false (p * 159 + q) (u * 159 + v) other)) (λ k. k) come)
+
+-- rows copied
+
+pub row-none : (u : ℕ) (from old : List ℕ) → RowCopied u 0 from old old
+row-none u from old = record { size = refl; copied = λ q l. absurd (omega arith); kept = λ i c. refl }
+
+pub row-next : (u v : ℕ) (from old new : List ℕ) → u < 159 → v < 159 → length old ≡ 25281 → RowCopied u v from old new
+    → RowCopied u (v + 1) from old (set new (u * 159 + v) (getD from (u * 159 + v) 0))
+row-next u v from old new hu hv size h =
+    record {
+      size = length-set new (u * 159 + v) (getD from (u * 159 + v) 0) ∙ h .size;
+      copied = λ q l. go q l (bool-cases (eqb q v));
+      kept =
+          λ i c.
+          getD-set-other new (u * 159 + v) i (getD from (u * 159 + v) 0) 0 (outside i c)
+          ∙ h .kept i (⊎-map (λ (k : i < u * 159). k) (λ (k : u * 159 + (v + 1) ≤ i). omega arith) c);
+    }
+  where
+    outside : (i : ℕ) → (i < u * 159) ⊎ (u * 159 + (v + 1) ≤ i) → i ≡ u * 159 + v → ⊥
+    outside i (inl k) e = omega arith
+    outside i (inr k) e = omega arith
+
+    go : (q : ℕ) → q < v + 1 → (eqb q v ≡ true) ⊎ (eqb q v ≡ false)
+        → cell (set new (u * 159 + v) (getD from (u * 159 + v) 0)) u q ≡ cell from u q
+    go q l (inl same) =
+        rw (eqb-true q v same) (getD-set-same new (u * 159 + v) (getD from (u * 159 + v) 0) 0 (omega (arith, h .size)))
+    go q l (inr other) =
+        let n = eqb-false q v other in
+        getD-set-other new (u * 159 + v) (u * 159 + q) (getD from (u * 159 + v) 0) 0 (λ (e : u * 159 + q ≡ u * 159 + v). n (omega arith))
+        ∙ h .copied q (omega (arith, n))
+
+module _ (marks : List Bool) (from old : List ℕ) where
+  pub rows-none : RowsCopied 0 marks from old old
+  rows-none = record { size = refl; copied = λ u v l. absurd (omega arith); kept = λ u v l c. refl }
+
+  -- rows that are not marked
+  pub rows-over : (u k : ℕ) (new : List ℕ) → u ≤ k → ((p : ℕ) → u ≤ p → p < k → getD marks p false ≡ false) → RowsCopied u marks from old new
+      → RowsCopied k marks from old new
+  rows-over u k new l over h =
+      record {
+        size = h .size;
+        copied = λ p v hp hv m. go p v hp hv m (bool-cases (ltb p u));
+        kept = λ p v hv c. h .kept p v hv (⊎-map (λ (e : getD marks p false ≡ false). e) (λ (e : k ≤ p). omega arith) c);
+      }
+    where
+      go : (p v : ℕ) → p < k → v < 159 → getD marks p false ≡ true → (ltb p u ≡ true) ⊎ (ltb p u ≡ false) → cell new p v ≡ cell from p v
+      go p v hp hv m (inl before) = h .copied p v (ltb-true p u before) hv m
+      go p v hp hv m (inr after) = clash m (over p (ltb-false p u after) hp)
+
+  -- a marked row
+  pub rows-next : (u : ℕ) (new more : List ℕ) → getD marks u false ≡ true → RowsCopied u marks from old new → RowCopied u 159 from new more
+      → RowsCopied (u + 1) marks from old more
+  rows-next u new more m h r =
+      record {
+        size = r .size ∙ h .size;
+        copied = λ p v hp hv k. go p v hp hv k (bool-cases (eqb p u));
+        kept = λ p v hv c. r .kept (p * 159 + v) (aside p v hv c) ∙ h .kept p v hv (⊎-map (λ (e : getD marks p false ≡ false). e) (λ (e : u + 1 ≤ p). omega arith) c);
+      }
+    where
+      apart : (p v : ℕ) → v < 159 → (p ≡ u → ⊥) → (p * 159 + v < u * 159) ⊎ (u * 159 + 159 ≤ p * 159 + v)
+      apart p v hv n = side-of (bool-cases (ltb p u))
+        where
+          side-of : (ltb p u ≡ true) ⊎ (ltb p u ≡ false) → (p * 159 + v < u * 159) ⊎ (u * 159 + 159 ≤ p * 159 + v)
+          side-of (inl e) = inl (omega (arith, ltb-true p u e))
+          side-of (inr e) = inr (omega (arith, ltb-false p u e, n))
+
+      aside : (p v : ℕ) → v < 159 → (getD marks p false ≡ false) ⊎ (u + 1 ≤ p) → (p * 159 + v < u * 159) ⊎ (u * 159 + 159 ≤ p * 159 + v)
+      aside p v hv (inl k) = apart p v hv (λ (e : p ≡ u). clash m (rw e at k))
+      aside p v hv (inr k) = apart p v hv (λ (e : p ≡ u). omega arith)
+
+      go : (p v : ℕ) → p < u + 1 → v < 159 → getD marks p false ≡ true → (eqb p u ≡ true) ⊎ (eqb p u ≡ false) → cell more p v ≡ cell from p v
+      go p v hp hv k (inl same) = rw (eqb-true p u same) (r .copied v hv)
+      go p v hp hv k (inr other) =
+          let n = eqb-false p u other in
+          r .kept (p * 159 + v) (apart p v hv n) ∙ h .copied p v (omega (arith, n)) hv k

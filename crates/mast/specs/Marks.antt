@@ -34,6 +34,7 @@ pub record Marked (n : ℕ) (ss : List Tree) (x : Label) (marks : List Bool) : T
 pub record FirstMarked (nodes : ℕ) (marks : List Bool) (v k : ℕ) : Type 0 where
   pub up : v ≤ k
   pub low : k ≤ nodes
+  pub hit : k < nodes → getD marks k false ≡ true
   pub over : (q : ℕ) → v ≤ q → q < k → getD marks q false ≡ false
 
 -- `next` has it for each number from `start` on

@@ -2,7 +2,7 @@
 -- Intermediate: nothing public rests on this text.
 use Prim.Native.Nat.{ℕ, _+_, _*_, _<_, _≤_, max, min}
 use mathlib.Core.Path.{_≡_}
-use mathlib.Core.Bool.{Bool, false, cond, _&&_}
+use mathlib.Core.Bool.{Bool, true, false, cond, _&&_}
 use mathlib.Core.Logic.{_⊎_}
 use mathlib.Core.List.{List}
 use lib.Dec.{eqb}
@@ -65,6 +65,18 @@ pairValue a b rank left2 right2 rank2 weight cells u v =
     (max (cell cells u (getD left2 v 0)) (cell cells u (getD right2 v 0))))
     (cond (eqb (getD left2 v 0) v) (max (cell cells a v) (cell cells b v))
     (innerValue cells u v a b (getD left2 v 0) (getD right2 v 0)))
+
+-- the first v cells of row u copied
+pub record RowCopied (u v : ℕ) (from old new : List ℕ) : Type 0 where
+  pub size : length new ≡ length old
+  pub copied : (q : ℕ) → q < v → cell new u q ≡ cell from u q
+  pub kept : (i : ℕ) → (i < u * 159) ⊎ (u * 159 + v ≤ i) → getD new i 0 ≡ getD old i 0
+
+-- the marked rows before row `end` copied
+pub record RowsCopied (end : ℕ) (marks : List Bool) (from old new : List ℕ) : Type 0 where
+  pub size : length new ≡ length old
+  pub copied : (u v : ℕ) → u < end → v < nodeLimit → getD marks u false ≡ true → cell new u v ≡ cell from u v
+  pub kept : (u v : ℕ) → v < nodeLimit → (getD marks u false ≡ false) ⊎ (end ≤ u) → cell new u v ≡ cell old u v
 
 -- the arrays stand for the subtrees ss and ts, and the weights by rank for the weights w of labels
 pub record Setting (s t : Side) (weight : List ℕ) (ss ts : List Tree) (w : Label → ℕ) : Type 0 where

@@ -183,6 +183,7 @@ fn find_set(
     rank_leaves(order2, m, &mut rank2);
     weights_in(first, tree1, list, places, &rank1, m, weight);
     let mut cells = [0u16; 25281];
+    let mut aside = [0u16; 25281];
     solve_set(
         &left1,
         &right1,
@@ -197,6 +198,7 @@ fn find_set(
         m,
         weight,
         &mut cells,
+        &mut aside,
         places.count,
     )
 }

@@ -22,6 +22,7 @@ ghost use Rattle.mast.specs.Engine.{Weighs, forcedFrom};
 ghost use Rattle.mast.specs.Choice.{Ready, Job, greatest, Topped, Forced, Tried, Passed, Solved};
 use crate::marks::above;
 use crate::marks::every_node;
+use crate::table::copy_rows;
 use crate::table::fill;
 
 // The cell of both roots: the greatest weight of all.
@@ -127,7 +128,7 @@ fn fill_all(
 }
 
 // Forces the label with rank r, and lets it go again unless a set of this size holds all forced labels, one more than `number`.
-// Only cells above the label's leaves change with its weight.
+// Only cells above the label's leaves change with its weight, so their rows are put aside and put back.
 fn try_label(
     left1: &[usize; 159],
     right1: &[usize; 159],
@@ -142,16 +143,19 @@ fn try_label(
     m: usize,
     weight: &mut [u16; 81],
     cells: &mut [u16; 25281],
+    aside: &mut [u16; 25281],
     size: u16,
     number: u16,
     r: usize,
 ) -> bool
     requires { ⌜ Ready (side (now left1) (now right1) (now rank1) nodes1) (side (now left2) (now right2) (now rank2) nodes2) ⌝ }
     requires { ⌜ (m ≤ 80) × (r < m) × (number < 65535) ⌝ }
+    ensures { λ _. ⌜ (length (now (aside .entry)) ≡ 25281 → length (now (aside .exit)) ≡ 25281) ⌝ }
     ensures { λ b. ⌜ ((s t : Tree) (F : List Label)
         → Job s t (side (now (left1 .entry)) (now (right1 .entry)) (now (rank1 .entry)) nodes1)
         (side (now (left2 .entry)) (now (right2 .entry)) (now (rank2 .entry)) nodes2) (now (order1 .entry)) (now (order2 .entry)) m
-        → isIn (getD (common s t) r []) F ≡ false → Forced s t F number (now (weight .entry)) (now (cells .entry))
+        → isIn (getD (common s t) r []) F ≡ false → length (now (aside .entry)) ≡ 25281
+        → Forced s t F number (now (weight .entry)) (now (cells .entry))
         → Tried s t size (getD (common s t) r []) F number b (now (weight .exit)) (now (cells .exit))) ⌝ }
 {
     let leaf1 = order1[r];
@@ -160,6 +164,7 @@ fn try_label(
     let mut next2 = [0usize; 160];
     above(left1, right1, nodes1, leaf1, &mut next1);
     above(left2, right2, nodes2, leaf2, &mut next2);
+    copy_rows(cells, aside, nodes1, &next1);
     weight[r] = 128;
     let top = weigh(
         left1,
@@ -179,20 +184,7 @@ fn try_label(
         return true;
     }
     weight[r] = 1;
-    weigh(
-        left1,
-        right1,
-        rank1,
-        nodes1,
-        left2,
-        right2,
-        rank2,
-        nodes2,
-        weight,
-        &next1,
-        &next2,
-        cells,
-    );
+    copy_rows(aside, cells, nodes1, &next1);
     false
 }
 
@@ -211,6 +203,7 @@ fn pass_label(
     m: usize,
     weight: &mut [u16; 81],
     cells: &mut [u16; 25281],
+    aside: &mut [u16; 25281],
     size: u16,
     number: u16,
     r: usize,
@@ -218,10 +211,11 @@ fn pass_label(
     requires { ⌜ Ready (side (now left1) (now right1) (now rank1) nodes1) (side (now left2) (now right2) (now rank2) nodes2) ⌝ }
     requires { ⌜ (m ≤ 80) × (r < m) × (number < 65535) ⌝ }
     ensures { λ n. ⌜ n ≤ number + 1 ⌝ }
+    ensures { λ _. ⌜ (length (now (aside .entry)) ≡ 25281 → length (now (aside .exit)) ≡ 25281) ⌝ }
     ensures { λ n. ⌜ ((s t : Tree) (K : List Label)
         → Job s t (side (now (left1 .entry)) (now (right1 .entry)) (now (rank1 .entry)) nodes1)
         (side (now (left2 .entry)) (now (right2 .entry)) (now (rank2 .entry)) nodes2) (now (order1 .entry)) (now (order2 .entry)) m
-        → Passed s t K size r number (now (weight .entry)) (now (cells .entry))
+        → length (now (aside .entry)) ≡ 25281 → Passed s t K size r number (now (weight .entry)) (now (cells .entry))
         → Passed s t K size (r + 1) n (now (weight .exit)) (now (cells .exit))) ⌝ }
 {
     if weight[r] == 128 {
@@ -244,6 +238,7 @@ fn pass_label(
         m,
         weight,
         cells,
+        aside,
         size,
         number,
         r,
@@ -269,6 +264,7 @@ fn choose(
     m: usize,
     weight: &mut [u16; 81],
     cells: &mut [u16; 25281],
+    aside: &mut [u16; 25281],
     size: u16,
     required: u16,
 )
@@ -277,7 +273,7 @@ fn choose(
     ensures { λ _. ⌜ ((s t : Tree) (K : List Label)
         → Job s t (side (now (left1 .entry)) (now (right1 .entry)) (now (rank1 .entry)) nodes1)
         (side (now (left2 .entry)) (now (right2 .entry)) (now (rank2 .entry)) nodes2) (now (order1 .entry)) (now (order2 .entry)) m
-        → Passed s t K size 0 required (now (weight .entry)) (now (cells .entry))
+        → length (now (aside .entry)) ≡ 25281 → Passed s t K size 0 required (now (weight .entry)) (now (cells .entry))
         → forcedFrom (now (weight .exit)) 0 (common s t) ≡ greedy (fits (greatest s t) size) (common s t) (sorted K)) ⌝ }
 {
     let mut number = required;
@@ -297,6 +293,7 @@ fn choose(
             m,
             weight,
             cells,
+            aside,
             size,
             number,
             r,
@@ -321,6 +318,7 @@ pub(crate) fn solve_set(
     m: usize,
     weight: &mut [u16; 81],
     cells: &mut [u16; 25281],
+    aside: &mut [u16; 25281],
     count: usize,
 ) -> bool
     requires { ⌜ Ready (side (now left1) (now right1) (now rank1) nodes1) (side (now left2) (now right2) (now rank2) nodes2) ⌝ }
@@ -330,7 +328,7 @@ pub(crate) fn solve_set(
         (side (now (left2 .entry)) (now (right2 .entry)) (now (rank2 .entry)) nodes2) (now (order1 .entry)) (now (order2 .entry)) m
         → distinct K ≡ true → Common s t (setOf K) → count ≡ length K
         → Weighs (common s t) (sorted K) (now (weight .entry)) → length (now (cells .entry)) ≡ 25281
-        → Solved s t K found (now (weight .exit))) ⌝ }
+        → length (now (aside .entry)) ≡ 25281 → Solved s t K found (now (weight .exit))) ⌝ }
 {
     let top = fill_all(
         left1,
@@ -362,6 +360,7 @@ pub(crate) fn solve_set(
         m,
         weight,
         cells,
+        aside,
         held + top % 128,
         held,
     );

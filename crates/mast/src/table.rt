@@ -8,11 +8,11 @@ ghost use mathlib.Core.Path.{_≡_};
 ghost use mathlib.Core.Bool.{Bool};
 ghost use mathlib.Core.List.{List};
 ghost use Prim.Native.Nat.{ℕ, _+_, _*_, _<_, _≤_, max};
-ghost use lib.ListN.{getD};
+ghost use lib.ListN.{length, getD};
 ghost use Rattle.trees.specs.Label.{Label};
 ghost use Rattle.trees.specs.Tree.{Tree};
 ghost use Rattle.mast.specs.Table.{capped, cell, Told, leafValue, innerValue, pairValue};
-ghost use Rattle.mast.specs.Table.{Shape, side, Setting, Done, RightWhereUnmarked, AllRight};
+ghost use Rattle.mast.specs.Table.{Shape, side, RowCopied, RowsCopied, Setting, Done, RightWhereUnmarked, AllRight};
 ghost use Rattle.mast.specs.Marks.{Links, Upward};
 
 fn larger(a: u16, b: u16) -> u16
@@ -240,5 +240,38 @@ pub(crate) fn fill(
             u,
         );
         u = next1[u + 1];
+    }
+}
+
+// Copies row u of one table into the other.
+fn copy_row(from: &[u16; 25281], to: &mut [u16; 25281], u: usize)
+    requires { ⌜ u < 159 ⌝ }
+    ensures { λ _. ⌜ (length (now (to .entry)) ≡ 25281
+        → RowCopied u 159 (now (from .entry)) (now (to .entry)) (now (to .exit))) ⌝ }
+{
+    let row = u * 159;
+    let mut v: usize = 0;
+    while v < 159 {
+        to[row + v] = from[row + v];
+        v += 1;
+    }
+}
+
+// Copies the linked rows.
+pub(crate) fn copy_rows(
+    from: &[u16; 25281],
+    to: &mut [u16; 25281],
+    nodes: usize,
+    next: &[usize; 160],
+)
+    requires { ⌜ (nodes ≤ 159) × Upward nodes (now next) ⌝ }
+    ensures { λ _. ⌜ ((marks : List Bool) → Links 0 nodes marks (now (next .entry)) → length (now (to .entry)) ≡ 25281
+        → RowsCopied nodes marks (now (from .entry)) (now (to .entry)) (now (to .exit))) ⌝ }
+    ensures { λ _. ⌜ (length (now (to .entry)) ≡ 25281 → length (now (to .exit)) ≡ 25281) ⌝ }
+{
+    let mut u = next[0];
+    while u < nodes {
+        copy_row(from, to, u);
+        u = next[u + 1];
     }
 }

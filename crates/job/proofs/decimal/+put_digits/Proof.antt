@@ -57,19 +57,26 @@ module _ (t : ℕ) where
 
   slice-write-area-2 : put-digits-lts.Need-slice-write-area-2 claims (put-digits-at t) put-digits.Post
   slice-write-area-2 c =
-      let put = c .before .before .before .put-digits in
-      omega (arith, digits-end _ _ (put .ensures), put .ensures .whole, c .before .before .before .before .before .before .before .before .pre .1, c .before .before .before .before .before .before .if1 .left)
+      let at-put = c .before .before .before in
+      let put = at-put .put-digits in
+      omega (arith, digits-end _ _ (put .ensures), put .ensures .whole, at-put .before .before .before .before .before .pre .1, at-put .before .before .before .if1 .left)
 
   add-result-2 : put-digits-lts.Need-add-result-2 claims (put-digits-at t) put-digits.Post
   add-result-2 c =
-      let put = c .before .before .before .put-digits in
-      omega (arith, digits-end _ _ (put .ensures), c .before .before .before .before .before .before .before .before .pre .1, c .before .before .before .before .before .before .if1 .left, c .before .before .before .before .before .before .before .before)
+      let at-put = c .before .before .before in
+      let start = at-put .before .before .before .before .before in
+      omega (arith, digits-end _ _ (at-put .put-digits .ensures), start .pre .1, at-put .before .before .before .if1 .left, start)
 
   same-length-2 : put-digits-lts.Need-same-length-2 claims (put-digits-at t) put-digits.Post
-  same-length-2 c = length-set (c .before .before .before .put-digits .last .1 .1 .0) (c .before .before .before .put-digits .result) _ ∙ c .before .before .before .put-digits .ensures .whole
+  same-length-2 c =
+      let put = c .before .before .before .put-digits in
+      length-set (put .last .1 .1 .0) (put .result) _ ∙ put .ensures .whole
 
   returns-3 : put-digits-lts.Need-returns-3 claims (put-digits-at t) put-digits.Post
-  returns-3 c = next-digit _ _ _ _ _ _ _ (c .before .before .before .put-digits .ensures) (omega (arith, c .before .before .before .before .before .before .if1 .left)) (omega (arith, c .before .before .before .before .before .if2 .left)) (c .digit2 .ensures) (slice-write-area-2 c)
+  returns-3 c =
+      let at-put = c .before .before .before in
+      next-digit _ _ _ _ _ _ _ (at-put .put-digits .ensures) (omega (arith, at-put .before .before .before .if1 .left))
+      (omega (arith, at-put .before .before .if2 .left)) (c .digit2 .ensures) (slice-write-area-2 c)
 
 pub +put-digits-spec : {M : Type 1} → statement M
 +put-digits-spec =

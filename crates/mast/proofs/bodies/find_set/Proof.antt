@@ -23,7 +23,7 @@ weights-in-requires c κs =
 
 solve-set-requires : tie.Need-solve-set-requires
 solve-set-requires c κs =
-    let at-rank-leaves2 = c .before .before .before .before .before .before .before .before .before .before .before in
+    let at-rank-leaves2 = c .before .before .before .before .before .before .before .before .before .before .before .before in
     let at-rank-leaves = at-rank-leaves2 .before .before in
     let start = at-rank-leaves .before .before .before .before .before .before .before .before .before in
     let o = start .pre .0 in
@@ -31,7 +31,7 @@ solve-set-requires c κs =
 
 returns : tie.Need-returns
 returns c =
-    let at-weights-in = c .before .before .before .before .before .before .before .before .before in
+    let at-weights-in = c .before .before .before .before .before .before .before .before .before .before in
     let at-rank-leaves2 = at-weights-in .before .before .before in
     let at-rank-leaves = at-rank-leaves2 .before .before in
     let start = at-rank-leaves .before .before .before .before .before .before .before .before .before in
@@ -44,7 +44,7 @@ returns c =
     (c .solve-set .ensures (b .s) (b .t) (b .K) (job-of _ _ _ _ _ _ _ _ _ o _ _ h (at-rank-leaves2 .rank-leaves2 .ensures)) (l .different)
     (o .given .held) (l .count-is)
     (at-weights-in .weights-in .ensures (b .s) (b .t) (b .K) (first-leaves _ _ _ _ _ _ b) l (first-ranked _ _ _ _ _ _ _ _ _ o _ h) (o .order .count) (o .given .held))
-    (length-replicate {A = ℕ} 25281 0))
+    (length-replicate {A = ℕ} 25281 0) (length-replicate {A = ℕ} 25281 0))
 
 pub find-set-spec : {M : Type 1} → statement M
 find-set-spec =

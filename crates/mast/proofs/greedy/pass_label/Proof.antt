@@ -18,10 +18,13 @@ element-copy-out-if1 c = search needs
 returns : tie.Need-returns
 returns c = (
   omega arith,
-  λ s t K job p.
-      let start = c .before .before in
-      let h : start .args .r < length (common s t) = omega (arith, job .order .count, start .pre .1 .1) in
-      passed-in s t K _ _ _ h _ _ p (weight-in (common s t) (p .labels) _ _ h (p .forced .weighs) (c .if1 .taken)),
+  (
+    λ size. size,
+    λ s t K job size p.
+        let start = c .before .before in
+        let h : start .args .r < length (common s t) = omega (arith, job .order .count, start .pre .1 .1) in
+        passed-in s t K _ _ _ h _ _ p (weight-in (common s t) (p .labels) _ _ h (p .forced .weighs) (c .if1 .taken)),
+  ),
 )
 
 add-if2 : tie.Need-add-if2
@@ -30,11 +33,14 @@ add-if2 c = search needs
 returns-2 : tie.Need-returns-2
 returns-2 c = (
   omega arith,
-  λ s t K job p.
-      let start = c .before .before .before in
-      let h : start .args .r < length (common s t) = omega (arith, job .order .count, start .pre .1 .1) in
-      let new = weight-out (common s t) (p .labels) _ _ h (p .forced .weighs) (c .before .if1 .left) in
-      passed-full s t K _ _ _ h _ _ p new (omega (arith, c .if2 .taken)),
+  (
+    λ size. size,
+    λ s t K job size p.
+        let start = c .before .before .before in
+        let h : start .args .r < length (common s t) = omega (arith, job .order .count, start .pre .1 .1) in
+        let new = weight-out (common s t) (p .labels) _ _ h (p .forced .weighs) (c .before .if1 .left) in
+        passed-full s t K _ _ _ h _ _ p new (omega (arith, c .if2 .taken)),
+  ),
 )
 
 try-label-requires : tie.Need-try-label-requires
@@ -46,21 +52,27 @@ add-result c = search needs
 returns-3 : tie.Need-returns-3
 returns-3 c = (
   omega arith,
-  λ s t K job p.
-      let start = c .before .before .before .before .before .before .before in
-      let h : start .args .r < length (common s t) = omega (arith, job .order .count, start .pre .1 .1) in
-      let new = weight-out (common s t) (p .labels) _ _ h (p .forced .weighs) (c .before .before .before .before .before .if1 .left) in
-      passed-tried s t K _ _ _ h _ _ _ _ true p new (rw (c .if3 .taken) at (c .before .try-label .ensures s t (p .labels) job new (p .forced))),
+  (
+    λ size. c .before .try-label .ensures .0 size,
+    λ s t K job size p.
+        let start = c .before .before .before .before .before .before .before .before in
+        let h : start .args .r < length (common s t) = omega (arith, job .order .count, start .pre .1 .1) in
+        let new = weight-out (common s t) (p .labels) _ _ h (p .forced .weighs) (c .before .before .before .before .before .before .if1 .left) in
+        passed-tried s t K _ _ _ h _ _ _ _ true p new (rw (c .if3 .taken) at (c .before .try-label .ensures .1 s t (p .labels) job new size (p .forced))),
+  ),
 )
 
 returns-4 : tie.Need-returns-4
 returns-4 c = (
   omega arith,
-  λ s t K job p.
-      let start = c .before .before .before .before .before .before .before in
-      let h : start .args .r < length (common s t) = omega (arith, job .order .count, start .pre .1 .1) in
-      let new = weight-out (common s t) (p .labels) _ _ h (p .forced .weighs) (c .before .before .before .before .before .if1 .left) in
-      passed-tried s t K _ _ _ h _ _ _ _ false p new (rw (c .if3 .left) at (c .before .try-label .ensures s t (p .labels) job new (p .forced))),
+  (
+    λ size. c .before .try-label .ensures .0 size,
+    λ s t K job size p.
+        let start = c .before .before .before .before .before .before .before .before in
+        let h : start .args .r < length (common s t) = omega (arith, job .order .count, start .pre .1 .1) in
+        let new = weight-out (common s t) (p .labels) _ _ h (p .forced .weighs) (c .before .before .before .before .before .before .if1 .left) in
+        passed-tried s t K _ _ _ h _ _ _ _ false p new (rw (c .if3 .left) at (c .before .try-label .ensures .1 s t (p .labels) job new size (p .forced))),
+  ),
 )
 
 pub pass-label-spec : {M : Type 1} → statement M

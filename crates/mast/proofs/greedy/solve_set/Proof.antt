@@ -15,7 +15,7 @@ cast-if1 c = search needs
 
 returns : tie.Need-returns
 returns c =
-    λ s t K job different held count w size.
+    λ s t K job different held count w size aside.
     let top = c .before .fill-all .ensures s t _ _ _ (sorted K) job w size in
     solved-eight s t _ _ _ _ _ job K different held _ _ (top .top-is) (λ e. c .if1 .taken (e ∙ sym count))
 
@@ -24,16 +24,16 @@ add-choose c = search needs
 
 choose-requires : tie.Need-choose-requires
 choose-requires c κs =
-    let asked = c .before .before .before .before .before .before .pre in
-    (asked .0, (asked .1, omega (arith, c .before .before .before .fill-all .ok)))
+    let asked = c .before .before .before .before .before .before .before .pre in
+    (asked .0, (asked .1, omega (arith, c .before .before .before .before .fill-all .ok)))
 
 returns-2 : tie.Need-returns-2
 returns-2 c =
-    λ s t K job different held count w size.
-    let top = c .before .before .before .before .fill-all .ensures s t _ _ _ (sorted K) job w size in
-    let all = c .before .before .before .if1 .left ∙ count in
+    λ s t K job different held count w size aside.
+    let top = c .before .before .before .before .before .fill-all .ensures s t _ _ _ (sorted K) job w size in
+    let all = c .before .before .before .before .if1 .left ∙ count in
     solved-set s t _ _ _ _ _ job K different held _ _ (top .top-is) all
-    (c .choose .ensures s t K job (passed-none s t _ _ _ _ _ job K different held _ _ _ _ all w (top .filled)))
+    (c .choose .ensures s t K job aside (passed-none s t _ _ _ _ _ job K different held _ _ _ _ all w (top .filled)))
 
 pub solve-set-spec : {M : Type 1} → statement M
 solve-set-spec =
