@@ -1,28 +1,30 @@
 -- The greedy loop over weights by rank: what one more forced label changes, one step of the loop, and that the loop's end is the
 -- answer. Assumes nothing.
-use Prim.Native.Nat.{ℕ, suc, _+_, _/_, _<_, _≤_}
-use mathlib.Core.Path.{_≡_, refl, sym, _∙_, ap}
+use Prim.Native.Nat.{ℕ, suc, _+_, _/_, _%_, _<_, _≤_}
+use mathlib.Core.Path.{_≡_, refl, sym, _∙_, ap, subst}
 use mathlib.Core.Bool.{Bool, true, false, cond, _&&_}
 use mathlib.Core.Logic.{_⊎_, inl, inr, ⊎-elim}
 use mathlib.Core.List.{List, [], _∷_}
 use native.Mathlib.Omega.{arith}
 use lib.Dec.{eqb}
-use lib.ListN.{length, getD, set, drop, length-set, drop-of-length-le}
+use lib.ListN.{length, getD, set, drop, replicate, length-set, getD-replicate, drop-of-length-le}
 use lib.Seq.{getD-set-same, getD-set-other, drop-cons}
 use borrow.Author.Tests.{eq-eqb, ne-eqb, eqb-true, eqb-false}
 use Rattle.trees.specs.Label.{Label, isIn, distinct}
 use Rattle.trees.specs.Tree.{Tree, leaves}
 use Rattle.trees.proofs.Bools.{bool-cases, clash}
 use Rattle.trees.proofs.ListLaws.{at-in}
-use Rattle.agreement.specs.Closer.{Common}
+use Rattle.agreement.specs.Closer.{Common, Agree}
 use Rattle.agreement.specs.Sets.{increasing, insert, sorted, keep, common, setOf}
 use Rattle.agreement.specs.Weights.{forcing, forcedUnit}
 use Rattle.agreement.specs.GreedyLoop.{greedy, sizeOfWeight, fits}
 use Rattle.agreement.specs.Greatest.{Greatest}
 use Rattle.agreement.proofs.SetLaws.{in-head, in-cases, in-other, in-insert, length-insert, insert-inc}
-use Rattle.agreement.proofs.SetLaws.{length-sorted, sorted-inc, common-inc, in-common, keep-set}
+use Rattle.agreement.specs.Demand.{Allowed, IsAnswer}
+use Rattle.agreement.proofs.SetLaws.{length-sorted, sorted-inc, common-inc, in-common, common-in, keep-set, keep-whole, within-few, inc-distinct}
+use Rattle.agreement.proofs.WeightLaws.{forced-reached}
 use Rattle.agreement.proofs.DemandLaws.{sorted-within}
-use Rattle.agreement.proofs.Promises.{oracle-promise, oracle-refusal}
+use Rattle.agreement.proofs.Promises.{set-promise, oracle-promise, oracle-refusal}
 use Rattle.mast.specs.Engine.{Weighs, forcedFrom}
 use Rattle.mast.specs.Table.{Side}
 use Rattle.mast.specs.Choice.{Job, greatest, Filled, Forced, Tried, Passed, Solved}
@@ -226,6 +228,13 @@ kept-forced F (c ∷ cs) weight r each =
     go true e ih = rw (e, ih) refl
     go false e ih = rw (e, ih) refl
 
+-- every weight is that of a forced label
+pub forced-all : (n r : ℕ) (cs : List Label) → r + length cs ≤ n → forcedFrom (replicate n forcedUnit) r cs ≡ cs
+unfolding forcedFrom
+forced-all n r [] h = refl
+forced-all n r (c ∷ cs) h =
+    rw (getD-replicate n r forcedUnit 0 (omega arith)) (ap (_∷_ c) (forced-all n (suc r) cs (omega arith)))
+
 -- the labels that are forced by weight
 pub forced-list : (s t : Tree) (F : List Label) (weight : List ℕ) → distinct (leaves s) ≡ true → increasing F ≡ true
     → Common s t (setOf F) → Weighs (common s t) F weight → forcedFrom weight 0 (common s t) ≡ F
@@ -274,6 +283,52 @@ module _ (s t : Tree) (one two : Side) (order1 order2 : List ℕ) (m : ℕ) (job
           (oracle-promise s t K (job .first .valid) different (greatest s t) held oracle (ap (λ (n : ℕ). n / forcedUnit) (sym e) ∙ all));
       eight = λ k. clash {b = true} refl k;
     }
+
+    -- it is as large as all common labels: they are the answer
+    pub solved-whole : (M : ℕ) (weight : List ℕ) → M ≡ greatest s t (sorted K) → M / forcedUnit ≡ length K
+        → sizeOfWeight M ≡ length (common s t) → forcedFrom weight 0 (common s t) ≡ common s t → Solved s t K true weight
+    solved-whole M weight e all whole f = record {
+      set = λ k. rw f (set-promise s t K (job .first .valid) different (common s t) .1 isAnswer);
+      eight = λ k. clash {b = true} refl k;
+    }
+      where
+        ds : distinct (leaves s) ≡ true
+        ds = job .first .valid .different
+
+        all-of : (Y : List Label) → increasing Y ≡ true → Common s t (setOf Y) → length (common s t) ≤ length Y → Y ≡ common s t
+        all-of Y inc c l =
+            let same = keep-set s t Y ds inc c in
+            sym same ∙ keep-whole (setOf Y) (common s t) (omega (arith, ap (length {A = Label}) same))
+
+        inside : Common s t (setOf (sorted K))
+        inside x k = held x (sorted-within K x k)
+
+        reached : (Y : List Label) × Allowed s t (sorted K) Y × (length Y ≡ greatest s t (sorted K) / forcedUnit + greatest s t (sorted K) % forcedUnit)
+        reached =
+            forced-reached s t (sorted K) (greatest s t (sorted K)) ds (job .first .valid .few) (sorted-inc K different) inside
+            (oracle (sorted K) (sorted-inc K different) inside)
+            (ap (λ (n : ℕ). n / forcedUnit) (sym e) ∙ all ∙ sym (length-sorted K))
+
+        full : reached .0 ≡ common s t
+        full =
+            all-of (reached .0) (reached .1 .ordered) (reached .1 .commonLeaves)
+            (omega (arith, reached .2, ap sizeOfWeight (sym e) ∙ whole))
+
+        allowed : Allowed s t K (common s t)
+        allowed = record {
+          ordered = common-inc s t ds;
+          required = λ x k. common-in s t x (held x k .0) (held x k .1);
+          commonLeaves = in-common s t;
+          agreed = subst (λ (X : List Label). Agree s t (setOf X)) full (reached .1 .agreed);
+        }
+
+        isAnswer : IsAnswer s t K (common s t)
+        isAnswer = record {
+          allowedSet = allowed;
+          largestSize = λ Y p. within-few Y (common s t) (p .ordered) (inc-distinct (common s t) (common-inc s t ds))
+              (λ x k. common-in s t x (p .commonLeaves x k .0) (p .commonLeaves x k .1));
+          firstOfSize = λ Y p l. inl (sym (all-of Y (p .ordered) (p .commonLeaves) (omega (arith, l))));
+        }
 
     -- it does not
     pub solved-eight : (M : ℕ) (weight : List ℕ) → M ≡ greatest s t (sorted K) → (M / forcedUnit ≡ length K → ⊥) → Solved s t K false weight

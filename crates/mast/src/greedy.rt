@@ -346,6 +346,12 @@ pub(crate) fn solve_set(
     if held as usize != count {
         return false;
     }
+    let size = held + top % 128;
+    if size as usize == m {
+        // a set as large as all common labels is all of them
+        *weight = [128; 81];
+        return true;
+    }
     choose(
         left1,
         right1,
@@ -361,7 +367,7 @@ pub(crate) fn solve_set(
         weight,
         cells,
         aside,
-        held + top % 128,
+        size,
         held,
     );
     true
