@@ -18,8 +18,9 @@ use Rattle.job.specs.declared.JobAnswer.the-variants as job-answer
 use Rattle.job.specs.declared.Named.{Named}
 use Rattle.job.specs.Contents.{Bodies, entryOf, jobOf, bodiesOf}
 use Rattle.job.specs.Printed.{treeRoom, solveBodies, solveJob, recordLines, printedOf, printed}
-use Rattle.job.specs.Answered.{labelIn, namedLine, partOfLabel, recordAnswer, answered}
+use Rattle.job.specs.Answered.{labelIn, namedLine, partOfLabel, answered}
 use Rattle.job.proofs.ContentsLaws.{contents-read}
+use Rattle.job.proofs.RecordLaws.{record-no-clash}
 use Rattle.job.proofs.ShownLaws.{Shown, shown-label, shown-later, good-short}
 use Rattle.job.proofs.SolvedLaws.{ClashedBy, From, solution-from, list-text, eight, label-listed}
 
@@ -89,19 +90,11 @@ module _ (job : List ℕ) (xs : List Label) (a b c : Label) (w : ClashedJob job 
 -- the line that places and sizes of number 8 give is the printed one
 pub clash-line : (job : List ℕ) (room : ℕ) (n : Named) → answered (length job) room (solveJob job) ≡ job-answer.Disagree n
     → namedLine job n ≡ printed job
-unfolding answered recordAnswer printed
+unfolding answered printed
 clash-line job room n e = go (solveJob job) refl e
   where
-    no-record : (q : Bool) (k : ℕ) (p : Refusal) → cond q (job-answer.Written k) (job-answer.Refused p) ≡ job-answer.Disagree n → ⊥
-    no-record true k p h =
-        let z : _≡_ {A = ℕ} 0 1 = cc in
-        omega arith
-    no-record false k p h =
-        let z : _≡_ {A = ℕ} 0 1 = cc in
-        omega arith
-
     go : (x : Solution) → solveJob job ≡ x → answered (length job) room x ≡ job-answer.Disagree n → namedLine job n ≡ printedOf x
-    go (solved s X text) f h = absurd (no-record (leb (length (recordLines X text)) room) _ _ h)
+    go (solved s X text) f h = absurd (record-no-clash (recordLines X text) room n h)
     go (clashed xs a b c) f h =
         let w = clashed-job job xs a b c f in
         let m : named job xs a b c w ≡ n = cc in

@@ -7,6 +7,7 @@ pub mod DecimalLaws
 pub mod LineLaws
 pub mod PrintLaws
 pub mod Promises
+pub mod RecordLaws
 pub mod RoomLaws
 pub mod ShownLaws
 pub mod SolvedLaws

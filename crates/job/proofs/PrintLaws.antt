@@ -1,56 +1,20 @@
 -- What is printed for a job, from the answer to it. Assumes nothing.
 use Prim.Native.Nat.{ℕ}
 use mathlib.Core.Path.{_≡_, refl, sym, _∙_, ap}
-use mathlib.Core.Bool.{true, false}
-use mathlib.Core.Logic.{_⊎_, inl, inr}
 use mathlib.Core.List.{List}
 use native.Mathlib.Omega.{arith}
-use lib.Dec.{leb}
 use lib.ListN.{length}
-use Rattle.trees.specs.declared.Reason.the-variants.{TooShort as TooShortReason}
-use Rattle.trees.specs.declared.Body.the-variants.{O}
 use Rattle.trees.specs.declared.Refusal.{Refusal}
 use Rattle.trees.specs.Refusals.{numberOf}
-use Rattle.trees.proofs.Bools.{bool-cases}
 use Rattle.mast.specs.Largest.{Solution, solved, clashed, turned}
 use Rattle.job.specs.declared.JobAnswer.{JobAnswer}
 use Rattle.job.specs.declared.JobAnswer.the-variants as job-answer
 use Rattle.job.specs.declared.LineAnswer.the-variants.{Written, TooShort}
 use Rattle.job.specs.declared.Named.{Named}
 use Rattle.job.specs.Printed.{recordLines, printedOf, printed, solveJob}
-use Rattle.job.specs.Answered.{lineAnswer, lineOutput, recordAnswer, answered, jobOutput}
+use Rattle.job.specs.Answered.{lineAnswer, lineOutput, answered, jobOutput}
+use Rattle.job.proofs.RecordLaws.{record-written, record-refused, record-no-clash}
 use Rattle.job.proofs.RoomLaws.{job-fits}
-
--- a record of lines: written, or number 9
-record-written : (lines : List ℕ) (room n : ℕ) → recordAnswer lines room ≡ job-answer.Written n → Written n ≡ lineAnswer lines room
-unfolding recordAnswer lineAnswer
-record-written lines room n e = go (bool-cases (leb (length lines) room))
-  where
-    go : (leb (length lines) room ≡ true) ⊎ (leb (length lines) room ≡ false) → Written n ≡ lineAnswer lines room
-    go (inl f) =
-        let g : job-answer.Written (length lines) ≡ job-answer.Written n = rw f at e in
-        let k : length lines ≡ n = cc in
-        rw f (ap Written (sym k))
-    go (inr f) =
-        let g : job-answer.Refused (record { reason = TooShortReason; body = O; place = 0 }) ≡ job-answer.Written n = rw f at e in
-        let z : _≡_ {A = ℕ} 0 1 = cc in
-        absurd (omega arith)
-
-record-refused : (lines : List ℕ) (room : ℕ) (q : Refusal) → recordAnswer lines room ≡ job-answer.Refused q
-    → (TooShort ≡ lineAnswer lines room) × (numberOf (q .reason) ≡ 9)
-unfolding recordAnswer lineAnswer numberOf
-record-refused lines room q e = go (bool-cases (leb (length lines) room))
-  where
-    go : (leb (length lines) room ≡ true) ⊎ (leb (length lines) room ≡ false)
-        → (TooShort ≡ lineAnswer lines room) × (numberOf (q .reason) ≡ 9)
-    go (inl f) =
-        let g : job-answer.Written (length lines) ≡ job-answer.Refused q = rw f at e in
-        let z : _≡_ {A = ℕ} 0 1 = cc in
-        absurd (omega arith)
-    go (inr f) =
-        let g : job-answer.Refused (record { reason = TooShortReason; body = O; place = 0 }) ≡ job-answer.Refused q = rw f at e in
-        let k : record { reason = TooShortReason; body = O; place = 0 } ≡ q = cc in
-        (rw f refl, ap (λ (r : Refusal). numberOf (r .reason)) (sym k))
 
 module _ (job out : List ℕ) where
   abbrev room : ℕ
@@ -71,22 +35,11 @@ module _ (job out : List ℕ) where
       go (turned q) h = let z : _≡_ {A = ℕ} 0 1 = cc in absurd (omega arith)
 
   pub output-clash : (n : Named) → told (solveJob job) ≡ job-answer.Disagree n → jobOutput (solveJob job) out ≡ out
-  unfolding answered recordAnswer jobOutput
+  unfolding answered jobOutput
   output-clash n e = go (solveJob job) e
     where
       go : (x : Solution) → told x ≡ job-answer.Disagree n → jobOutput x out ≡ out
-      go (solved s X text) h = no-record (bool-cases (leb (length (recordLines X text)) room))
-        where
-          no-record : (leb (length (recordLines X text)) room ≡ true) ⊎ (leb (length (recordLines X text)) room ≡ false)
-              → jobOutput (solved s X text) out ≡ out
-          no-record (inl f) =
-              let g : job-answer.Written (length (recordLines X text)) ≡ job-answer.Disagree n = rw f at h in
-              let z : _≡_ {A = ℕ} 0 1 = cc in
-              absurd (omega arith)
-          no-record (inr f) =
-              let g : job-answer.Refused (record { reason = TooShortReason; body = O; place = 0 }) ≡ job-answer.Disagree n = rw f at h in
-              let z : _≡_ {A = ℕ} 0 1 = cc in
-              absurd (omega arith)
+      go (solved s X text) h = absurd (record-no-clash (recordLines X text) room n h)
       go (clashed xs a b c) h = refl
       go (turned q) h = refl
 

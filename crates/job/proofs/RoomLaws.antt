@@ -2,13 +2,12 @@
 use Prim.Native.Nat.{ℕ, _≤_, _<_}
 use mathlib.Core.Path.{_≡_, refl, sym, _∙_, ap, subst}
 use mathlib.Core.Bool.{Bool, true, false, cond}
-use mathlib.Core.Logic.{_⊎_, inl, inr}
 use mathlib.Core.List.{List}
 use mathlib.Core.Option.{Option, some, none}
 use native.Mathlib.Omega.{arith}
 use lib.Dec.{leb}
 use lib.ListN.{length}
-use borrow.Author.Tests.{le-leb, lt-leb, leb-false}
+use borrow.Author.Tests.{le-leb, lt-leb}
 use Rattle.trees.specs.declared.Reason.{Reason}
 use Rattle.trees.specs.declared.Reason.the-variants.{TooShort, JobTooLong}
 use Rattle.trees.specs.declared.Body.the-variants.{J, O}
@@ -19,7 +18,6 @@ use Rattle.trees.specs.Tree.{Tree, Valid, normal}
 use Rattle.trees.specs.Text.{normalText}
 use Rattle.trees.specs.Reading.{Reading, good, refused}
 use Rattle.trees.specs.Faults.{Fault, bad-byte, ends-too-soon, label-too-long, too-many, repeated}
-use Rattle.trees.proofs.Bools.{bool-cases}
 use Rattle.trees.proofs.NormalLaws.{normal-valid}
 use Rattle.trees.proofs.ArrayLaws.{text-short}
 use Rattle.newick.specs.ReadTree.{readTree}
@@ -37,6 +35,7 @@ use Rattle.job.specs.declared.JobAnswer.the-variants as job-answer
 use Rattle.job.specs.Contents.{Bodies, bodiesOf}
 use Rattle.job.specs.Printed.{treeRoom, solveBodies, solveJob, recordLines, printedOf, printed}
 use Rattle.job.specs.Answered.{recordAnswer, answered}
+use Rattle.job.proofs.RecordLaws.{record-refused}
 
 -- ---- the text of a restriction
 
@@ -110,19 +109,11 @@ job-fits job q e = subst NotNine e (job-never-nine job)
 -- number 9 for a job: the output is shorter than the printed lines
 pub nine-output : (job : List ℕ) (room : ℕ) (q : Refusal) → answered (length job) room (solveJob job) ≡ job-answer.Refused q
     → numberOf (q .reason) ≡ 9 → room < length (printed job)
-unfolding answered recordAnswer printed printedOf
+unfolding answered printed printedOf
 nine-output job room q e n = go (solveJob job) (job-never-nine job) e
   where
-    short : (X : List Label) (text : List ℕ) → (leb (length (recordLines X text)) room ≡ true) ⊎ (leb (length (recordLines X text)) room ≡ false)
-        → recordAnswer (recordLines X text) room ≡ job-answer.Refused q → room < length (recordLines X text)
-    short X text (inl f) h =
-        let g : job-answer.Written (length (recordLines X text)) ≡ job-answer.Refused q = rw f at h in
-        let z : _≡_ {A = ℕ} 0 1 = cc in
-        absurd (omega arith)
-    short X text (inr f) h = leb-false (length (recordLines X text)) room f
-
     go : (x : Solution) → NotNine x → answered (length job) room x ≡ job-answer.Refused q → room < length (printedOf x)
-    go (solved s X text) k h = short X text (bool-cases (leb (length (recordLines X text)) room)) h
+    go (solved s X text) k h = record-refused (recordLines X text) room q h .2
     go (clashed xs a b c) k h =
         let z : _≡_ {A = ℕ} 0 1 = cc in
         absurd (omega arith)

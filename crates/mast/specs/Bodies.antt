@@ -42,7 +42,7 @@ pub record Bodies (first second list : List ℕ) (tree1 tree2 : TreeArrays) (pla
   pub second-arrays : tree2 ≡ arraysOf t
   pub list-places : places ≡ placesOf K
 
--- both trees are read, and no more labels than this are common
+-- the smaller count of leaves of the two trees that the texts are read as
 pub record Bounded (first second : List ℕ) (most : ℕ) : Type 0 where
   pub few : most ≤ leafLimit
   pub is : (s t : Tree) → readTree first ≡ good s → readTree second ≡ good t → most ≡ mostCommon s t

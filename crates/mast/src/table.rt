@@ -45,7 +45,8 @@ fn larger_cell(cells: &[u16; 25281], u: usize, v: usize, p: usize, q: usize) -> 
     larger(cell_at(cells, u, v), cell_at(cells, p, q))
 }
 
-// Cell (u, v), without a look at the table where it is the one that was computed last: the table has its value a little later.
+// Cell (u, v), without a look at the table where it is the one that was computed last: reading back what was just stored takes
+// longer than handing it on.
 fn told_cell(cells: &[u16; 25281], u: usize, v: usize, last: usize, value: u16) -> u16
     requires { ⌜ (u < 159) × (v < 159) ⌝ }
     ensures { λ r. ⌜ (Told (now (cells .entry)) u last value → r ≡ cell (now (cells .entry)) u v) ⌝ }
