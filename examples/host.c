@@ -1,64 +1,120 @@
 /* Calls the engine from C: an answer, each refusal that the entry can give, an output that is too short, empty inputs. Prints
- * one line for each call, which .ci/run compares with examples/host.out. */
-#include "../include/agree.h"
+ * one line for each call, which .ci/run compares with examples/host.out. Each call is made in a thread whose stack has just the bytes
+ * that agree.h tells, and what the C library itself keeps there:
+ *
+ *     gcc -pthread -Iinclude -o host examples/host.c target/staticlib/libcabi.a
+ */
+#include "agree.h"
+#include <pthread.h>
 #include <stdio.h>
+#include <stdlib.h>
 #include <string.h>
+
+/* Thread data, thread-local variables and the first frames: less than two pages with glibc on x86-64. */
+#define THREAD_OWN 8192
 
 static int failed;
 
-/* One call with an output of `room` bytes inside a larger area; bytes that must not change are checked. */
-static void call(const char *first, const char *second, const char *required, size_t room)
+/* The bytes of one call; `output` is lent with `room` bytes and lies in a larger area, of which bytes that must not change are checked. */
+struct call {
+    const uint8_t *first, *second, *required, *job;
+    size_t first_length, second_length, required_length, job_length, room;
+    uint8_t output[8192];
+    struct agree_result result;
+};
+
+static struct call call;
+
+static void *run_largest(void *unused)
 {
-    uint8_t area[4096];
-    memset(area, 0x5a, sizeof area);
-    struct agree_result r = agree_largest((const uint8_t *)first, strlen(first), (const uint8_t *)second, strlen(second),
-                                          (const uint8_t *)required, strlen(required), area, room);
+    call.result = agree_largest(call.first, call.first_length, call.second, call.second_length, call.required, call.required_length,
+                                call.output, call.room);
+    return unused;
+}
+
+static void *run_job(void *unused)
+{
+    call.result = agree_job(call.job, call.job_length, call.output, call.room);
+    return unused;
+}
+
+static struct agree_result in_thread(void *(*work)(void *))
+{
+    pthread_attr_t attributes;
+    pthread_t thread;
+    memset(call.output, 0x5a, sizeof call.output);
+    pthread_attr_init(&attributes);
+    if (pthread_attr_setstacksize(&attributes, AGREE_STACK + THREAD_OWN) != 0 || pthread_create(&thread, &attributes, work, NULL) != 0)
+        abort();
+    pthread_join(thread, NULL);
+    pthread_attr_destroy(&attributes);
+    for (size_t i = call.result.length; i < sizeof call.output; i++)
+        if (call.output[i] != 0x5a)
+            failed = 1;
+    return call.result;
+}
+
+static void largest(const char *first, const char *second, const char *required, size_t room)
+{
+    call.first = (const uint8_t *)first, call.first_length = strlen(first);
+    call.second = (const uint8_t *)second, call.second_length = strlen(second);
+    call.required = (const uint8_t *)required, call.required_length = strlen(required);
+    call.room = room;
+    struct agree_result r = in_thread(run_largest);
     if (r.number == 0)
-        printf("size %zu length %zu tree %.*s\n", r.size, r.length, (int)r.length, (const char *)area);
+        printf("size %zu length %zu tree %.*s\n", r.size, r.length, (int)r.length, (const char *)call.output);
     else if (r.number == 8)
         printf("refused 8 %c %zu labels at %zu %zu %zu\n", (int)r.letter, r.place, r.first, r.second, r.third);
     else
         printf("refused %zu %c %zu\n", r.number, (int)r.letter, r.place);
-    for (size_t i = r.length; i < sizeof area; i++)
-        if (area[i] != 0x5a)
-            failed = 1;
 }
 
 /* The same for a whole job. */
 static void job(const char *bytes, size_t room)
 {
-    uint8_t area[8192];
-    memset(area, 0x5a, sizeof area);
-    struct agree_result r = agree_job((const uint8_t *)bytes, strlen(bytes), area, room);
+    call.job = (const uint8_t *)bytes, call.job_length = strlen(bytes);
+    call.room = room;
+    struct agree_result r = in_thread(run_job);
     if (r.number == 0)
-        printf("job: %zu bytes\n%.*s", r.length, (int)r.length, (const char *)area);
+        printf("job: %zu bytes\n%.*s", r.length, (int)r.length, (const char *)call.output);
     else if (r.number == 8)
         printf("job: refused 8 %c %zu labels %c%c%c\n", (int)r.letter, r.place, bytes[r.first], bytes[r.second], bytes[r.third]);
     else
         printf("job: refused %zu %c %zu\n", r.number, (int)r.letter, r.place);
-    for (size_t i = r.length; i < sizeof area; i++)
-        if (area[i] != 0x5a)
-            failed = 1;
+}
+
+/* A caterpillar of 80 leaves: no answer is deeper than it is against itself. */
+static const char *caterpillar(void)
+{
+    static char text[1024];
+    size_t n = 0;
+    for (int i = 0; i < 79; i++)
+        text[n++] = '(';
+    for (int i = 0; i < 80; i++)
+        n += (size_t)sprintf(text + n, i == 0 ? "t%02d" : ",t%02d)", i);
+    text[n++] = ';';
+    return text;
 }
 
 int main(void)
 {
-    call("((a,b),(c,d));", "((a,c),(b,d));", "a", 1518);
-    call("((((a,b),c),d),e);", "((((a,b),c),e),d);", "d,e", 1518);
-    call("(a,b);", "(c,d);", "", 0);
-    call("a;", "a;", "a", 2);
-    call("(a,b);", "(b,a);", "", 6);
-    call("(a,b);", "(b,a);", "", 5);
-    call("(a,b);", "(b,a);", "", 0);
-    call("(a b);", "a;", "", 1518);
-    call("a;", "(a,b)", "", 1518);
-    call("", "a;", "", 1518);
-    call("a;", "aaaaaaaaaaaaaaaaa;", "", 1518);
-    call("a;", "a;", "a,a", 1518);
-    call("(((((((((((((((((((((((((((((((((((((((((((((((((((((((((((((((((((((((((((((((((", "a;", "", 1518);
-    call("a;", "b;", "b", 1518);
-    call("a;", "b;", "a", 1518);
-    call("((a,b),c);", "((a,c),b);", "c,a,b", 1518);
+    largest("((a,b),(c,d));", "((a,c),(b,d));", "a", 1518);
+    largest("((((a,b),c),d),e);", "((((a,b),c),e),d);", "d,e", 1518);
+    largest("(a,b);", "(c,d);", "", 0);
+    largest("a;", "a;", "a", 2);
+    largest("(a,b);", "(b,a);", "", 6);
+    largest("(a,b);", "(b,a);", "", 5);
+    largest("(a,b);", "(b,a);", "", 0);
+    largest("(a b);", "a;", "", 1518);
+    largest("a;", "(a,b)", "", 1518);
+    largest("", "a;", "", 1518);
+    largest("a;", "aaaaaaaaaaaaaaaaa;", "", 1518);
+    largest("a;", "a;", "a,a", 1518);
+    largest("(((((((((((((((((((((((((((((((((((((((((((((((((((((((((((((((((((((((((((((((((", "a;", "", 1518);
+    largest("a;", "b;", "b", 1518);
+    largest("a;", "b;", "a", 1518);
+    largest("((a,b),c);", "((a,c),b);", "c,a,b", 1518);
+    largest(caterpillar(), caterpillar(), "t79,t00", 1518);
 
     struct agree_result r = agree_largest(NULL, 0, NULL, 0, NULL, 0, NULL, 0);
     printf("nothing: refused %zu %c %zu\n", r.number, (int)r.letter, r.place);

@@ -2,7 +2,7 @@
  *
  * Link with the archive that `rt staticlib cabi` writes, target/staticlib/libcabi.a:
  *
- *     gcc host.c target/staticlib/libcabi.a
+ *     gcc -Iinclude host.c target/staticlib/libcabi.a
  *
  * Nothing here allocates, keeps state or needs an initial call; calls from several threads do not meet.
  * A pointer may be null where its length is 0. The output must not overlap an input.
@@ -16,6 +16,10 @@
 #ifdef __cplusplus
 extern "C" {
 #endif
+
+/* Bytes of stack that a call takes at most, whatever it is given. It is measured, not proved: tools/stack.c holds it against the worst of
+ * many inputs. A thread needs what it takes for itself besides. */
+#define AGREE_STACK 229376
 
 /* What comes back.
  *

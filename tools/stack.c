@@ -1,64 +1,114 @@
-/* Measures the stack that a call of the engine takes: the call runs on a stack of its own that was filled with a pattern, and
- * the bytes that changed are counted. Build beside the archive:
+/* Measures the stack that a call of each entry takes, at its worst over a stream of jobs, and ends with status 1 if one takes more than
+ * include/agree.h says. A call runs on a stack that was filled with a pattern; the bytes that changed are counted, less those of a
+ * thread that does nothing. The jobs come from standard input, each after its length as two bytes:
  *
- *     gcc -O2 -pthread -o target/stack tools/stack.c target/staticlib/libcabi.a && target/stack
+ *     gcc -O2 -pthread -Iinclude -o target/stack tools/stack.c target/staticlib/libcabi.a
+ *     oracle stack-stdin | target/stack
  */
-#include "../include/agree.h"
+#include "agree.h"
 #include <pthread.h>
 #include <stdio.h>
 #include <stdlib.h>
 #include <string.h>
 
-#define STACK (4u << 20)
+#define STACK (512u << 10)
+#define PATTERN 0xa5
 
-static uint8_t first[2048], second[2048], list[2048], job_text[8192], out[4096];
-static size_t first_length, second_length, list_length, job_length;
+static uint8_t *stack;
+static char job[65536];
+static uint8_t out[8192];
+static size_t job_length, room;
 
-/* A caterpillar of 80 leaves, and the other way round; the list of all labels in the order of the first. */
-static size_t caterpillar(uint8_t *text, int reverse)
+/* The three bodies of the job, where its contents can be read. */
+static const char *body[3];
+static size_t body_length[3];
+
+static int split(void)
 {
-    size_t n = 0;
-    for (int i = 0; i < 79; i++)
-        text[n++] = '(';
-    for (int i = 0; i < 80; i++)
-        n += (size_t)sprintf((char *)text + n, i == 0 ? "t%02d" : ",t%02d)", reverse ? 79 - i : i);
-    text[n++] = ';';
-    return n;
+    int head = 0;
+    job[job_length] = 0;
+    if (sscanf(job, "S %zu\nT %zu\nK %zu%n", &body_length[0], &body_length[1], &body_length[2], &head) != 3)
+        return 0;
+    body[0] = job + head + 2;
+    body[1] = body[0] + body_length[0];
+    body[2] = body[1] + body_length[1];
+    return body[2] + body_length[2] == job + job_length;
 }
 
 static void *nothing(void *unused) { return unused; }
-static void *largest(void *unused) { agree_largest(first, first_length, second, second_length, list, 0, out, sizeof out); return unused; }
-static void *eight(void *unused) { agree_largest(first, first_length, second, second_length, list, list_length, out, sizeof out); return unused; }
-static void *job(void *unused) { agree_job(job_text, job_length, out, sizeof out); return unused; }
 
-static size_t used(void *(*run)(void *))
+static void *run_job(void *unused)
 {
-    uint8_t *stack = aligned_alloc(4096, STACK);
-    memset(stack, 0xa5, STACK);
+    agree_job((const uint8_t *)job, job_length, out, room);
+    return unused;
+}
+
+static void *run_largest(void *unused)
+{
+    agree_largest((const uint8_t *)body[0], body_length[0], (const uint8_t *)body[1], body_length[1], (const uint8_t *)body[2],
+                  body_length[2], out, room);
+    return unused;
+}
+
+/* The bytes that a thread with this work changes on its stack, which is filled anew afterwards. */
+static size_t used(void *(*work)(void *))
+{
     pthread_attr_t attributes;
     pthread_t thread;
+    size_t untouched = 0;
     pthread_attr_init(&attributes);
-    pthread_attr_setstack(&attributes, stack, STACK);
-    if (pthread_create(&thread, &attributes, run, NULL) != 0)
+    if (pthread_attr_setstack(&attributes, stack, STACK) != 0 || pthread_create(&thread, &attributes, work, NULL) != 0)
         abort();
     pthread_join(thread, NULL);
-    size_t untouched = 0;
-    while (untouched < STACK && stack[untouched] == 0xa5)
+    pthread_attr_destroy(&attributes);
+    while (untouched < STACK && stack[untouched] == PATTERN)
         untouched++;
-    free(stack);
+    memset(stack + untouched, PATTERN, STACK - untouched);
     return STACK - untouched;
+}
+
+struct worst {
+    const char *entry;
+    void *(*work)(void *);
+    size_t bytes, at;
+};
+
+/* One call with an output that suffices and one with none. */
+static void measure(struct worst *worst, size_t at)
+{
+    for (room = 0; room <= sizeof out; room += sizeof out) {
+        size_t bytes = used(worst->work);
+        if (bytes > worst->bytes) {
+            worst->bytes = bytes;
+            worst->at = at;
+        }
+    }
 }
 
 int main(void)
 {
-    first_length = caterpillar(first, 0);
-    second_length = caterpillar(second, 1);
-    for (int i = 0; i < 80; i++)
-        list_length += (size_t)sprintf((char *)list + list_length, i == 0 ? "t%02d" : ",t%02d", i);
-    job_length = (size_t)sprintf((char *)job_text, "S %zu\nT %zu\nK 0\n\n%s%s", first_length, second_length, first, second);
+    struct worst largest = {"agree_largest", run_largest, 0, 0}, whole = {"agree_job", run_job, 0, 0};
+    struct worst *entries[] = {&largest, &whole};
+    uint8_t length[2];
+    size_t count = 0, failed = 0;
+    stack = aligned_alloc(4096, STACK);
+    memset(stack, PATTERN, STACK);
+    while (fread(length, 1, 2, stdin) == 2) {
+        job_length = (size_t)length[0] << 8 | length[1];
+        if (fread(job, 1, job_length, stdin) != job_length)
+            abort();
+        measure(&whole, count);
+        if (split())
+            measure(&largest, count);
+        count++;
+    }
     size_t base = used(nothing);
-    printf("agree_largest: %zu bytes of stack\n", used(largest) - base);
-    printf("agree_largest, number 8: %zu bytes of stack\n", used(eight) - base);
-    printf("agree_job: %zu bytes of stack\n", used(job) - base);
-    return 0;
+    for (size_t i = 0; i < 2; i++) {
+        size_t bytes = entries[i]->bytes - base;
+        printf("%s: %zu bytes of stack at most, in job %zu of %zu\n", entries[i]->entry, bytes, entries[i]->at, count);
+        failed |= bytes > AGREE_STACK;
+    }
+    if (failed || count == 0)
+        printf("agree.h says at most %d\n", AGREE_STACK);
+    return failed || count == 0;
 }

@@ -1,10 +1,12 @@
-//! Random bodies through the archive, compared with the oracle: numbers, the text's bytes, and every byte that must stay.
+//! Random bodies and jobs through the archive, compared with the oracle: numbers, the text's bytes, and every byte that must stay.
 
-use crate::engine::{largest, AgreeResult};
+use crate::engine::{self, largest, AgreeResult};
 use oracle::agree::{restrict, Answer, Label};
-use oracle::jobs::{damaged, small_bodies};
+use oracle::families::{families, long_labels, short_labels};
+use oracle::job::{job, printed};
+use oracle::jobs::{damaged, large_bodies, small_bodies};
 use oracle::random::Random;
-use oracle::text::{read_list, read_tree, Fault};
+use oracle::text::{is_label_byte, read_list, read_tree, Fault};
 use oracle::{agree, fast};
 
 const FILL: u8 = 0x5a;
@@ -55,6 +57,51 @@ fn check(bodies: &[Vec<u8>; 3], room: usize) {
     assert!(area[text.len()..].iter().all(|&b| b == FILL), "a byte that must stay, for {:?}", show());
 }
 
+/// The label that begins at a place of a job.
+fn label_at(job: &[u8], at: usize) -> String {
+    let bytes = job[at..].iter().take_while(|&&b| is_label_byte(b));
+    bytes.map(|&b| b as char).collect()
+}
+
+/// The line of a refusal, from the numbers that came back.
+fn line(job: &[u8], r: &AgreeResult) -> String {
+    let head = format!("refused {} {} {}", r.number, r.letter as u8 as char, r.place);
+    if r.number == 8 {
+        let three = [r.first, r.second, r.third].map(|at| label_at(job, at));
+        return format!("{head} {}\n", three.join(","));
+    }
+    assert_eq!([r.first, r.second, r.third], [0; 3]);
+    format!("{head}\n")
+}
+
+fn check_job(job: &[u8], room: usize) {
+    let mut area = vec![FILL; 5000];
+    let got = engine::job(job, &mut area[..room]);
+    let want = printed(job);
+    let show = || String::from_utf8_lossy(job).into_owned();
+    let answered = want.starts_with(b"size ");
+    if answered && want.len() <= room {
+        let expected = AgreeResult { length: want.len(), ..refusal(0, 0, 0) };
+        assert_eq!(got, expected, "job {:?}, output of {room} bytes", show());
+        assert_eq!(&area[..want.len()], &want[..], "the lines for {:?}", show());
+    } else {
+        let wanted = if answered { "refused 9 O 0\n".to_string() } else { String::from_utf8(want).unwrap() };
+        assert_eq!(line(job, &got), wanted, "job {:?}, output of {room} bytes", show());
+        assert_eq!([got.size, got.length], [0; 2]);
+    }
+    assert!(area[got.length..].iter().all(|&b| b == FILL), "a byte that must stay, for {:?}", show());
+}
+
+/// One case, through both entries, with outputs that sometimes are too short.
+fn check_both(r: &mut Random, bodies: &[Vec<u8>; 3], greatest: usize) {
+    let room = if r.below(3) == 0 { r.below(greatest) } else { 1518 };
+    check(bodies, room);
+    let whole = job(&bodies[0], &bodies[1], &bodies[2]);
+    let whole = if r.below(8) == 0 { damaged(r, &whole) } else { whole };
+    let room = if r.below(3) == 0 { r.below(2 * greatest) } else { 4096 };
+    check_job(&whole, room);
+}
+
 pub fn run(count: u64, seed: u64) {
     let mut r = Random(seed);
     for _ in 0..count {
@@ -63,8 +110,17 @@ pub fn run(count: u64, seed: u64) {
             let i = r.below(3);
             bodies[i] = damaged(&mut r, &bodies[i].clone());
         }
-        let room = if r.below(3) == 0 { r.below(40) } else { 1518 };
-        check(&bodies, room);
+        check_both(&mut r, &bodies, 40);
     }
-    println!("{count} cases from seed {seed}: the same");
+    for _ in 0..count / 10 {
+        let bodies = large_bodies(&mut r);
+        check_both(&mut r, &bodies, 400);
+    }
+    for i in 0..count / 1000 {
+        let xs = if i % 2 == 0 { short_labels(80) } else { long_labels(80) };
+        for f in families(&mut r, &xs) {
+            check_both(&mut r, &[f.first.text(), f.second.text(), f.list()], 1518);
+        }
+    }
+    println!("{count} small cases from seed {seed}, {} large ones and {} times each family: the same", count / 10, count / 1000);
 }

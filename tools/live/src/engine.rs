@@ -24,6 +24,7 @@ extern "C" {
         out: *mut u8,
         out_length: usize,
     ) -> AgreeResult;
+    fn agree_job(job: *const u8, job_length: usize, out: *mut u8, out_length: usize) -> AgreeResult;
 }
 
 pub fn largest(first: &[u8], second: &[u8], required: &[u8], out: &mut [u8]) -> AgreeResult {
@@ -40,4 +41,9 @@ pub fn largest(first: &[u8], second: &[u8], required: &[u8], out: &mut [u8]) -> 
             out.len(),
         )
     }
+}
+
+pub fn job(job: &[u8], out: &mut [u8]) -> AgreeResult {
+    // As above.
+    unsafe { agree_job(job.as_ptr(), job.len(), out.as_mut_ptr(), out.len()) }
 }

@@ -1,6 +1,7 @@
 //! The stored stream of texts for the readers and the writer: each case is a kind byte (`t` a tree, `l` a list), the length as
 //! two bytes, and the text. What must be printed for it is a line.
 
+use crate::families::long_labels;
 use crate::random::Random;
 use crate::text::{read_list, read_tree};
 use crate::trees::{caterpillar, random_tree};
@@ -12,10 +13,6 @@ pub struct Case {
 
 fn labels(n: usize) -> Vec<Vec<u8>> {
     (0..n).map(|i| format!("t{i}").into_bytes()).collect()
-}
-
-fn long_labels(n: usize) -> Vec<Vec<u8>> {
-    (0..n).map(|i| format!("Label_of_leaf.{i:02}").into_bytes()).collect()
 }
 
 fn joined(xs: &[Vec<u8>]) -> Vec<u8> {
@@ -137,14 +134,24 @@ pub fn stream() -> Vec<u8> {
     out
 }
 
+/// What the program `normal` must print for a text, but for the line end.
+fn normal_line(text: &[u8]) -> Vec<u8> {
+    match read_tree(text) {
+        Ok(t) => t.normal_text(),
+        Err(f) => format!("refused {} S {}", f.number, f.place).into_bytes(),
+    }
+}
+
+/// What the program `normal` must print.
+pub fn normal_printed(text: &[u8]) -> Vec<u8> {
+    [normal_line(text), b"\n".to_vec()].concat()
+}
+
 pub fn expected() -> Vec<u8> {
     let mut out = Vec::new();
     for c in cases() {
         if c.kind == b't' {
-            match read_tree(&c.text) {
-                Ok(t) => out.extend(t.normal_text()),
-                Err(f) => out.extend(format!("refused {} S {}", f.number, f.place).bytes()),
-            }
+            out.extend(normal_line(&c.text));
         } else {
             match read_list(&c.text) {
                 Ok(xs) => out.extend([format!("list {} ", xs.len()).into_bytes(), joined(&xs)].concat()),

@@ -3,8 +3,7 @@
 use crate::agree::Label;
 use crate::job::{job, printed};
 use crate::random::Random;
-use crate::text::Tree;
-use crate::trees::{caterpillar, random_tree};
+use crate::trees::{caterpillar, perturbed, random_tree};
 
 const P: &str = "((((a,b),c),d),e);";
 const Q: &str = "((((a,c),b),d),e);";
@@ -50,7 +49,7 @@ fn paper_jobs() -> Vec<Vec<u8>> {
     rows.iter().map(|(s, t, k)| job(s.as_bytes(), t.as_bytes(), k.as_bytes())).collect()
 }
 
-/// Contents that break their rules, and some that only look so.
+/// Contents that break their rules, whatever options a job may have some day, and some that only look so.
 fn contents_jobs() -> Vec<Vec<u8>> {
     let tail = "a;a;a";
     let heads = [
@@ -58,7 +57,7 @@ fn contents_jobs() -> Vec<Vec<u8>> {
         "S 2 \nT 2\nK 1\n\n", "S  2\nT 2\nK 1\n\n", "S 2\r\nT 2\nK 1\n\n", "s 2\nT 2\nK 1\n\n", "T 2\nS 2\nK 1\n\n", "S 2\nT 2\nK 1\n",
         "S 2\nT 2\nK 1\n\n\n", "S 2\nK 1\nT 2\n\n", "S 2\nT 2\n\n", "S 2", "S", "", "S \nT 2\nK 1\n\n", "S 00002\nT 2\nK 1\n\n",
         "S 12345\nT 2\nK 1\n\n", "S 9999\nT 2\nK 1\n\n", "S 0\nT 4\nK 1\n\n", "S 4\nT 0\nK 1\n\n", "S 00\nT 4\nK 1\n\n", "S 2\nT 2\nK 1\n \n",
-        "strict\nS 2\nT 2\nK 1\n\n", "E 1\nS 2\nT 2\nK 1\n\n", "S 2\nT 2\nU 0\nK 1\n\n",
+        "loose\nS 2\nT 2\nK 1\n\n", "E 0\nS 2\nT 2\nK 1\n\n", "S 2\nT 2\nX 0\nK 1\n\n",
     ];
     let mut out: Vec<Vec<u8>> = heads.iter().map(|h| bytes(&format!("{h}{tail}"))).collect();
     out.push(bytes("S 2"));
@@ -85,27 +84,6 @@ fn names() -> Vec<Label> {
 
 fn list(xs: &[Label]) -> Vec<u8> {
     xs.join(&b","[..])
-}
-
-/// The tree with some pairs of leaves exchanged.
-pub fn perturbed(r: &mut Random, t: &Tree, swaps: usize) -> Tree {
-    let before = t.leaves();
-    let mut after = before.clone();
-    for _ in 0..swaps {
-        let (i, j) = (r.below(after.len()), r.below(after.len()));
-        after.swap(i, j);
-    }
-    fn relabel(t: &Tree, next: &mut impl Iterator<Item = Label>) -> Tree {
-        match t {
-            Tree::Leaf(_) => Tree::Leaf(next.next().unwrap()),
-            Tree::Node(a, b) => {
-                let a = relabel(a, next);
-                let b = relabel(b, next);
-                Tree::Node(Box::new(a), Box::new(b))
-            }
-        }
-    }
-    relabel(t, &mut after.into_iter())
 }
 
 /// The job that holds such bodies.
@@ -140,6 +118,28 @@ pub fn small_bodies(r: &mut Random) -> [Vec<u8>; 3] {
     let mut k = if r.below(4) == 0 { pool.clone() } else { s.leaves() };
     r.shuffle(&mut k);
     let m = r.below(k.len().min(5) + 1);
+    [s.text(), t.text(), list(&k[..m])]
+}
+
+/// Two trees of up to 80 leaves, some of them shared, and a list that is mostly short.
+pub fn large_bodies(r: &mut Random) -> [Vec<u8>; 3] {
+    let mut pool = labels(100);
+    r.shuffle(&mut pool);
+    let n = 1 + r.below(80);
+    let from = if r.below(2) == 0 { 0 } else { r.below(100 - n + 1) };
+    let some = pool[from..from + n].to_vec();
+    let s = if r.below(3) == 0 { caterpillar(&pool[..n]) } else { random_tree(r, &pool[..n]) };
+    let t = match r.below(4) {
+        0 => {
+            let swaps = r.below(6);
+            perturbed(r, &s, swaps)
+        }
+        1 => caterpillar(&some),
+        _ => random_tree(r, &some),
+    };
+    let mut k = s.leaves();
+    r.shuffle(&mut k);
+    let m = if r.below(8) == 0 { n } else { r.below(n.min(4) + 1) };
     [s.text(), t.text(), list(&k[..m])]
 }
 
@@ -223,11 +223,11 @@ pub fn jobs() -> Vec<Vec<u8>> {
     out
 }
 
-pub fn stream() -> Vec<u8> {
+pub fn stream(jobs: &[Vec<u8>]) -> Vec<u8> {
     let mut out = Vec::new();
-    for j in jobs() {
+    for j in jobs {
         out.extend((j.len() as u16).to_be_bytes());
-        out.extend(&j);
+        out.extend(j);
     }
     out
 }

@@ -2,6 +2,7 @@
 
 pub mod agree;
 pub mod cases;
+pub mod families;
 pub mod fast;
 pub mod job;
 pub mod jobs;

@@ -1,7 +1,8 @@
 //! `oracle text-stdin` and `oracle text-stdout` write the stored cases of the readers and the writer, and what must come out;
-//! `oracle job-stdin` and `oracle job-stdout` the same for whole jobs; `oracle print` reads one job and prints its answer.
+//! `oracle job-stdin` and `oracle job-stdout` the same for whole jobs; `oracle stack-stdin` those jobs and the ones that ask the most;
+//! `oracle print` reads one job and prints its answer.
 
-use oracle::{cases, job, jobs};
+use oracle::{cases, families, job, jobs};
 use std::io::{Read, Write};
 
 fn main() {
@@ -9,15 +10,16 @@ fn main() {
     let out = match what.as_str() {
         "text-stdin" => cases::stream(),
         "text-stdout" => cases::expected(),
-        "job-stdin" => jobs::stream(),
+        "job-stdin" => jobs::stream(&jobs::jobs()),
         "job-stdout" => jobs::expected(),
+        "stack-stdin" => jobs::stream(&[families::family_jobs(), jobs::jobs()].concat()),
         "print" => {
             let mut job = Vec::new();
             std::io::stdin().read_to_end(&mut job).unwrap();
             job::printed(&job)
         }
         _ => {
-            eprintln!("usage: oracle text-stdin | text-stdout | job-stdin | job-stdout | print");
+            eprintln!("usage: oracle text-stdin | text-stdout | job-stdin | job-stdout | stack-stdin | print");
             std::process::exit(2);
         }
     };

@@ -141,6 +141,14 @@ impl Tree {
         }
     }
 
+    /// The same tree with the two children of each node exchanged.
+    pub fn mirrored(&self) -> Tree {
+        match self {
+            Tree::Leaf(_) => self.clone(),
+            Tree::Node(a, b) => Tree::Node(Box::new(b.mirrored()), Box::new(a.mirrored())),
+        }
+    }
+
     /// The node's text with children in the order of their smallest labels.
     pub fn normal(&self) -> Vec<u8> {
         match self {

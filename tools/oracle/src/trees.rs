@@ -1,5 +1,6 @@
-//! Random trees over given labels.
+//! Trees over given labels.
 
+use crate::agree::Label;
 use crate::random::Random;
 use crate::text::Tree;
 
@@ -12,7 +13,7 @@ pub fn join(a: Tree, b: Tree) -> Tree {
 }
 
 /// A caterpillar: each label in turn joined above all before it.
-pub fn caterpillar(labels: &[Vec<u8>]) -> Tree {
+pub fn caterpillar(labels: &[Label]) -> Tree {
     let mut t = leaf(&labels[0]);
     for x in &labels[1..] {
         t = join(t, leaf(x));
@@ -21,7 +22,7 @@ pub fn caterpillar(labels: &[Vec<u8>]) -> Tree {
 }
 
 /// Pairs of trees joined until one is left.
-pub fn random_tree(r: &mut Random, labels: &[Vec<u8>]) -> Tree {
+pub fn random_tree(r: &mut Random, labels: &[Label]) -> Tree {
     let mut parts: Vec<Tree> = labels.iter().map(|x| leaf(x)).collect();
     while parts.len() > 1 {
         let a = parts.swap_remove(r.below(parts.len()));
@@ -29,4 +30,34 @@ pub fn random_tree(r: &mut Random, labels: &[Vec<u8>]) -> Tree {
         parts.push(join(a, b));
     }
     parts.pop().unwrap()
+}
+
+/// A tree whose nodes have halves of their labels below each child.
+pub fn balanced(labels: &[Label]) -> Tree {
+    if labels.len() == 1 {
+        return leaf(&labels[0]);
+    }
+    let (a, b) = labels.split_at(labels.len() / 2);
+    join(balanced(a), balanced(b))
+}
+
+/// The tree with some pairs of leaves exchanged.
+pub fn perturbed(r: &mut Random, t: &Tree, swaps: usize) -> Tree {
+    let before = t.leaves();
+    let mut after = before.clone();
+    for _ in 0..swaps {
+        let (i, j) = (r.below(after.len()), r.below(after.len()));
+        after.swap(i, j);
+    }
+    fn relabel(t: &Tree, next: &mut impl Iterator<Item = Label>) -> Tree {
+        match t {
+            Tree::Leaf(_) => Tree::Leaf(next.next().unwrap()),
+            Tree::Node(a, b) => {
+                let a = relabel(a, next);
+                let b = relabel(b, next);
+                Tree::Node(Box::new(a), Box::new(b))
+            }
+        }
+    }
+    relabel(t, &mut after.into_iter())
 }

@@ -1,0 +1,113 @@
+//! Pairs of trees that ask the most of an engine, by name. The benchmark, the measure of the stack and the test of the programs all
+//! go through them.
+
+use crate::agree::Label;
+use crate::job::job;
+use crate::random::Random;
+use crate::text::Tree;
+use crate::trees::{balanced, caterpillar, join, leaf, perturbed, random_tree};
+
+pub struct Family {
+    pub name: &'static str,
+    pub first: Tree,
+    pub second: Tree,
+    pub required: Vec<Label>,
+}
+
+impl Family {
+    pub fn list(&self) -> Vec<u8> {
+        self.required.join(&b","[..])
+    }
+
+    pub fn job(&self) -> Vec<u8> {
+        job(&self.first.text(), &self.second.text(), &self.list())
+    }
+}
+
+pub fn short_labels(n: usize) -> Vec<Label> {
+    (0..n).map(|i| format!("taxon{i:02}").into_bytes()).collect()
+}
+
+/// Labels as long as may be that differ in their last two bytes only.
+pub fn long_labels(n: usize) -> Vec<Label> {
+    (0..n).map(|i| format!("Label_of_leaf.{i:02}").into_bytes()).collect()
+}
+
+/// The three labels as a tree with the first two, or the first and the last, as its closer pair.
+fn last_three(xs: &[Label], other: bool) -> Tree {
+    let [x, y, z] = [&xs[0], &xs[1], &xs[2]].map(|x| leaf(x));
+    if other {
+        join(join(x, z), y)
+    } else {
+        join(join(x, y), z)
+    }
+}
+
+/// The tree with a subtree in place of the leaf x.
+fn put(t: &Tree, x: &Label, part: &Tree) -> Tree {
+    match t {
+        Tree::Leaf(y) if y == x => part.clone(),
+        Tree::Leaf(_) => t.clone(),
+        Tree::Node(a, b) => join(put(a, x, part), put(b, x, part)),
+    }
+}
+
+/// All labels are required, and of all threes only the last one, in label order, has different closer pairs.
+fn worst_eight(name: &'static str, rest: &Tree, xs: &[Label]) -> Family {
+    let n = xs.len();
+    let tree = |other| put(rest, &xs[n - 3], &last_three(&xs[n - 3..], other));
+    Family { name, first: tree(false), second: tree(true), required: xs.to_vec() }
+}
+
+/// Every family over these labels, at least four of them and in label order.
+pub fn families(r: &mut Random, xs: &[Label]) -> Vec<Family> {
+    let n = xs.len();
+    let mut back = xs.to_vec();
+    back.reverse();
+    let mut mixed = xs.to_vec();
+    r.shuffle(&mut mixed);
+    let mut exchanged = xs.to_vec();
+    exchanged.chunks_mut(2).for_each(|pair| pair.reverse());
+    // the rest of the trees of number 8, its last label deepest
+    let mut eight = xs[..n - 2].to_vec();
+    eight.reverse();
+    let random = random_tree(r, &mixed);
+    let other = random_tree(r, xs);
+    let near = perturbed(r, &random, 3);
+    let up = caterpillar(xs);
+    let eight_random = random_tree(r, &eight);
+    let family = |name, first: &Tree, second: &Tree, required: &[Label]| Family {
+        name,
+        first: first.clone(),
+        second: second.clone(),
+        required: required.to_vec(),
+    };
+    vec![
+        family("random, random", &random, &other, &[]),
+        family("random, nearly the same", &random, &near, &[]),
+        family("random, the same", &random, &random, &[]),
+        family("balanced, shuffled balanced", &balanced(xs), &balanced(&mixed), &[]),
+        family("caterpillar, its reverse", &up, &caterpillar(&back), &[]),
+        family("caterpillar, the same", &up, &up, &[]),
+        family("caterpillar, mirrored", &up, &up.mirrored(), &[]),
+        family("caterpillar, random", &up, &random, &[]),
+        family("random, caterpillar", &random, &up, &[]),
+        family("caterpillar, shuffled caterpillar", &up, &caterpillar(&mixed), &[]),
+        family("caterpillar, neighbours exchanged", &up, &caterpillar(&exchanged), &[]),
+        family("random, the same, all required", &random, &random, &mixed),
+        family("caterpillar, the same, all required", &up, &up, &back),
+        worst_eight("number 8 at its worst, caterpillars", &caterpillar(&eight), xs),
+        worst_eight("number 8 at its worst, mirrored caterpillars", &caterpillar(&eight).mirrored(), xs),
+        worst_eight("number 8 at its worst, random", &eight_random, xs),
+    ]
+}
+
+/// Each family of 80 leaves as a job, with labels of few and of many bytes.
+pub fn family_jobs() -> Vec<Vec<u8>> {
+    let mut r = Random(80);
+    let mut out = Vec::new();
+    for xs in [short_labels(80), long_labels(80)] {
+        out.extend(families(&mut r, &xs).iter().map(|f| f.job()));
+    }
+    out
+}
