@@ -33,6 +33,13 @@ pub fn long_labels(n: usize) -> Vec<Label> {
     (0..n).map(|i| format!("Label_of_leaf.{i:02}").into_bytes()).collect()
 }
 
+/// Labels that stand in no tree of these ones, and differ from them in their last byte only: a digit becomes a letter.
+fn strangers(xs: &[Label]) -> Vec<Label> {
+    let mut ys = xs.to_vec();
+    ys.iter_mut().for_each(|x| *x.last_mut().unwrap() += b'a' - b'0');
+    ys
+}
+
 /// The three labels as a tree with the first two, or the first and the last, as its closer pair.
 fn last_three(xs: &[Label], other: bool) -> Tree {
     let [x, y, z] = [&xs[0], &xs[1], &xs[2]].map(|x| leaf(x));
@@ -68,6 +75,8 @@ pub fn families(r: &mut Random, xs: &[Label]) -> Vec<Family> {
     r.shuffle(&mut mixed);
     let mut exchanged = xs.to_vec();
     exchanged.chunks_mut(2).for_each(|pair| pair.reverse());
+    let others = strangers(xs);
+    let half: Vec<Label> = (0..n).map(|i| if i % 2 == 0 { &xs[i] } else { &others[i] }.clone()).collect();
     // the rest of the trees of number 8, its last label deepest
     let mut eight = xs[..n - 2].to_vec();
     eight.reverse();
@@ -76,6 +85,8 @@ pub fn families(r: &mut Random, xs: &[Label]) -> Vec<Family> {
     let near = perturbed(r, &random, 3);
     let up = caterpillar(xs);
     let eight_random = random_tree(r, &eight);
+    let half = random_tree(r, &half);
+    let others = random_tree(r, &others);
     let family = |name, first: &Tree, second: &Tree, required: &[Label]| Family {
         name,
         first: first.clone(),
@@ -86,6 +97,8 @@ pub fn families(r: &mut Random, xs: &[Label]) -> Vec<Family> {
         family("random, random", &random, &other, &[]),
         family("random, nearly the same", &random, &near, &[]),
         family("random, the same", &random, &random, &[]),
+        family("random, half of the labels shared", &random, &half, &[]),
+        family("random, no label shared", &random, &others, &[]),
         family("balanced, shuffled balanced", &balanced(xs), &balanced(&mixed), &[]),
         family("caterpillar, its reverse", &up, &caterpillar(&back), &[]),
         family("caterpillar, the same", &up, &up, &[]),
