@@ -2,6 +2,7 @@
 
 use crate::engine::largest;
 use oracle::families::{families, long_labels, short_labels, Family};
+use oracle::limits::{LABEL, LEAVES, TREE_TEXT};
 use oracle::random::Random;
 use oracle::text::{read_list, read_tree};
 use oracle::{agree::restrict, agree::Answer, fast};
@@ -31,7 +32,7 @@ fn plain(first: &[u8], second: &[u8], required: &[u8]) -> Vec<u8> {
 /// What one family takes: the engine, and the plain recurrence.
 fn times(f: &Family, rounds: usize) -> (f64, f64) {
     let (first, second, required) = (f.first.text(), f.second.text(), f.list());
-    let mut out = vec![0u8; 1518];
+    let mut out = vec![0u8; TREE_TEXT];
     let engine = best(rounds, || {
         black_box(largest(&first, &second, &required, &mut out));
     });
@@ -49,10 +50,10 @@ fn row(name: &str, n: usize, (engine, other): (f64, f64), random: f64) {
 /// read; an output of no bytes leaves out the writing. The three are timed in turn, so that they are alike.
 fn stages(f: &Family, rounds: usize) {
     let (first, second) = (f.first.text(), f.second.text());
-    let mut out = vec![0u8; 1518];
+    let mut out = vec![0u8; TREE_TEXT];
     let mut took = [f64::MAX; 3];
     for _ in 0..rounds {
-        for (least, (list, room)) in took.iter_mut().zip([(&b","[..], 1518), (b"", 0), (b"", 1518)]) {
+        for (least, (list, room)) in took.iter_mut().zip([(&b","[..], TREE_TEXT), (b"", 0), (b"", TREE_TEXT)]) {
             let once = best(1, || {
                 black_box(largest(&first, &second, list, &mut out[..room]));
             });
@@ -64,7 +65,7 @@ fn stages(f: &Family, rounds: usize) {
     println!("| {} | {read:.0} | {solve:.0} | {write:.0} | {whole:.0} |", f.name);
 }
 
-/// Smaller trees of the first family, every family of 80 leaves, and last the slowest of all, labels of sixteen bytes among them; each
+/// Smaller trees of the first family, every family of the most leaves, and last the slowest of all, the longest labels among them; each
 /// beside the random pair of as many leaves.
 pub fn run(short: bool) {
     let mut r = Random(80);
@@ -75,17 +76,17 @@ pub fn run(short: bool) {
         let took = times(&families(&mut r, &short_labels(n))[0], rounds);
         row("random, random", n, took, took.0);
     }
-    let all = families(&mut r, &short_labels(80));
+    let all = families(&mut r, &short_labels(LEAVES));
     let mut took: Vec<(String, (f64, f64))> = all.iter().map(|f| (f.name.to_string(), times(f, rounds))).collect();
     let random = took[0].1 .0;
-    took.iter().for_each(|(name, t)| row(name, 80, *t, random));
-    for f in &families(&mut r, &long_labels(80)) {
-        took.push((format!("{}, labels of 16 bytes", f.name), times(f, rounds)));
+    took.iter().for_each(|(name, t)| row(name, LEAVES, *t, random));
+    for f in &families(&mut r, &long_labels(LEAVES)) {
+        took.push((format!("{}, labels of {LABEL} bytes", f.name), times(f, rounds)));
     }
     let (name, t) = took.iter().max_by(|a, b| a.1 .0.total_cmp(&b.1 .0)).unwrap();
-    row(&format!("the slowest known: {name}"), 80, *t, random);
+    row(&format!("the slowest known: {name}"), LEAVES, *t, random);
     println!();
-    println!("| 80 leaves, us | read | look up and fill | write | whole |");
+    println!("| {LEAVES} leaves, us | read | look up and fill | write | whole |");
     println!("|---|---|---|---|---|");
     for f in all.iter().filter(|f| f.required.is_empty()) {
         stages(f, rounds);

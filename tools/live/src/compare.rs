@@ -5,6 +5,7 @@ use oracle::agree::{restrict, Answer, Label};
 use oracle::families::{families, long_labels, short_labels};
 use oracle::job::{job, printed};
 use oracle::jobs::{damaged, large_bodies, small_bodies};
+use oracle::limits::{LEAVES, LINES, TREE_TEXT};
 use oracle::random::Random;
 use oracle::text::{is_label_byte, read_list, read_tree, Fault};
 use oracle::{agree, fast};
@@ -48,7 +49,7 @@ fn expected(bodies: &[Vec<u8>; 3], room: usize) -> (AgreeResult, Vec<u8>) {
 }
 
 fn check(bodies: &[Vec<u8>; 3], room: usize) {
-    let mut area = vec![FILL; 2000];
+    let mut area = vec![FILL; TREE_TEXT + 500];
     let got = largest(&bodies[0], &bodies[1], &bodies[2], &mut area[..room]);
     let (want, text) = expected(bodies, room);
     let show = || bodies.iter().map(|b| String::from_utf8_lossy(b).into_owned()).collect::<Vec<_>>();
@@ -75,7 +76,7 @@ fn line(job: &[u8], r: &AgreeResult) -> String {
 }
 
 fn check_job(job: &[u8], room: usize) {
-    let mut area = vec![FILL; 5000];
+    let mut area = vec![FILL; 2 * TREE_TEXT + LINES];
     let got = engine::job(job, &mut area[..room]);
     let want = printed(job);
     let show = || String::from_utf8_lossy(job).into_owned();
@@ -94,11 +95,11 @@ fn check_job(job: &[u8], room: usize) {
 
 /// One case, through both entries, with outputs that sometimes are too short.
 fn check_both(r: &mut Random, bodies: &[Vec<u8>; 3], greatest: usize) {
-    let room = if r.below(3) == 0 { r.below(greatest) } else { 1518 };
+    let room = if r.below(3) == 0 { r.below(greatest) } else { TREE_TEXT };
     check(bodies, room);
     let whole = job(&bodies[0], &bodies[1], &bodies[2]);
     let whole = if r.below(8) == 0 { damaged(r, &whole) } else { whole };
-    let room = if r.below(3) == 0 { r.below(2 * greatest) } else { 4096 };
+    let room = if r.below(3) == 0 { r.below(2 * greatest) } else { LINES };
     check_job(&whole, room);
 }
 
@@ -117,9 +118,9 @@ pub fn run(count: u64, seed: u64) {
         check_both(&mut r, &bodies, 400);
     }
     for i in 0..count / 1000 {
-        let xs = if i % 2 == 0 { short_labels(80) } else { long_labels(80) };
+        let xs = if i % 2 == 0 { short_labels(LEAVES) } else { long_labels(LEAVES) };
         for f in families(&mut r, &xs) {
-            check_both(&mut r, &[f.first.text(), f.second.text(), f.list()], 1518);
+            check_both(&mut r, &[f.first.text(), f.second.text(), f.list()], TREE_TEXT);
         }
     }
     println!("{count} small cases from seed {seed}, {} large ones and {} times each family: the same", count / 10, count / 1000);

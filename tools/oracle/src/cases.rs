@@ -2,6 +2,7 @@
 //! two bytes, and the text. What must be printed for it is a line.
 
 use crate::families::long_labels;
+use crate::limits::{LABEL, LEAVES, LIST};
 use crate::random::Random;
 use crate::text::{read_list, read_tree};
 use crate::trees::{caterpillar, random_tree};
@@ -21,9 +22,9 @@ fn joined(xs: &[Vec<u8>]) -> Vec<u8> {
 
 /// The examples of the scope paper's table and the traps of a close reading.
 fn tree_texts() -> Vec<Vec<u8>> {
-    let a16 = "a".repeat(16);
-    let a17 = "a".repeat(17);
-    let b17 = "b".repeat(17);
+    let full = "a".repeat(LABEL);
+    let over = "a".repeat(LABEL + 1);
+    let over_b = "b".repeat(LABEL + 1);
     let mut xs: Vec<String> = [
         "", "a;", "a", ";", "(a b);", "(a,b)", "(a,b);", "(b,a);", "(a,a);", "(a,a", "(a,a b);", "(a,a(", "(a,a'", "(a,b)a;", "(a,a)a;",
         "a;\n", "a;a;", "a;;", "(a)", "()", "(a,)", "(,a)", "((a,b))", "((a,b));", "(a(", "(a,b,c);", "(a,b)c;", "(a:1,b);", "a[x];",
@@ -33,18 +34,18 @@ fn tree_texts() -> Vec<Vec<u8>> {
     .iter()
     .map(|s| s.to_string())
     .collect();
-    xs.push(format!("{a16};"));
-    xs.push(format!("{a17};"));
-    xs.push(a17.clone());
-    xs.push(format!("({a16},{a16});"));
-    xs.push(format!("({b17},{b17});"));
-    xs.push(format!("(b,{b17}(;"));
-    xs.push(format!("(a,b){a17};"));
-    xs.push(format!("({a16},b{}", "c".repeat(15)));
-    xs.push("(".repeat(79));
-    xs.push("(".repeat(80));
+    xs.push(format!("{full};"));
+    xs.push(format!("{over};"));
+    xs.push(over.clone());
+    xs.push(format!("({full},{full});"));
+    xs.push(format!("({over_b},{over_b});"));
+    xs.push(format!("(b,{over_b}(;"));
+    xs.push(format!("(a,b){over};"));
+    xs.push(format!("({full},b{}", "c".repeat(LABEL - 1)));
+    xs.push("(".repeat(LEAVES - 1));
+    xs.push("(".repeat(LEAVES));
     xs.push("(".repeat(200));
-    xs.push(format!("{}a", "(".repeat(79)));
+    xs.push(format!("{}a", "(".repeat(LEAVES - 1)));
     xs.iter().map(|s| s.clone().into_bytes()).collect()
 }
 
@@ -53,14 +54,14 @@ fn list_texts() -> Vec<Vec<u8>> {
         .iter()
         .map(|s| s.as_bytes().to_vec())
         .collect();
-    let all = labels(81);
-    let eighty = joined(&all[..80]);
+    let all = labels(LIST + 1);
+    let eighty = joined(&all[..LIST]);
     xs.push(eighty.clone());
     for tail in [",", ",,", ";", ",t0", ",t80", ",aaaaaaaaaaaaaaaaaaaaaaa", ", "] {
         xs.push([eighty.clone(), tail.as_bytes().to_vec()].concat());
     }
-    xs.push(joined(&long_labels(80)));
-    for n in [15, 16, 17, 18] {
+    xs.push(joined(&long_labels(LIST)));
+    for n in [LABEL - 1, LABEL, LABEL + 1, LABEL + 2] {
         xs.push("a".repeat(n).into_bytes());
         xs.push(format!("b,{}", "a".repeat(n)).into_bytes());
         xs.push(format!("{0},{0}", "a".repeat(n)).into_bytes());
@@ -100,7 +101,7 @@ pub fn cases() -> Vec<Case> {
         lists.push(vec![b]);
         lists.push(vec![b'a', b]);
     }
-    for n in [1, 2, 3, 7, 40, 79, 80, 81] {
+    for n in [1, 2, 3, 7, 40, LEAVES - 1, LEAVES, LEAVES + 1] {
         for names in [labels(n), long_labels(n)] {
             trees.push(caterpillar(&names).text());
             let mut back = names.clone();

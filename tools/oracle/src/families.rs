@@ -3,6 +3,7 @@
 
 use crate::agree::Label;
 use crate::job::job;
+use crate::limits::{LABEL, LEAVES};
 use crate::random::Random;
 use crate::text::Tree;
 use crate::trees::{balanced, caterpillar, join, leaf, perturbed, random_tree};
@@ -30,7 +31,8 @@ pub fn short_labels(n: usize) -> Vec<Label> {
 
 /// Labels as long as may be that differ in their last two bytes only.
 pub fn long_labels(n: usize) -> Vec<Label> {
-    (0..n).map(|i| format!("Label_of_leaf.{i:02}").into_bytes()).collect()
+    let head: String = "Label_of_leaf.".chars().cycle().take(LABEL - 2).collect();
+    (0..n).map(|i| format!("{head}{i:02}").into_bytes()).collect()
 }
 
 /// Labels that stand in no tree of these ones, and differ from them in their last byte only: a digit becomes a letter.
@@ -115,11 +117,11 @@ pub fn families(r: &mut Random, xs: &[Label]) -> Vec<Family> {
     ]
 }
 
-/// Each family of 80 leaves as a job, with labels of few and of many bytes.
+/// Each family of as many leaves as may be, as a job, with labels of few and of many bytes.
 pub fn family_jobs() -> Vec<Vec<u8>> {
     let mut r = Random(80);
     let mut out = Vec::new();
-    for xs in [short_labels(80), long_labels(80)] {
+    for xs in [short_labels(LEAVES), long_labels(LEAVES)] {
         out.extend(families(&mut r, &xs).iter().map(|f| f.job()));
     }
     out

@@ -2,6 +2,7 @@
 
 use crate::agree::{by_trying_all, common, restrict, Answer, Label};
 use crate::fast;
+use crate::limits::{DIGITS, JOB};
 use crate::text::{read_list, read_tree, Fault};
 
 /// The job that holds three bodies.
@@ -18,7 +19,7 @@ fn bodies(job: &[u8]) -> Option<[&[u8]; 3]> {
         let end = rest.iter().position(|&b| b == b'\n')?;
         let (line, tail) = (&rest[..end], &rest[end + 1..]);
         let digits = line.strip_prefix(&[letter, b' '][..])?;
-        let plain = (1..=4).contains(&digits.len()) && digits.iter().all(u8::is_ascii_digit) && (digits.len() == 1 || digits[0] != b'0');
+        let plain = (1..=DIGITS).contains(&digits.len()) && digits.iter().all(u8::is_ascii_digit) && (digits.len() == 1 || digits[0] != b'0');
         if !plain {
             return None;
         }
@@ -56,7 +57,7 @@ fn joined(xs: &[Label]) -> String {
 }
 
 fn lines(job: &[u8]) -> Result<String, String> {
-    if job.len() > 8192 {
+    if job.len() > JOB {
         return Err(refused(11, 'J', 0));
     }
     let [s, t, k] = bodies(job).ok_or(refused(10, 'J', 0))?;

@@ -2,6 +2,7 @@
 
 use crate::agree::Label;
 use crate::job::{job, printed};
+use crate::limits::{JOB, LEAVES, LIST};
 use crate::random::Random;
 use crate::trees::{caterpillar, perturbed, random_tree};
 
@@ -61,10 +62,10 @@ fn contents_jobs() -> Vec<Vec<u8>> {
     ];
     let mut out: Vec<Vec<u8>> = heads.iter().map(|h| bytes(&format!("{h}{tail}"))).collect();
     out.push(bytes("S 2"));
-    out.push(vec![b' '; 8192]);
-    out.push(vec![b' '; 8193]);
+    out.push(vec![b' '; JOB]);
+    out.push(vec![b' '; JOB + 1]);
     out.push(bytes("S 0\nT 0\nK 0\n\n"));
-    for n in [8192usize, 8193] {
+    for n in [JOB, JOB + 1] {
         // a job of just that length: the first tree and a list that is too long
         let fixed = "S 14\nT 2\nK 9999\n\n".len() - 4 + 14 + 2;
         let k = vec![b'a'; n - fixed - 4];
@@ -125,7 +126,7 @@ pub fn small_bodies(r: &mut Random) -> [Vec<u8>; 3] {
 pub fn large_bodies(r: &mut Random) -> [Vec<u8>; 3] {
     let mut pool = labels(100);
     r.shuffle(&mut pool);
-    let n = 1 + r.below(80);
+    let n = 1 + r.below(LEAVES);
     let from = if r.below(2) == 0 { 0 } else { r.below(100 - n + 1) };
     let some = pool[from..from + n].to_vec();
     let s = if r.below(3) == 0 { caterpillar(&pool[..n]) } else { random_tree(r, &pool[..n]) };
@@ -175,7 +176,7 @@ pub fn damaged_bodies(r: &mut Random) -> Vec<u8> {
 /// Trees of up to 80 leaves: against their reverse, themselves, others, with none or one leaf shared, all required.
 pub fn large_jobs(r: &mut Random) -> Vec<Vec<u8>> {
     let mut out = Vec::new();
-    for n in [20usize, 40, 79, 80] {
+    for n in [20, 40, LEAVES - 1, LEAVES] {
         let xs = labels(n);
         let mut back = xs.clone();
         back.reverse();
@@ -199,9 +200,9 @@ pub fn large_jobs(r: &mut Random) -> Vec<Vec<u8>> {
         out.push(job(&random.text(), &random_tree(r, &one).text(), b""));
         out.push(job(&random.text(), &random_tree(r, &one).text(), &xs[3]));
     }
-    out.push(job(&caterpillar(&labels(81)).text(), b"a;", b""));
-    out.push(job(b"a;", b"a;", &list(&labels(80))));
-    out.push(job(b"a;", b"a;", &list(&labels(81))));
+    out.push(job(&caterpillar(&labels(LEAVES + 1)).text(), b"a;", b""));
+    out.push(job(b"a;", b"a;", &list(&labels(LIST))));
+    out.push(job(b"a;", b"a;", &list(&labels(LIST + 1))));
     out
 }
 

@@ -6,6 +6,7 @@ pub mod families;
 pub mod fast;
 pub mod job;
 pub mod jobs;
+pub mod limits;
 pub mod random;
 pub mod text;
 pub mod trees;

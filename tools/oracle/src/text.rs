@@ -1,5 +1,7 @@
 //! Tree text and lists, read by collecting every fault of a text and taking the one with the smallest place.
 
+use crate::limits::{LABEL, LEAVES, LIST};
+
 /// A rooted binary tree with labelled leaves.
 #[derive(Clone, Debug, PartialEq)]
 pub enum Tree {
@@ -80,8 +82,8 @@ fn first_fault(text: &[u8], o: &Outline, limit: Option<usize>) -> Option<Fault> 
     all.extend(o.fault);
     all.extend(limit.map(|at| fault(4, at)));
     for (i, &(at, n)) in o.labels.iter().enumerate() {
-        if n > 16 {
-            all.push(fault(3, at + 16));
+        if n > LABEL {
+            all.push(fault(3, at + LABEL));
         } else if o.labels[..i].iter().any(|&(b, m)| text[b..b + m] == text[at..at + n]) {
             all.push(fault(5, at));
         }
@@ -92,10 +94,10 @@ fn first_fault(text: &[u8], o: &Outline, limit: Option<usize>) -> Option<Fault> 
 pub fn read_tree(text: &[u8]) -> Result<Tree, Fault> {
     let mut o = Outline { fault: None, labels: Vec::new(), opens: Vec::new() };
     // The descent is as deep as the text has `(`; a text with 80 of them is refused there anyway.
-    let cut = text.iter().enumerate().filter(|(_, &b)| b == b'(').nth(100).map_or(text.len(), |(i, _)| i);
+    let cut = text.iter().enumerate().filter(|(_, &b)| b == b'(').nth(LEAVES + 20).map_or(text.len(), |(i, _)| i);
     let tree = whole(&text[..cut], &mut o);
     o.fault = tree.as_ref().err().copied();
-    match first_fault(text, &o, o.opens.get(79).copied()) {
+    match first_fault(text, &o, o.opens.get(LEAVES - 1).copied()) {
         Some(f) => Err(f),
         None => Ok(tree.unwrap()),
     }
@@ -123,7 +125,7 @@ pub fn read_list(text: &[u8]) -> Result<Vec<Vec<u8>>, Fault> {
             at += 1;
         }
     }
-    match first_fault(text, &o, o.labels.get(80).map(|l| l.0)) {
+    match first_fault(text, &o, o.labels.get(LIST).map(|l| l.0)) {
         Some(f) => Err(f),
         None => Ok(o.labels.iter().map(|&(b, n)| text[b..b + n].to_vec()).collect()),
     }

@@ -1,11 +1,11 @@
 //! What the programs are given.
 
 use oracle::families::{family_jobs, long_labels};
-use oracle::job::job;
+use oracle::job::{job, printed};
+use oracle::limits::{DIGITS, JOB, LABEL, LEAVES, LINES, LIST, TREE_TEXT};
 use oracle::trees::caterpillar;
 use oracle::{cases, jobs};
 
-const LIMIT: usize = 8192;
 const MEGABYTE: usize = 1 << 20;
 
 /// The files of a folder whose names end so, each with its bytes.
@@ -21,8 +21,8 @@ fn files(folder: &str, end: &str) -> Vec<Vec<u8>> {
 fn of_length(n: usize, body: usize) -> Vec<u8> {
     let mut bodies = [b"((a,b),c);".to_vec(), b"((a,c),b);".to_vec(), b"a".to_vec()];
     let fixed = job(&bodies[0], &bodies[1], &bodies[2]).len();
-    // the contents tell the length of the body that grows in four digits in the end
-    let digits = 4 - bodies[body].len().to_string().len();
+    // the contents tell the length of the body that grows in the most digits in the end
+    let digits = DIGITS - bodies[body].len().to_string().len();
     let filler = [&b"a,"[..], b"a", b"(", b" "][n % 4];
     bodies[body].extend(filler.iter().cycle().take(n - fixed - digits));
     let made = job(&bodies[0], &bodies[1], &bodies[2]);
@@ -30,11 +30,13 @@ fn of_length(n: usize, body: usize) -> Vec<u8> {
     made
 }
 
-/// Eighty labels of sixteen bytes, all in the answer: no answer is longer.
+/// As many labels of as many bytes as may be, all in the answer: no answer is longer.
 fn greatest() -> Vec<u8> {
-    let xs = long_labels(80);
+    let xs = long_labels(LEAVES);
     let tree = caterpillar(&xs).text();
-    job(&tree, &caterpillar(&xs).mirrored().text(), &xs.join(&b","[..]))
+    let made = job(&tree, &caterpillar(&xs).mirrored().text(), &xs.join(&b","[..]));
+    assert_eq!(printed(&made).len(), LINES);
+    made
 }
 
 /// A job that is answered, and bytes after it up to a length.
@@ -46,22 +48,22 @@ fn with_tail(n: usize, tail: u8) -> Vec<u8> {
 
 fn long_jobs() -> Vec<Vec<u8>> {
     let mut out = Vec::new();
-    for n in LIMIT - 4..LIMIT + 5 {
+    for n in JOB - 4..JOB + 5 {
         out.push(vec![b' '; n]);
         out.push(with_tail(n, b'a'));
         out.extend((0..3).map(|body| of_length(n, body)));
     }
-    for n in [2 * LIMIT, 2 * LIMIT + 1, 65_536, 65_537, 5 * MEGABYTE] {
+    for n in [2 * JOB, 2 * JOB + 1, 65_536, 65_537, 5 * MEGABYTE] {
         out.push(vec![b' '; n]);
         out.push(with_tail(n, b'a'));
-        out.push([of_length(LIMIT, 2), vec![b'a'; n - LIMIT]].concat());
+        out.push([of_length(JOB, 2), vec![b'a'; n - JOB]].concat());
     }
     out
 }
 
 /// Each reason of a body in each body, and those that need all three.
 fn refusals() -> Vec<Vec<u8>> {
-    let (long, deep, many) = ("a".repeat(17), "(".repeat(80), long_labels(81).join(&b","[..]));
+    let (long, deep, many) = ("a".repeat(LABEL + 1), "(".repeat(LEAVES), long_labels(LIST + 1).join(&b","[..]));
     let mut out = Vec::new();
     for text in ["(a b);", "(a,b)", &long, &deep, "(a,a);"] {
         out.push(job(text.as_bytes(), b"(", b","));
@@ -94,18 +96,18 @@ pub fn slow_jobs() -> Vec<Vec<u8>> {
         job(b"((a,b),(c,d));", b"((a,c),(b,d));", b"a"),
         job(b"((a,b),c);", b"((a,c),b);", b"a,b,c"),
         greatest(),
-        of_length(LIMIT, 2),
-        of_length(LIMIT + 1, 2),
-        vec![b' '; LIMIT],
-        vec![b' '; LIMIT + 1],
+        of_length(JOB, 2),
+        of_length(JOB + 1, 2),
+        vec![b' '; JOB],
+        vec![b' '; JOB + 1],
     ]
 }
 
 /// The greatest tree text, and what may come after it.
 fn long_texts() -> Vec<Vec<u8>> {
-    let greatest = caterpillar(&long_labels(80)).mirrored().text();
+    let greatest = caterpillar(&long_labels(LEAVES)).mirrored().text();
     let mut out = vec![greatest.clone()];
-    for n in [1519, 4095, 4096, 4097, 8192, 8193, 65_536, 3 * MEGABYTE] {
+    for n in [TREE_TEXT + 1, 4095, 4096, 4097, JOB, JOB + 1, 65_536, 3 * MEGABYTE] {
         let mut x = greatest.clone();
         x.resize(n, b' ');
         out.push(x);
@@ -125,6 +127,6 @@ pub fn texts(examples: &str) -> Vec<Vec<u8>> {
 }
 
 pub fn slow_texts() -> Vec<Vec<u8>> {
-    let greatest = caterpillar(&long_labels(80)).mirrored().text();
+    let greatest = caterpillar(&long_labels(LEAVES)).mirrored().text();
     vec![Vec::new(), b"((d,c),(b,a));".to_vec(), b"(a,b c);".to_vec(), greatest.clone(), [greatest, b"\n".to_vec()].concat(), vec![b'('; 5000]]
 }

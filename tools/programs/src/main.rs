@@ -4,6 +4,7 @@
 mod inputs;
 mod run;
 
+use oracle::limits::JOB;
 use run::{answer, unheard, Broken, Feed};
 use std::collections::BTreeSet;
 use std::time::Duration;
@@ -52,7 +53,7 @@ fn whole(program: &Program, inputs: &[Vec<u8>], slow: &[Vec<u8>], kinds: &[&str]
     }
     let pause = Duration::from_micros;
     for x in slow {
-        for how in [Feed::Pieces(1, pause(40)), Feed::Pieces(7, pause(200)), Feed::Pieces(4096, pause(20_000)), Feed::Pieces(8192, pause(20_000))] {
+        for how in [Feed::Pieces(1, pause(40)), Feed::Pieces(7, pause(200)), Feed::Pieces(4096, pause(20_000)), Feed::Pieces(JOB, pause(20_000))] {
             check(program, x, how);
         }
         for broken in [Broken::ReaderGone, Broken::Full, Broken::Closed] {

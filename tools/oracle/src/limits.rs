@@ -1,0 +1,17 @@
+//! The limits of the scope paper, and what follows from them.
+
+/// Bytes of a label.
+pub const LABEL: usize = 16;
+/// Leaves of a tree.
+pub const LEAVES: usize = 80;
+/// Labels of a list.
+pub const LIST: usize = 80;
+/// Bytes of a job.
+pub const JOB: usize = 8192;
+/// Digits of a length in the contents.
+pub const DIGITS: usize = 4;
+
+/// Bytes of the longest tree text: the labels, `(`, `,` and `)` of each inner node, and `;`.
+pub const TREE_TEXT: usize = LEAVES * LABEL + 3 * (LEAVES - 1) + 1;
+/// Bytes of the longest printed answer.
+pub const LINES: usize = "size 80\nset ".len() + LEAVES * (LABEL + 1) - 1 + "\ntree ".len() + TREE_TEXT + 1;
