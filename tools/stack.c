@@ -104,7 +104,7 @@ int main(void)
     }
     size_t base = used(nothing);
     for (size_t i = 0; i < 2; i++) {
-        size_t bytes = entries[i]->bytes - base;
+        size_t bytes = entries[i]->bytes > base ? entries[i]->bytes - base : 0;
         printf("%s: %zu bytes of stack at most, in job %zu of %zu\n", entries[i]->entry, bytes, entries[i]->at, count);
         failed |= bytes > AGREE_STACK;
     }

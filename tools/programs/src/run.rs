@@ -47,6 +47,8 @@ fn feed(child: &mut Child, input: &[u8], how: Feed) {
     match how {
         Feed::Whole => drop(pipe.write_all(input)),
         Feed::Pieces(size, pause) => {
+            // the program waits for its first byte, so that none is gathered before it reads
+            sleep(Duration::from_millis(5));
             for piece in input.chunks(size) {
                 if pipe.write_all(piece).is_err() {
                     return;
