@@ -23,5 +23,8 @@ fn main() {
             std::process::exit(2);
         }
     };
-    std::io::stdout().write_all(&out).unwrap();
+    // a reader that has seen enough may be gone
+    if std::io::stdout().write_all(&out).is_err() {
+        std::process::exit(1);
+    }
 }
