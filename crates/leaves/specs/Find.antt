@@ -6,12 +6,12 @@ use lib.Dec.{eqb}
 use lib.ListN.{getD}
 use Rattle.trees.specs.Label.{Label, sameLabel}
 use Rattle.trees.specs.Arrays.{nodeLimit}
-use Rattle.trees.specs.Stored.{partOf}
+use Rattle.trees.specs.Stored.{leafLabel}
 
 -- node u is a leaf with label x
 unfoldable pub labelled : List ℕ → List ℕ → List ℕ → List ℕ → Label → ℕ → Bool
 labelled text left start size x u =
-    eqb (getD left u 0) u && sameLabel (partOf (getD start u 0) (getD size u 0) text) x
+    eqb (getD left u 0) u && sameLabel (leafLabel text start size u) x
 
 -- the first of the n nodes from u on that is, or the node after them
 unfoldable pub leafFrom : (ℕ → Bool) → ℕ → ℕ → ℕ

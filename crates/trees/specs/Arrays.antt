@@ -109,9 +109,3 @@ treeOf a text =
     && leb (length (leaves (treeAt (a .nodes) a text (a .nodes - 1)))) leafLimit)
     (oneTree (treeAt (a .nodes) a text (a .nodes - 1)))
     noTree)
-
--- the part of the text that shows leaf u; nothing where u is no leaf with a label in the text
-unfoldable pub shownLabel : TreeArrays → List ℕ → ℕ → Label
-unfolding isLeaf goodNode labelAt
-shownLabel a text u =
-    cond (ltb u (a .nodes) && leb (a .nodes) nodeLimit && isLeaf a u && goodNode a text u) (labelAt a text u) []
