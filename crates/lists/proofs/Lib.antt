@@ -5,6 +5,5 @@ pub mod ListFaultsWalk
 pub mod ListPlaces
 pub mod ListSimulation
 pub mod MachineLaws
-pub mod PartLaws
 pub mod Promises
 pub mod ReaderLoop

@@ -1,4 +1,3 @@
 pub mod ReadList
 pub mod ListGrammar
-pub mod TextParts
 pub mod ListMachine

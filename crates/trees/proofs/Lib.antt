@@ -1,3 +1,4 @@
+pub mod AmongLaws
 pub mod ArrayLaws
 pub mod Bools
 pub mod ByteLaws

@@ -7,7 +7,7 @@ ghost use lib.ListN.{getD, take};
 ghost use Rattle.trees.specs.Bytes.{classTable, kindOfCode};
 ghost use Rattle.trees.specs.Label.{orderOf, labelLess, sameLabel};
 ghost use Rattle.trees.specs.Refusals.{numberOf, letterOf};
-ghost use Rattle.trees.specs.Stored.{storedBytes, storedOf, partOf, leafLabel};
+ghost use Rattle.trees.specs.Stored.{storedBytes, storedOf, partOf, leafLabel, isPart, isAmong};
 
 // The most bytes of a label.
 const LABEL_LIMIT: usize = 16;
@@ -500,6 +500,31 @@ pub fn leaf_label<'a>(text: &'a [u8], start: &[usize], size: &[usize], u: usize)
     ensures { λ r. ⌜ now r ≡ leafLabel (now (text .entry)) (now (start .entry)) (now (size .entry)) u ⌝ }
 {
     part(text, entry(start, u), entry(size, u))
+}
+
+// Whether the part that entry u of starts and sizes names is the label. The size comes first: of most labels it is another.
+fn is_part(text: &[u8], start: &[usize], size: &[usize], u: usize, label: &[u8]) -> bool
+    ensures { λ r. ⌜ r ≡ isPart (now (text .entry)) (getD (now (start .entry)) u 0) (getD (now (size .entry)) u 0) (now (label .entry)) ⌝ }
+{
+    if entry(size, u) == label.len() {
+        same_label(label, leaf_label(text, start, size, u))
+    } else {
+        false
+    }
+}
+
+// Whether one of the first `count` parts that starts and sizes name is the label.
+pub fn is_among(text: &[u8], start: &[usize], size: &[usize], count: usize, label: &[u8]) -> bool
+    ensures { λ r. ⌜ r ≡ isAmong (now (text .entry)) (now (start .entry)) (now (size .entry)) count (now (label .entry)) ⌝ }
+{
+    let mut u = count;
+    while 0 < u {
+        u -= 1;
+        if is_part(text, start, size, u, label) {
+            return true;
+        }
+    }
+    false
 }
 
 // A label as it is kept apart from its text, 0 after its last byte; of a longer text the first 16 bytes.

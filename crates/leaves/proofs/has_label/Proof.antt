@@ -1,6 +1,6 @@
+-- `leaves::has_label` meets its contract: no leaf, or one whose shown label is compared. Assumes nothing.
 use borrow.Author.Tests.{ne-eqb, eq-eqb}
 use Rattle.leaves.specs.Find.{labelled}
--- `leaves::has_label` meets its contract: no leaf, or one whose shown label is compared. Assumes nothing.
 use borrow.Author.Needs.{needs}
 use Rattle.leaves.proofs.has_label.Statement.{statement}
 use Rattle.leaves.proofs.has_label.Tie as tie

@@ -1,7 +1,7 @@
 -- `stored` meets its contract. The loop keeps that the first i bytes are copied and 0 stands after them. Assumes nothing.
 use Rattle.trees.proofs.StoredLaws.{one-more, all-copied}
 use Prim.Native.Nat.{_≤_, _-_, min}
-use mathlib.Core.Path.{_≡_, refl, sym, _∙_}
+use mathlib.Core.Path.{_≡_, refl, _∙_}
 use mathlib.Core.List.{_++_}
 use lib.ListN.{length, take, replicate}
 use Rattle.trees.specs.Label.{labelLimit}
