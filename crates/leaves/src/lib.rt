@@ -6,9 +6,7 @@ ghost use mathlib.Core.Path.{_≡_};
 ghost use Prim.Native.Nat.{_<_};
 ghost use Rattle.leaves.specs.Find.{labelled, foundLeaf};
 ghost use Rattle.trees.specs.Arrays.{nodeLimit};
-
-// The most nodes of a tree: 80 leaves have 79 inner nodes above them.
-const NODE_LIMIT: usize = 159;
+use trees::NODE_LIMIT;
 
 // Leaf u of the arrays has this label.
 fn has_label(

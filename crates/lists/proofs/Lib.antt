@@ -7,3 +7,4 @@ pub mod ListSimulation
 pub mod MachineLaws
 pub mod Promises
 pub mod ReaderLoop
+pub mod SaysLaws

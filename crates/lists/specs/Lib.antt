@@ -1,3 +1,4 @@
 pub mod ReadList
 pub mod ListGrammar
 pub mod ListMachine
+pub mod ListSays

@@ -3,6 +3,7 @@
 // No public function has a `requires`: a text of any length and any bytes is answered.
 use trees::Body;
 use trees::Kind;
+use trees::LABEL_LIMIT;
 use trees::Reason;
 use trees::Refusal;
 ghost use mathlib.Core.Path.{_≡_};
@@ -12,10 +13,7 @@ ghost use Rattle.lists.specs.ReadList.{listLimit, listRead, readList};
 ghost use Rattle.lists.specs.ListMachine.{Room, after, answerOf, closeOf, dueOf, endAt, ended, insideOf, repeatOf, stepOf};
 
 // The most labels of a list.
-const LIST_LIMIT: usize = 80;
-
-// The most bytes of a label.
-const LABEL_LIMIT: usize = 16;
+pub const LIST_LIMIT: usize = 80;
 
 // How many labels were read, or why the text was turned down.
 pub enum ListAnswer {

@@ -3,6 +3,9 @@
 // No public function has a `requires`: a text of any length and any bytes is answered.
 use trees::Body;
 use trees::Kind;
+use trees::LABEL_LIMIT;
+use trees::LEAF_LIMIT;
+use trees::NODE_LIMIT;
 use trees::Reason;
 use trees::Refusal;
 use trees::TreeArrays;
@@ -18,14 +21,8 @@ ghost use Rattle.newick.specs.Machine.{repeatOf, arrays, outcome, Room, 
 ghost use Rattle.newick.specs.Machine.{scan, dueOf, closeOf, commaOf, afterOf, labelEnd, insideOf, moveOf, answerOf};
 ghost use Rattle.newick.specs.Machine.{refusal, turnedDown, withArrays};
 
-// The most bytes of a label.
-const LABEL_LIMIT: usize = 16;
-
 // The most `(` of a tree, one less than its leaves.
-const OPEN_LIMIT: usize = 79;
-
-// The most nodes of a tree: 80 leaves and 79 inner nodes.
-const NODE_LIMIT: usize = 159;
+const OPEN_LIMIT: usize = LEAF_LIMIT - 1;
 
 // How many leaves were read, or why the text was turned down.
 pub enum TreeAnswer {

@@ -15,7 +15,7 @@ use Rattle.trees.specs.declared.TreeArrays.{TreeArrays}
 use Rattle.trees.specs.Bytes.{openByte, commaByte, closeByte, semicolonByte}
 use Rattle.trees.specs.Label.{Label, labelLimit, allLabelBytes, goodLabel, goodLabels}
 use Rattle.trees.specs.Tree.{Tree, leaf, node, leaves, Valid, leafLimit}
-use Rattle.trees.specs.Text.{written, textOf}
+use Rattle.trees.specs.Text.{written, textOf, treeRoom}
 use Rattle.trees.specs.Arrays.{nodeLimit, nodesOf, lefts, rights, starts, sizes, padded, arraysOf}
 use Rattle.trees.specs.Arrays.{labelAt, isLeaf, goodNode, goodNodes, treeAt, noLeaf, oneTree, noTree, treeOf}
 use Rattle.trees.specs.Stored.{partOf, leafLabel}
@@ -95,7 +95,7 @@ leaf-short x h =
     (and-left (leb 1 (length x) && leb (length x) labelLimit) (allLabelBytes x) (and-left (goodLabel x) true h)))
 
 -- a label has at most 16 bytes, and each inner node writes three
-pub written-short : (t : Tree) → goodLabels (leaves t) ≡ true → length (written t) + 3 ≤ 19 * length (leaves t)
+pub written-short : (t : Tree) → goodLabels (leaves t) ≡ true → length (written t) + 3 ≤ (labelLimit + 3) * length (leaves t)
 unfolding written leaves
 written-short (leaf x) h = omega (arith, leaf-short x h)
 written-short (node a b) h =
@@ -107,7 +107,7 @@ written-short (node a b) h =
       written-short b (good-second a b h),
     )
 
-pub text-short : (t : Tree) → Valid t → length (textOf t) ≤ 1518
+pub text-short : (t : Tree) → Valid t → length (textOf t) ≤ treeRoom
 unfolding textOf
 text-short t v = omega (arith, written-short t (v .labels), length-append (written t) (semicolonByte ∷ []), v .few)
 

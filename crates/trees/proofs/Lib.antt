@@ -13,4 +13,5 @@ pub mod RawRuns
 pub mod ReadingLaws
 pub mod SameLaws
 pub mod StoredLaws
+pub mod TreeLaws
 pub mod WrittenLaws

@@ -1,6 +1,6 @@
 -- Tree arrays: which arrays a tree has, and which tree arrays stand for.
 -- Nodes are numbered in postorder: children before parents, the root last. A leaf is its own left and right child.
-use Prim.Native.Nat.{ℕ, zero, suc, _+_, _-_}
+use Prim.Native.Nat.{ℕ, zero, suc, _+_, _*_, _-_}
 use mathlib.Core.Bool.{Bool, true, cond, _&&_}
 use mathlib.Core.List.{List, [], _∷_, _++_}
 use lib.Dec.{eqb, ltb, leb}
@@ -12,7 +12,7 @@ use Rattle.trees.specs.Text.{written}
 
 -- 80 leaves have 159 nodes
 abbrev pub nodeLimit : ℕ
-nodeLimit = 159
+nodeLimit = 2 * leafLimit - 1
 
 unfoldable pub nodesOf : Tree → ℕ
 nodesOf (leaf x) = 1

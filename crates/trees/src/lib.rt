@@ -10,10 +10,16 @@ ghost use Rattle.trees.specs.Refusals.{numberOf, letterOf};
 ghost use Rattle.trees.specs.Stored.{storedBytes, storedOf, partOf, leafLabel, isPart, isAmong};
 
 // The most bytes of a label.
-const LABEL_LIMIT: usize = 16;
+pub const LABEL_LIMIT: usize = 16;
 
-// The most nodes of a tree: 80 leaves have 79 inner nodes above them.
-const NODE_LIMIT: usize = 159;
+// The most leaves of a tree.
+pub const LEAF_LIMIT: usize = 80;
+
+// The most nodes of a tree: each inner node joins two, so there is one less than leaves.
+pub const NODE_LIMIT: usize = 2 * LEAF_LIMIT - 1;
+
+// The most bytes of a tree's text: its labels, `(`, `,` and `)` for each inner node, and `;`.
+pub const TREE_ROOM: usize = LEAF_LIMIT * LABEL_LIMIT + 3 * (LEAF_LIMIT - 1) + 1;
 
 // What a byte of a tree text can be. Each of the 256 byte values has one kind.
 pub enum Kind {
