@@ -1,24 +1,11 @@
--- The search for a leaf with a label: its steps, and what it finds in the arrays of a tree. Assumes nothing.
+-- The steps of the search for a leaf with a label. Assumes nothing.
 use Prim.Native.Nat.{ℕ, zero, suc, _+_, _-_, _<_, _≤_}
-use mathlib.Core.Path.{_≡_, refl, sym}
+use mathlib.Core.Path.{_≡_, refl}
 use mathlib.Core.Bool.{Bool, true, false}
 use native.Mathlib.Omega.{arith}
 use native.Mathlib.Numerals.{add-one}
-use Rattle.trees.specs.declared.Order.the-variants.{Less, Equal, Greater}
-use Rattle.trees.specs.Label.{Label, sameLabel, orderOf}
-use Rattle.trees.proofs.LabelLaws.{order-less, order-equal, order-greater, eq-same, ne-same, less-ne}
 use Rattle.leaves.specs.Find.{leafFrom}
 
-pub same-less : (x y : Label) → orderOf x y ≡ Less → sameLabel x y ≡ false
-same-less x y h = ne-same x y (less-ne x y (order-less x y h))
-
-pub same-equal : (x y : Label) → orderOf x y ≡ Equal → sameLabel x y ≡ true
-same-equal x y h = eq-same x y (order-equal x y h)
-
-pub same-greater : (x y : Label) → orderOf x y ≡ Greater → sameLabel x y ≡ false
-same-greater x y h = ne-same x y (λ e. less-ne y x (order-greater x y h) (sym e))
-
--- the steps of the search
 from-suc : (is : ℕ → Bool) (m u : ℕ) → is u ≡ false → leafFrom is (suc m) u ≡ leafFrom is m (suc u)
 unfolding leafFrom
 from-suc is m u k = rw k refl

@@ -1,2 +1,3 @@
 pub mod FindLaws
 pub mod OwnLaws
+pub mod Promises

@@ -19,7 +19,8 @@ use Rattle.trees.proofs.Bools.{bool-cases, clash}
 use Rattle.trees.proofs.LabelLaws.{same-eq, same-refl}
 use Rattle.trees.proofs.ArrayLaws.{own-stands, good-at, label-inside, few-nodes}
 use Rattle.trees.proofs.PostorderLaws.{laid-arrays, length-postorder, label-shown, LeafAt, leaf-at, subtree-in, holds-leaf}
-use Rattle.leaves.specs.Find.{labelled, leafFrom, foundLeaf}
+use Rattle.leaves.specs.Find.{labelled, leafFrom, foundLeaf, ShowsLeaf}
+pub use Rattle.leaves.specs.Find.{ownFound}
 
 pub own-laid : (t : Tree) → Laid (arraysOf t .left) (arraysOf t .right) (postorder t)
 unfolding arraysOf
@@ -100,9 +101,6 @@ search-from is (suc n) u = go (is u) refl (search-from is n (suc u))
         later j p q (inl f) = subst (λ (i : ℕ). is i ≡ false) (sym (borrow.Author.Tests.eqb-true j u f)) e
         later j p q (inr f) = k j (omega (arith, borrow.Author.Tests.eqb-false j u f)) (omega arith)
 
-abbrev pub ownFound : Tree → Label → ℕ
-ownFound t x = foundLeaf (textOf t) (arraysOf t .left) (arraysOf t .start) (arraysOf t .size) x (nodesOf t)
-
 -- the leaf's number where the tree holds the label, and the number of nodes where it does not
 pub record Found (t : Tree) (x : Label) (r : ℕ) : Type 0 where
   pub below : r < nodesOf t
@@ -131,3 +129,14 @@ missing t x v h = go (found-search t x v)
         (holds-leaf (subtree (postorder t) (ownFound t x)) x (labelled-is t v (ownFound t x) x (omega arith) k)))
         h
     go (none e k) = omega arith
+
+-- the leaf that is found has the label
+pub found-shown : (t : Tree) → Valid t → (x : Label) → isIn x (leaves t) ≡ true → ShowsLeaf t (ownFound t x) x
+unfolding isLeaf
+found-shown t v x h =
+    let f = found t x v h in
+    record {
+      below = f .below;
+      leaf = eq-eqb (getD (arraysOf t .left) (ownFound t x) 0) (ownFound t x) (own-leaf t (ownFound t x) x (f .below) (f .is));
+      label = own-label t v (ownFound t x) x (f .below) (f .is);
+    }

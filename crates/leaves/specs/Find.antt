@@ -1,17 +1,20 @@
 -- The leaf of tree arrays that has a label.
-use Prim.Native.Nat.{ℕ, zero, suc, min}
-use mathlib.Core.Bool.{Bool, cond, _&&_}
+use Prim.Native.Nat.{ℕ, zero, suc, _<_, min}
+use mathlib.Core.Path.{_≡_}
+use mathlib.Core.Bool.{Bool, true, cond, _&&_}
 use mathlib.Core.List.{List}
 use lib.Dec.{eqb}
 use lib.ListN.{getD}
 use Rattle.trees.specs.Label.{Label, sameLabel}
-use Rattle.trees.specs.Arrays.{nodeLimit}
-use Rattle.trees.specs.Stored.{partOf}
+use Rattle.trees.specs.Tree.{Tree}
+use Rattle.trees.specs.Text.{textOf}
+use Rattle.trees.specs.Arrays.{nodeLimit, nodesOf, arraysOf, isLeaf}
+use Rattle.trees.specs.Stored.{leafLabel}
 
 -- node u is a leaf with label x
 unfoldable pub labelled : List ℕ → List ℕ → List ℕ → List ℕ → Label → ℕ → Bool
 labelled text left start size x u =
-    eqb (getD left u 0) u && sameLabel (partOf (getD start u 0) (getD size u 0) text) x
+    eqb (getD left u 0) u && sameLabel (leafLabel text start size u) x
 
 -- the first of the n nodes from u on that is, or the node after them
 unfoldable pub leafFrom : (ℕ → Bool) → ℕ → ℕ → ℕ
@@ -21,3 +24,13 @@ leafFrom is (suc n) u = cond (is u) u (leafFrom is n (suc u))
 unfoldable pub foundLeaf : List ℕ → List ℕ → List ℕ → List ℕ → Label → ℕ → ℕ
 unfolding labelled leafFrom
 foundLeaf text left start size x nodes = leafFrom (labelled text left start size x) (min nodes nodeLimit) 0
+
+-- the same over the arrays of a tree, as its text is read
+abbrev pub ownFound : Tree → Label → ℕ
+ownFound t x = foundLeaf (textOf t) (arraysOf t .left) (arraysOf t .start) (arraysOf t .size) x (nodesOf t)
+
+-- node u of the tree's arrays is a leaf, and x is the part of the text that shows it
+pub record ShowsLeaf (t : Tree) (u : ℕ) (x : Label) : Type 0 where
+  pub below : u < nodesOf t
+  pub leaf : isLeaf (arraysOf t) u ≡ true
+  pub label : leafLabel (textOf t) (arraysOf t .start) (arraysOf t .size) u ≡ x

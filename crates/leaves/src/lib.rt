@@ -1,22 +1,23 @@
-// Leaves looked up by label, and labels put into label order.
+// Leaves looked up by label.
 //
 // No public function has a `requires`. Arrays are lent as tree arrays have them; those that stand for no tree are answered by
 // the same definitions.
 ghost use mathlib.Core.Path.{_≡_};
-ghost use Prim.Native.Nat.{_<_, min};
+ghost use Prim.Native.Nat.{_<_};
 ghost use Rattle.leaves.specs.Find.{labelled, foundLeaf};
-use trees::Order;
+ghost use Rattle.trees.specs.Arrays.{nodeLimit};
+use trees::NODE_LIMIT;
 
 // Leaf u of the arrays has this label.
 fn has_label(
     text: &[u8],
-    left: &[usize; 159],
-    start: &[usize; 159],
-    size: &[usize; 159],
+    left: &[usize; NODE_LIMIT],
+    start: &[usize; NODE_LIMIT],
+    size: &[usize; NODE_LIMIT],
     label: &[u8],
     u: usize,
 ) -> bool
-    requires { ⌜ u < 159 ⌝ }
+    requires { ⌜ u < nodeLimit ⌝ }
     ensures { λ r.
         ⌜ r ≡ labelled (now (text .entry)) (now (left .entry)) (now (start .entry)) (now (size .entry)) (now (label .entry)) u ⌝ }
 {
@@ -24,28 +25,15 @@ fn has_label(
     if child != u {
         return false;
     }
-    let from = start[u];
-    let count = size[u];
-    let order = trees::compare(trees::part(text, from, count), label);
-    match order {
-        Order::Less => false,
-        Order::Equal => true,
-        Order::Greater => false,
-    }
+    trees::same_label(trees::leaf_label(text, start, size, u), label)
 }
 
-fn least(a: usize, b: usize) -> usize
-    ensures { λ r. ⌜ r ≡ min a b ⌝ }
-{
-    if a < b { a } else { b }
-}
-
-// The number of the first leaf with this label, or how many nodes there are where no leaf has it.
+// The number of the first leaf with this label; where no leaf has it, how many nodes there are, 159 at the most.
 pub fn find_leaf(
     text: &[u8],
-    left: &[usize; 159],
-    start: &[usize; 159],
-    size: &[usize; 159],
+    left: &[usize; NODE_LIMIT],
+    start: &[usize; NODE_LIMIT],
+    size: &[usize; NODE_LIMIT],
     nodes: usize,
     label: &[u8],
 ) -> usize
@@ -61,7 +49,7 @@ pub fn find_leaf(
         nodes
         ⌝ }
 {
-    let end = least(nodes, 159);
+    let end = trees::least(nodes, NODE_LIMIT);
     let mut u: usize = 0;
     while u < end {
         if has_label(text, left, start, size, label, u) {

@@ -5,6 +5,6 @@ pub mod ListFaultsWalk
 pub mod ListPlaces
 pub mod ListSimulation
 pub mod MachineLaws
-pub mod PartLaws
 pub mod Promises
 pub mod ReaderLoop
+pub mod SaysLaws

@@ -3,6 +3,7 @@
 use Prim.Native.Nat.{ℕ, suc, _+_, _≤_, _<_}
 use mathlib.Core.Path.{_≡_, refl, sym, _∙_, ap, subst}
 use mathlib.Core.Bool.{Bool, true, false, cond}
+use mathlib.Core.Logic.{inr}
 use mathlib.Core.List.{List, [], _∷_, _++_, append-assoc}
 use native.Mathlib.Omega.{arith}
 use native.Mathlib.Numerals.{add-one}
@@ -16,7 +17,7 @@ use Rattle.trees.specs.declared.Reason.the-variants.{BadByte, LabelTooLong, Too
 use Rattle.trees.specs.Bytes.{isLabelByte, kindOf, commaByte}
 use Rattle.trees.specs.Label.{Label, labelLimit, goodLabel, goodLabels, looseLabels, distinct}
 use Rattle.trees.specs.Reading.{Reading, good, refused, repeats}
-use Rattle.trees.specs.Faults.{Continues, Fault, occurrences}
+use Rattle.trees.specs.Faults.{Continues, Edge, Fault, occurrences}
 use Rattle.lists.specs.ReadList.{Phase, atStart, labelDue, inLabel, Step, next, stop, stepDue, stepLabel, step, endOf}
 use Rattle.lists.specs.ReadList.{readFrom, readList, joined, listLimit}
 use Rattle.lists.specs.ListGrammar.{ListText, LabelCrowd, ListFault}
@@ -24,8 +25,8 @@ use Rattle.trees.proofs.Bools.{clash}
 use Rattle.trees.proofs.ListLaws.{bytes-snoc, bytes-one, good-parts, good-intro, good-more, good-loose}
 use Rattle.trees.proofs.ReadingLaws.{KindView, is-label, is-comma, kind-view, comma-plain, run-end, seen-more, occurrences-append}
 use Rattle.trees.proofs.ReadingLaws.{occurs, occurs-not, occurs-none}
-use Rattle.trees.proofs.FaultLaws.{Known, Edge, Inside, known-start, inside-edge, edge-not-long, Read, read-start, byte-here}
-use Rattle.trees.proofs.FaultLaws.{before-here, bad-here, crowd-here, plain-pass, plain-edge, plain-known, label-read}
+use Rattle.trees.proofs.FaultLaws.{Known, Inside, known-start, inside-edge, edge-not-long, Read, read-start, byte-here}
+use Rattle.trees.proofs.FaultLaws.{before-here, bad-here, crowd-here, plain-pass, edge-after, plain-known, label-read}
 use Rattle.trees.proofs.FaultLaws.{label-known, long-here, letter-pass, letter-inside, starts-here, repeat-here, begin-pass}
 use Rattle.trees.proofs.FaultLaws.{begin-inside, whole-text, ends-here, no-fault-left}
 use Rattle.trees.proofs.RawRuns.{on, halt, on-same, raw-nil, raw-snoc}
@@ -187,7 +188,7 @@ module _ (text p : List ℕ) (b : ℕ) (rest : List ℕ) (i : ℕ) (seen : List 
           (arith, h .count, length-append seen (x ∷ []), occurrences-append commaByte p (b ∷ []), occurs commaByte b [] (sym c), occurs-none commaByte);
       marks = (
         plain-known ended n (label-known (h .base) x n (h .marks .0)),
-        plain-edge (h .base) n,
+        edge-after (h .base) (inr c),
         omega (arith, length-append seen (x ∷ []), h .marks .3),
         tt,
       );

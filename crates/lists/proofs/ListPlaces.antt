@@ -2,14 +2,15 @@
 use Prim.Native.Nat.{ℕ, suc, _+_, _-_, _<_}
 use native.Mathlib.Nat.{add-zero}
 use native.Mathlib.Omega.{arith}
-use mathlib.Core.Path.{_≡_, refl, ap, sym, _∙_}
+use mathlib.Core.Path.{_≡_, refl, ap, ap₂, sym, _∙_}
+use mathlib.Core.Bool.{_||_}
 use mathlib.Core.List.{List, [], _∷_, _++_, append-assoc}
 use lib.ListN.{length, set, replicate, length-append}
-use lib.Seq.{set-at, take-append-seam, drop-at}
+use lib.Seq.{set-at}
 use Rattle.trees.specs.Bytes.{commaByte}
-use Rattle.trees.specs.Label.{Label}
+use Rattle.trees.specs.Label.{Label, isIn}
+use Rattle.trees.proofs.AmongLaws.{amongParts, part-same}
 use Rattle.lists.specs.ReadList.{listLimit, padded, sizesOf, startsOf}
-use Rattle.lists.specs.TextParts.{part, partsOf}
 
 -- the text of complete labels, a comma after each
 unfoldable pub consumed : List Label → List ℕ
@@ -49,22 +50,14 @@ store l v n e h =
     let one : listLimit - length l ≡ suc (listLimit - length (l ++ (v ∷ []))) = simp length-append (omega arith) in
     rw one (set-at l 0 (replicate (listLimit - length (l ++ (v ∷ []))) 0) v n e ∙ sym (append-assoc l (v ∷ []) (replicate (listLimit - length (l ++ (v ∷ []))) 0)))
 
-pub part-at : (before x rest : List ℕ) (p : ℕ) → p ≡ length before → part (before ++ (x ++ rest)) p (length x) ≡ x
-unfolding part
-part-at before x rest p e = rw (drop-at before (x ++ rest) p (sym e), take-append-seam x rest) refl
-
--- the parts that the places of complete labels name are those labels
-pub parts-at : (xs : List Label) (text before rest fill fill′ : List ℕ) (p : ℕ) → text ≡ before ++ (consumed xs ++ rest) → p ≡ length before
-    → partsOf text (length xs) (startsOf xs p ++ fill) (sizesOf xs ++ fill′) ≡ xs
-unfolding partsOf consumed startsOf sizesOf
-parts-at [] text before rest fill fill′ p t e = refl
-parts-at (x ∷ xs) text before rest fill fill′ p t e =
-    let here : text ≡ before ++ (x ++ (commaByte ∷ (consumed xs ++ rest))) =
-    t ∙ ap (λ (l : List ℕ). before ++ l) (append-assoc x (commaByte ∷ consumed xs) rest) in
-    let there : text ≡ before ++ (x ++ (commaByte ∷ [])) ++ (consumed xs ++ rest) = here ∙ simp append-assoc in
-    let past : p + length x + 1 ≡ length (before ++ (x ++ (commaByte ∷ []))) = simp length-append (omega arith) in
-    let first : part text p (length x) ≡ x =
-    rw here (part-at before x (commaByte ∷ (consumed xs ++ rest)) p e) in
-    let others : partsOf text (length xs) (startsOf xs (p + length x + 1) ++ fill) (sizesOf xs ++ fill′) ≡ xs =
-    parts-at xs text (before ++ (x ++ (commaByte ∷ []))) rest fill fill′ (p + length x + 1) there past in
-    rw (first, others) refl
+-- a label looked for among the places of complete labels is one of them
+pub among-seen : (text : List ℕ) (x : Label) (ys : List Label) (before rest : List ℕ) (p : ℕ)
+    → text ≡ before ++ (consumed ys ++ rest) → p ≡ length before → amongParts text x (startsOf ys p) (sizesOf ys) ≡ isIn x ys
+unfolding amongParts consumed startsOf sizesOf isIn
+among-seen text x [] before rest p t e = refl
+among-seen text x (y ∷ ys) before rest p t e =
+    let here : text ≡ before ++ (y ++ (commaByte ∷ (consumed ys ++ rest))) =
+    t ∙ ap (λ (l : List ℕ). before ++ l) (append-assoc y (commaByte ∷ consumed ys) rest) in
+    let past : p + length y + 1 ≡ length (before ++ (y ++ (commaByte ∷ []))) = simp length-append (omega arith) in
+    ap₂ _||_ (part-same text x y before (commaByte ∷ (consumed ys ++ rest)) p e here)
+    (among-seen text x ys (before ++ (y ++ (commaByte ∷ []))) rest (p + length y + 1) (here ∙ simp append-assoc) past)

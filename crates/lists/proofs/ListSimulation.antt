@@ -18,7 +18,9 @@ use Rattle.trees.specs.declared.Body.{Body}
 use Rattle.trees.specs.Bytes.{isLabelByte, kindOf, commaByte}
 use Rattle.trees.specs.Label.{Label, labelLimit, isIn, allLabelBytes}
 use Rattle.trees.specs.Reading.{Reading, refused, labelRun, repeats}
+use Rattle.trees.specs.Stored.{partOf}
 use Rattle.trees.proofs.Bools.{bool-cases}
+use Rattle.trees.proofs.AmongLaws.{part-here, among-parts}
 use Rattle.trees.proofs.ListLaws.{bytes-one, bytes-snoc}
 use Rattle.trees.proofs.ReadingLaws.{KindView, is-label, is-open, is-close, is-comma, is-semicolon, is-other, kind-view, run-none}
 use Rattle.trees.proofs.ReadingLaws.{repeats-ended, repeats-long}
@@ -49,9 +51,8 @@ use Rattle.lists.specs.ReadList.{
   stepLabel,
   stop,
 }
-use Rattle.lists.specs.TextParts.{part, partsOf}
 use Rattle.lists.specs.ListMachine.{After, after, answerOf, closeOf, dueOf, endAt, insideOf, repeatOf, runFrom, stepOf}
-use Rattle.lists.proofs.ListPlaces.{consumed, consumed-snoc, length-sizes, length-starts, part-at, parts-at, sizes-snoc}
+use Rattle.lists.proofs.ListPlaces.{consumed, consumed-snoc, length-sizes, length-starts, among-seen, sizes-snoc}
 use Rattle.lists.proofs.ListPlaces.{starts-snoc, store}
 use Rattle.lists.proofs.MachineLaws.{Kept, answer-refused, close-new, close-repeat, end-new, end-repeat, run-end, run-next, run-stop}
 
@@ -77,12 +78,11 @@ module _ (text : List ℕ) (seen : List Label) (x : Label) (first at : ℕ) (res
   found : repeatOf text (starting seen) (sizing seen) (length seen) first (length x) ≡ isIn x seen
   unfolding repeatOf starting sizing
   found =
-      let named : part text first (length x) ≡ x =
-      rw (w .text-is) (part-at (consumed seen) x rest first (w .first-is)) in
-      let before : partsOf text (length seen) (starting seen) (sizing seen) ≡ seen =
-      parts-at seen text [] (x ++ rest) (replicate (listLimit - length (startsOf seen 0)) 0)
-      (replicate (listLimit - length (sizesOf seen)) 0) 0 (w .text-is) refl in
-      rw (named, before) refl
+      let named : partOf first (length x) text ≡ x =
+      rw (w .text-is) (part-here (consumed seen) x rest first (w .first-is)) in
+      rw named
+      (among-parts text x (startsOf seen 0) (sizesOf seen) _ _ (length seen) (length-starts seen 0) (length-sizes seen)
+      ∙ among-seen text x seen [] (x ++ rest) 0 (w .text-is) refl)
 
   start-kept : set (starting seen) (length seen) first ≡ starting (seen ++ (x ∷ []))
   unfolding starting

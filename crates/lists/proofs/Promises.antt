@@ -1,4 +1,4 @@
--- What the reader of a list of labels promises, in the scope paper's order. The definitions are those of specs/ (ReadList, ListGrammar)
+-- What the reader of a list of labels promises, in the scope paper's order. The definitions are those of specs/ (ReadList, ListGrammar, ListSays)
 -- and of the crate `trees` (Label, Faults); each theorem is proved by citing one name. Assumes nothing.
 use Prim.Native.Nat.{ℕ, _≤_}
 use mathlib.Core.Path.{_≡_}
@@ -6,13 +6,17 @@ use mathlib.Core.Bool.{true}
 use mathlib.Core.List.{List}
 use lib.ListN.{length}
 use Rattle.trees.specs.declared.Reason.{Reason}
+use Rattle.trees.specs.declared.Body.{Body}
 use Rattle.trees.specs.Label.{Label, goodLabels, distinct}
 use Rattle.trees.specs.Reading.{good, refused}
+use Rattle.trees.specs.Refusals.{numberOf, letterOf, value, row}
 use Rattle.trees.specs.Faults.{Fault}
 use Rattle.lists.specs.ReadList.{readList, joined, listLimit}
 use Rattle.lists.specs.ListGrammar.{ListText, LabelCrowd, ListFault}
+use Rattle.lists.specs.ListSays.{saysOf}
 use Rattle.lists.proofs.Accepts.{list-accepts, list-reads}
 use Rattle.lists.proofs.ListFaults.{list-refusal, list-fault-refused, list-accepted-clean}
+use Rattle.lists.proofs.SaysLaws.{says-labels, says-fault}
 
 -- "The required list is empty, or labels joined by `,` with nothing else, at most 80, all different.": what is accepted is the text of
 -- such labels, and they are read.
@@ -37,3 +41,13 @@ first-refused = list-fault-refused
 pub accepted-faultless : (text : List ℕ) (xs : List Label) → readList text ≡ good xs → (q : Reason) (j : ℕ)
     → Fault ListText LabelCrowd text q j → ⊥
 accepted-faultless = list-accepted-clean
+
+-- "A refusal carries its number, and within it the body letter and a place": what the reader's answer says, case by case. A text is
+-- that of such labels or has a first fault.
+pub answer-of-labels : (body : Body) (xs : List Label) → goodLabels xs ≡ true → distinct xs ≡ true → length xs ≤ listLimit
+    → saysOf body (joined xs) ≡ value (length xs)
+answer-of-labels = says-labels
+
+pub answer-of-fault : (body : Body) (text : List ℕ) (r : Reason) (i : ℕ) → ListFault text r i
+    → saysOf body text ≡ row (numberOf r) (letterOf body) i
+answer-of-fault = says-fault

@@ -1,4 +1,4 @@
 pub mod ReadList
 pub mod ListGrammar
-pub mod TextParts
 pub mod ListMachine
+pub mod ListSays

@@ -10,7 +10,8 @@ use Rattle.trees.specs.declared.Kind.the-variants.{Label as LabelByte, Open, Cl
 use Rattle.trees.specs.declared.Reason.the-variants.{BadByte, EndsTooSoon, LabelTooLong, TooMany, Repeated}
 use Rattle.trees.specs.declared.Body.{Body}
 use Rattle.trees.specs.Bytes.{kindOf}
-use Rattle.trees.specs.Label.{labelLimit, isIn}
+use Rattle.trees.specs.Label.{labelLimit}
+use Rattle.trees.specs.Stored.{partOf, isAmong}
 use Rattle.trees.specs.Reading.{refused}
 use Rattle.lists.specs.declared.Stage.{Stage}
 use Rattle.lists.specs.declared.Stage.the-variants.{Start, Due, Inside}
@@ -20,7 +21,6 @@ use Rattle.lists.specs.declared.ListAnswer.{ListAnswer}
 use Rattle.lists.specs.declared.ListAnswer.the-variants.{Labels, Refused}
 use Rattle.lists.specs.declared.ListRead.{ListRead}
 use Rattle.lists.specs.ReadList.{listLimit, listRead, placesOf}
-use Rattle.lists.specs.TextParts.{part, partsOf}
 
 -- a step's outcome with the arrays after it
 pub record After : Type 0 where
@@ -48,7 +48,7 @@ Room (Inside first len count) = count < listLimit
 
 -- the label of len bytes at first is one of the `count` before it
 unfoldable pub repeatOf : List ℕ → List ℕ → List ℕ → (count first len : ℕ) → Bool
-repeatOf text start size count first len = isIn (part text first len) (partsOf text count start size)
+repeatOf text start size count first len = isAmong text start size count (partOf first len text)
 
 unfoldable pub dueOf : Kind → (at count : ℕ) → Outcome
 dueOf LabelByte at count = cond (ltb count listLimit) (Next (Inside at 1 count)) (Stop TooMany at)

@@ -1,17 +1,19 @@
 // The reader of a list of labels.
 //
 // No public function has a `requires`: a text of any length and any bytes is answered.
-mod parts;
-
 use trees::Body;
 use trees::Kind;
+use trees::LABEL_LIMIT;
 use trees::Reason;
 use trees::Refusal;
 ghost use mathlib.Core.Path.{_≡_};
 ghost use Prim.Native.Nat.{_<_};
 ghost use lib.ListN.{length, set};
-ghost use Rattle.lists.specs.ReadList.{listRead, readList};
+ghost use Rattle.lists.specs.ReadList.{listLimit, listRead, readList};
 ghost use Rattle.lists.specs.ListMachine.{Room, after, answerOf, closeOf, dueOf, endAt, ended, insideOf, repeatOf, stepOf};
+
+// The most labels of a list.
+pub const LIST_LIMIT: usize = 80;
 
 // How many labels were read, or why the text was turned down.
 pub enum ListAnswer {
@@ -22,8 +24,8 @@ pub enum ListAnswer {
 // Where the labels of a list stand in its text, in list order.
 pub struct LabelPlaces {
     pub count: usize,
-    pub start: [usize; 80],
-    pub size: [usize; 80],
+    pub start: [usize; LIST_LIMIT],
+    pub size: [usize; LIST_LIMIT],
 }
 
 // The answer with the places beside it; those of a refusal hold no label.
@@ -58,7 +60,7 @@ fn due(kind: Kind, at: usize, count: usize) -> Outcome
 {
     match kind {
         Kind::Label => {
-            if count < 80 {
+            if count < LIST_LIMIT {
                 Outcome::Next(Stage::Inside {
                     first: at,
                     len: 1,
@@ -82,15 +84,15 @@ fn keep(
     first: usize,
     len: usize,
     count: usize,
-    start: &mut [usize; 80],
-    size: &mut [usize; 80],
+    start: &mut [usize; LIST_LIMIT],
+    size: &mut [usize; LIST_LIMIT],
 ) -> bool
-    requires { ⌜ count < 80 ⌝ }
+    requires { ⌜ count < listLimit ⌝ }
     ensures { λ r. ⌜ r ≡ repeatOf (now (text .entry)) (now (start .entry)) (now (size .entry)) count first len ⌝ }
     ensures { λ r. ⌜ now (start .exit) ≡ set (now (start .entry)) count first ⌝ }
     ensures { λ r. ⌜ now (size .exit) ≡ set (now (size .entry)) count len ⌝ }
 {
-    let found = parts::is_among(text, start, size, count, first, len);
+    let found = trees::is_among(text, start, size, count, trees::part(text, first, len));
     start[count] = first;
     size[count] = len;
     found
@@ -102,11 +104,11 @@ fn close(
     first: usize,
     len: usize,
     count: usize,
-    start: &mut [usize; 80],
-    size: &mut [usize; 80],
+    start: &mut [usize; LIST_LIMIT],
+    size: &mut [usize; LIST_LIMIT],
     following: Outcome,
 ) -> Outcome
-    requires { ⌜ count < 80 ⌝ }
+    requires { ⌜ count < listLimit ⌝ }
     ensures { λ r. ⌜
         after r (now (start .exit)) (now (size .exit))
         ≡ closeOf (now (text .entry)) (now (start .entry)) (now (size .entry)) count first len following
@@ -126,10 +128,10 @@ fn inside(
     first: usize,
     len: usize,
     count: usize,
-    start: &mut [usize; 80],
-    size: &mut [usize; 80],
+    start: &mut [usize; LIST_LIMIT],
+    size: &mut [usize; LIST_LIMIT],
 ) -> Outcome
-    requires { ⌜ count < 80 ⌝ }
+    requires { ⌜ count < listLimit ⌝ }
     ensures { λ r. ⌜
         after r (now (start .exit)) (now (size .exit))
         ≡ insideOf (now (text .entry)) kind at first len count (now (start .entry)) (now (size .entry))
@@ -138,7 +140,7 @@ fn inside(
     let bad = Outcome::Stop(Reason::BadByte, at);
     match kind {
         Kind::Label => {
-            if len < 16 {
+            if len < LABEL_LIMIT {
                 Outcome::Next(Stage::Inside {
                     first,
                     len: len + 1,
@@ -170,8 +172,8 @@ fn step(
     kind: Kind,
     at: usize,
     stage: Stage,
-    start: &mut [usize; 80],
-    size: &mut [usize; 80],
+    start: &mut [usize; LIST_LIMIT],
+    size: &mut [usize; LIST_LIMIT],
 ) -> Outcome
     requires { ⌜ Room stage ⌝ }
     ensures { λ r. ⌜
@@ -200,8 +202,8 @@ fn at_end(
     text: &[u8],
     body: Body,
     stage: Stage,
-    start: &mut [usize; 80],
-    size: &mut [usize; 80],
+    start: &mut [usize; LIST_LIMIT],
+    size: &mut [usize; LIST_LIMIT],
 ) -> ListAnswer
     requires { ⌜ Room stage ⌝ }
     ensures { λ r. ⌜
@@ -230,7 +232,7 @@ fn at_end(
 }
 
 // The answer with the places of its labels.
-fn told(answer: ListAnswer, start: [usize; 80], size: [usize; 80]) -> ListRead
+fn told(answer: ListAnswer, start: [usize; LIST_LIMIT], size: [usize; LIST_LIMIT]) -> ListRead
     ensures { λ r. ⌜ r ≡ answerOf answer start size ⌝ }
 {
     match answer {
@@ -239,7 +241,7 @@ fn told(answer: ListAnswer, start: [usize; 80], size: [usize; 80]) -> ListRead
             places: LabelPlaces { count, start, size },
         },
         ListAnswer::Refused(_) => {
-            let none = [0usize; 80];
+            let none = [0usize; LIST_LIMIT];
             ListRead {
                 answer,
                 places: LabelPlaces {
@@ -257,8 +259,8 @@ pub fn read_list(text: &[u8], body: Body) -> ListRead
     ensures { λ r. ⌜ r ≡ listRead body (readList (now (text .entry))) ⌝ }
 {
     let table = trees::classes();
-    let mut start = [0usize; 80];
-    let mut size = [0usize; 80];
+    let mut start = [0usize; LIST_LIMIT];
+    let mut size = [0usize; LIST_LIMIT];
     let mut stage = Stage::Start;
     let mut i: usize = 0;
     while i < text.len() {

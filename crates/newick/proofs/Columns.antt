@@ -1,6 +1,6 @@
 -- The arrays of a tree as columns of entries, filled from the front as nodes are completed in the order of the text.
 -- Assumes nothing.
-use Prim.Native.Nat.{ℕ, _+_, _-_, _≤_, _<_}
+use Prim.Native.Nat.{ℕ, _+_, _-_, _<_}
 use mathlib.Core.Path.{_≡_, refl, ap, ap₂, sym, _∙_}
 use mathlib.Core.List.{List, [], _∷_, _++_, append-assoc}
 use native.Mathlib.Omega.{arith}
@@ -10,7 +10,6 @@ use Rattle.trees.specs.Label.{Label}
 use Rattle.trees.specs.Tree.{Tree, leaf, node}
 use Rattle.trees.specs.Text.{written}
 use Rattle.trees.specs.Arrays.{nodesOf, lefts, rights, starts, sizes, padded, nodeLimit}
-use Rattle.trees.proofs.ArrayLaws.{padded-length}
 use Rattle.newick.specs.ReadTree.{Opened, first, second, Phase, nodeDue, inLabel, afterNode, ended}
 use Rattle.newick.proofs.OpenNodes.{textIn, nodesIn, second-place}
 use Rattle.newick.proofs.Entries.{stored, kept}
@@ -151,12 +150,6 @@ refilled h C =
     }
 
 module _ {s : List Opened} {l r p z : List ℕ} where
-  pub same-length : {x : Label} → Columns s (inLabel x) l r p z → nodesIn s ≤ nodeLimit → length p ≡ length z
-  unfolding filled
-  same-length C h =
-      (ap length (C .start) ∙ padded-length (columnIn startColumn s) (omega (arith, h, column-in-length startColumn _ _ start-columnar s)))
-      ∙ sym (ap length (C .size) ∙ padded-length (columnIn sizeColumn s) (omega (arith, h, column-in-length sizeColumn _ _ size-columnar s)))
-
   pub leaf-columns : {x : Label} (n : ℕ) → Columns s (inLabel x) l r p z → n ≡ nodesIn s → n < nodeLimit
       → Columns s (afterNode (leaf x)) (set l n n) (set r n n) (set p n (length (textIn s))) (set z n (length x))
   unfolding filled

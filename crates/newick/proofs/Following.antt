@@ -21,9 +21,8 @@ use Rattle.newick.specs.ReadTree.{Opened, first, second, Phase, nodeDue,
 use Rattle.newick.specs.Machine.{openLimit, Arrays, arrays, scan, leafScan, leafArrays}
 use Rattle.newick.proofs.OpenNodes.{inner, nodes-inner, textIn, nodesIn, leavesIn, opensIn, second-place, nodes-bound}
 use Rattle.newick.proofs.OpenNodes.{depth-bound, heading, opensHere, nodesHere, labelsBy}
-use Rattle.newick.proofs.Columns.{Column, columnIn, filled, Columns, refilled, comma-filled, same-length, leaf-columns}
+use Rattle.newick.proofs.Columns.{Column, columnIn, filled, Columns, refilled, comma-filled, leaf-columns}
 use Rattle.newick.proofs.Columns.{node-columns}
-use Rattle.newick.proofs.Entries.{pair-stored}
 
 -- the code's counts, where the phase adds h `(` and k nodes
 pub record Counts (s : List Opened) (h k : ℕ) (d o n : ℕ) : Type 0 where
@@ -66,7 +65,6 @@ pub record Follows (text : List ℕ) (ph : Phase) (s : List Opened) (seen : List
   pub labels : seen ≡ labelsBy s ph
   pub columns : Columns s ph (a .left) (a .right) (a .start) (a .size)
   pub stack : Stacked s (a .stack)
-  pub within : (v : ℕ) → getD (a .start) v 0 + getD (a .size) v 0 ≤ i
   pub mode : ModeIs ph s (st .mode)
 
 module _ {text : List ℕ} {s : List Opened} {seen : List Label} {st : Scan} {a : Arrays} {i : ℕ} {rest : List ℕ} where
@@ -82,7 +80,6 @@ module _ {text : List ℕ} {s : List Opened} {seen : List Label} {st : Scan} {a 
         labels = F .labels;
         columns = refilled (λ (f : Column). refl) (F .columns);
         stack = F .stack;
-        within = λ (v : ℕ). omega (arith, F .within v);
         mode = (ap (λ (p : ℕ). Inside p 1) (omega (arith, F .place)), rw h refl, omega arith, omega arith);
       }
 
@@ -100,7 +97,6 @@ module _ {text : List ℕ} {s : List Opened} {seen : List Label} {st : Scan} {a 
         labels = F .labels;
         columns = refilled (λ (f : Column). refl) (F .columns);
         stack = F .stack;
-        within = λ (v : ℕ). omega (arith, F .within v);
         mode = (ap (Inside (length (textIn s))) (sym more), bytes-snoc x b (F .mode .1) h, omega (arith, more), omega (arith, more, l));
       }
 
@@ -119,9 +115,6 @@ module _ {text : List ℕ} {s : List Opened} {seen : List Label} {st : Scan} {a 
         labels = ap (λ (l : List Label). l ++ (x ∷ [])) (F .labels);
         columns = leaf-columns (st .nodes) (F .columns) e room;
         stack = F .stack;
-        within =
-            pair-stored (a .start) (a .size) (st .nodes) (length (textIn s)) (length x) i (same-length (F .columns) (omega (arith, e, room)))
-            (omega (arith, F .place)) (F .within);
         mode = ap After (omega (arith, e));
       }
 
@@ -146,7 +139,6 @@ module _ {text : List ℕ} {s : List Opened} {seen : List Label} {st : Scan} {a 
             stack-kept s (a .stack) (st .depth) 0 (omega (arith, C .depth)) (F .stack .holds),
           );
         };
-        within = λ (v : ℕ). omega (arith, F .within v);
         mode = refl;
       }
 
@@ -173,7 +165,6 @@ module _ {text : List ℕ} {s : List Opened} {seen : List Label} {st : Scan} {a 
             stack-kept s (a .stack) (st .depth - 1) (nodesIn s + nodesOf t - 1 + 1) (omega (arith, d)) (F .stack .holds .1),
           );
         };
-        within = λ (v : ℕ). omega (arith, F .within v);
         mode = refl;
       }
 
@@ -194,7 +185,6 @@ module _ {text : List ℕ} {s : List Opened} {seen : List Label} {st : Scan} {a 
         labels = F .labels ∙ append-assoc (leavesIn s) (leaves c) (leaves t);
         columns = node-columns (st .nodes) (getD (a .stack) (st .depth - 1) 0) (F .columns) (C .nodes) room (rw d (F .stack .holds .0));
         stack = record { wide = F .stack .wide; holds = F .stack .holds .1 };
-        within = λ (v : ℕ). omega (arith, F .within v);
         mode = ap After (omega (arith, C .nodes, nodes-pos t));
       }
 
@@ -211,6 +201,5 @@ semicolon-follows {t = t} eb F =
       labels = F .labels;
       columns = refilled (λ (f : Column). refl) (F .columns);
       stack = F .stack;
-      within = λ (v : ℕ). omega (arith, F .within v);
       mode = (refl, refl);
     }

@@ -7,8 +7,7 @@ use mathlib.Core.Logic.{_⊎_, inl, inr}
 use mathlib.Core.List.{List, [], _∷_, _++_, append-assoc}
 use native.Mathlib.Omega.{arith}
 use lib.Dec.{eqb, ltb}
-use lib.ListN.{length, getD, set, length-append}
-use lib.Seq.{drop-at, take-at}
+use lib.ListN.{length, getD, set}
 use borrow.Author.Tests.{eq-eqb, ne-eqb, ltb-true, ltb-false}
 use Rattle.trees.specs.declared.Kind.{Kind}
 use Rattle.trees.specs.declared.Kind.the-variants.{Label as LabelByte, Open, Close, Comma, Semicolon, Other}
@@ -123,13 +122,7 @@ module _ {text : List ℕ} {x : Label} {s : List Opened} {seen : List Label} {st
       → repeatOf text (a .start) (a .size) (st .nodes) (length (textIn s)) (length x) ≡ isIn x seen
   unfolding filled
   seen-before F =
-      repeat-seen text x (length (textIn s)) (length x)
-      (record {
-        inside = omega (arith, ap length (F .parted) ∙ length-append (textIn s) (x ++ rest), length-append x rest);
-        bytes = rw (F .parted, drop-at (textIn s) (x ++ rest) (length (textIn s)) refl) (sym (take-at x rest (length x) refl));
-        some = F .mode .2;
-      })
-      s (x ++ rest) (a .start) (a .size) (st .nodes) (F .parted) (omega (arith, F .counts .nodes)) (F .columns .start) (F .columns .size)
+      repeat-seen text x (F .mode .2) s rest (a .start) (a .size) (st .nodes) (F .parted) (omega (arith, F .counts .nodes)) (F .columns .start) (F .columns .size)
       ∙ ap (isIn x) (sym (F .labels))
 
 module _ {text : List ℕ} {x : Label} {s : List Opened} {seen : List Label} {st : Scan} {a : Arrays} {i b : ℕ} {rest : List ℕ}

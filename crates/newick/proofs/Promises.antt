@@ -5,18 +5,21 @@ use mathlib.Core.Path.{_≡_}
 use mathlib.Core.List.{List}
 use lib.ListN.{length}
 use Rattle.trees.specs.declared.Reason.{Reason}
+use Rattle.trees.specs.declared.Body.{Body}
 use Rattle.trees.specs.Bytes.{openByte}
 use Rattle.trees.specs.Tree.{Tree, leaves, Same, Valid, normal}
 use Rattle.trees.specs.Text.{textOf, normalText}
 use Rattle.trees.specs.Reading.{good, refused}
+use Rattle.trees.specs.Refusals.{numberOf, letterOf, value, row}
 use Rattle.trees.specs.Faults.{Fault, occurrences}
 use Rattle.newick.specs.ReadTree.{readTree}
 use Rattle.newick.specs.Grammar.{TreeText, OpenCrowd, TreeFault}
+use Rattle.newick.specs.TreeSays.{saysOf, TableRows}
 use Rattle.trees.proofs.NormalLaws.{normal-same}
 use Rattle.newick.proofs.Accepts.{accepts, reads, text-injective, accepted-opens}
 use Rattle.newick.proofs.ReturnTrip.{normal-read}
 use Rattle.newick.proofs.TreeFaults.{refusal, fault-refused, accepted-clean}
-use Rattle.newick.proofs.TreeFaultsTable.{TableRows, table-rows}
+use Rattle.newick.proofs.TreeFaultsTable.{says-leaves, says-fault, table-rows}
 
 -- "A tree is a node followed by `;`, and nothing after it, not even a line end." "It has 1 to 16 bytes." "Labels of one tree are all
 -- different. A tree has 1 to 80 leaves": what is accepted is the text of a valid tree, and that tree is read.
@@ -41,6 +44,15 @@ one-tree = text-injective
 -- "A tree has 1 to 80 leaves, so at most 79 `(`": one `(` less than leaves.
 pub opens-counted : (text : List ℕ) (t : Tree) → readTree text ≡ good t → length (leaves t) ≡ suc (occurrences openByte text)
 opens-counted = accepted-opens
+
+-- "A refusal carries its number, and within it the body letter and a place": what the reader's answer says, case by case. A text is
+-- that of a valid tree or has a first fault.
+pub answer-of-leaves : (body : Body) (t : Tree) → Valid t → saysOf body (textOf t) ≡ value (length (leaves t))
+answer-of-leaves = says-leaves
+
+pub answer-of-fault : (body : Body) (text : List ℕ) (r : Reason) (i : ℕ) → TreeFault text r i
+    → saysOf body text ≡ row (numberOf r) (letterOf body) i
+answer-of-fault = says-fault
 
 -- The rows 1 to 5 of the table, with their examples.
 pub examples : TableRows

@@ -1,6 +1,6 @@
 -- The reading machine tells what the reading of a tree text tells: it starts with it, may take each step, follows it byte by
 -- byte, and ends as it does. Assumes nothing.
-use Prim.Native.Nat.{ℕ, zero, suc, _+_, _≤_, _<_}
+use Prim.Native.Nat.{ℕ, _+_, _≤_, _<_}
 use mathlib.Core.Path.{_≡_, refl, ap, sym, _∙_, subst}
 use mathlib.Core.Bool.{Bool, true, false, cond}
 use mathlib.Core.List.{List, [], _∷_, _++_}
@@ -54,16 +54,10 @@ starts-so text =
         labels = refl;
         columns = record { left = refl; right = refl; start = refl; size = refl };
         stack = record { wide = length-replicate {A = ℕ} openLimit 0; holds = tt };
-        within = λ (v : ℕ). omega (arith, zero-at nodeLimit v);
         mode = refl;
       };
       told = refl;
     }
-  where
-    zero-at : (n v : ℕ) → getD (replicate {A = ℕ} n 0) v 0 ≡ 0
-    zero-at zero v = refl
-    zero-at (suc n) zero = refl
-    zero-at (suc n) (suc v) = zero-at n v
 
 -- the place lies in the text
 place-in : {text : List ℕ} {ph : Phase} {s : List Opened} {seen : List Label} {st : Scan} {a : Arrays} {i : ℕ} {rest : List ℕ}
@@ -72,26 +66,19 @@ place-in {ph = ph} {s = s} {rest = rest} F =
     omega (arith, F .place, ap length (F .parted) ∙ length-append (textIn s) (heading ph ++ rest), length-append (heading ph) rest)
 
 ready-by : {text : List ℕ} (ph : Phase) {s : List Opened} {seen : List Label} {st : Scan} {a : Arrays} {i : ℕ} {rest : List ℕ}
-    → Follows text ph s seen st a i rest → Room st → Ready (st .mode) text st (a .start) (a .size)
-ready-by {text = text} nodeDue {st = st} {a = a} F r = ready-as text st (a .start) (a .size) (sym (F .mode)) r
-ready-by {text = text} (inLabel x) {s = s} {st = st} {a = a} F r =
+    → Follows text ph s seen st a i rest → Room st → Ready (st .mode) st
+ready-by nodeDue {st = st} F r = ready-as st (sym (F .mode)) r
+ready-by (inLabel x) {s = s} {st = st} F r =
     let C = F .counts in
-    ready-as text st (a .start) (a .size) (sym (F .mode .0)) (
-      r,
-      omega (arith, C .nodes, C .depth, C .opens, nodes-bound s),
-      record {
-        leaves = λ (v : ℕ). omega (arith, F .within v, place-in F);
-        label = omega (arith, F .place, place-in F);
-      },
-    )
-ready-by {text = text} (afterNode t) {s = s} {st = st} {a = a} F r =
+    ready-as st (sym (F .mode .0)) (r, omega (arith, C .nodes, C .depth, C .opens, nodes-bound s))
+ready-by (afterNode t) {s = s} {st = st} F r =
     let C = F .counts in
-    ready-as text st (a .start) (a .size) (sym (F .mode)) (
+    ready-as st (sym (F .mode)) (
       r,
       omega (arith, C .nodes, C .depth, C .opens, nodes-bound s, nodes-inner t),
       omega (arith, C .few, C .opens, nodes-bound s, nodes-inner t),
     )
-ready-by {text = text} (ended t) {st = st} {a = a} F r = ready-as text st (a .start) (a .size) (sym (F .mode .0)) r
+ready-by (ended t) {st = st} F r = ready-as st (sym (F .mode .0)) r
 
 -- a refusal
 refused-so : (text : List ℕ) (body : Body) (r : Reason) (i : ℕ) → refused r i ≡ readTree text
@@ -101,7 +88,7 @@ refused-so text body r i e = ap (treeRead body) e
 
 module _ (text : List ℕ) (st : Scan) (a : Arrays) (i : ℕ) (S : Simulates text st a i) where
   -- the step may be taken
-  pub ready-so : Ready (st .mode) text st (a .start) (a .size)
+  pub ready-so : Ready (st .mode) st
   ready-so =
       let F = S .follows in
       let C = F .counts in

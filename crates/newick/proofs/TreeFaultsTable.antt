@@ -1,26 +1,36 @@
--- The tree texts that the scope paper's table gives as examples of the numbers 1 to 5, each with its refusal. Assumes nothing.
-use mathlib.Core.Path.{_≡_, refl}
-use mathlib.Core.List.{[], _∷_}
-use lib.ListN.{replicate}
-use Rattle.trees.specs.declared.Reason.the-variants.{BadByte, EndsTooSoon, LabelTooLong, TooMany, Repeated}
-use Rattle.trees.specs.Bytes.{kindOf}
+-- What the reader says of a tree text, case by case, and the examples of the scope paper's table. Assumes nothing.
+use Prim.Native.Nat.{ℕ}
+use mathlib.Core.Path.{_≡_, refl, ap}
+use mathlib.Core.List.{List}
+use lib.ListN.{length}
+use Rattle.trees.specs.declared.Reason.{Reason}
+use Rattle.trees.specs.declared.Body.{Body}
+use Rattle.trees.specs.Bytes.{kindOf, bytesOf}
 use Rattle.trees.specs.Label.{isIn, sameLabel}
-use Rattle.trees.specs.Reading.{refused, repeats}
-use Rattle.newick.specs.ReadTree.{readTree}
+use Rattle.trees.specs.Tree.{Tree, leaves, Valid}
+use Rattle.trees.specs.Text.{textOf}
+use Rattle.trees.specs.Reading.{Reading, good, refused, repeats}
+use Rattle.trees.specs.Refusals.{numberOf, letterOf, value, row, rowOf}
+use Rattle.newick.specs.ReadTree.{readTree, treeRead}
+use Rattle.newick.specs.Grammar.{TreeFault}
+use Rattle.newick.specs.TreeSays.{treeSays, saysOf, TableRows}
+use Rattle.newick.proofs.Accepts.{reads}
+use Rattle.newick.proofs.TreeFaults.{fault-refused}
 
-pub record TableRows : Type 0 where
-  -- `(a b);` place 2
-  pub blank : readTree (40 ∷ 97 ∷ 32 ∷ 98 ∷ 41 ∷ 59 ∷ []) ≡ refused BadByte 2
-  -- `(a,b)` place 5; a tree of no bytes, place 0
-  pub no-semicolon : readTree (40 ∷ 97 ∷ 44 ∷ 98 ∷ 41 ∷ []) ≡ refused EndsTooSoon 5
-  pub no-bytes : readTree [] ≡ refused EndsTooSoon 0
-  -- seventeen `a`, place 16
-  pub seventeen : readTree (replicate 17 97) ≡ refused LabelTooLong 16
-  -- eighty `(`, place 79
-  pub eighty : readTree (replicate 80 40) ≡ refused TooMany 79
-  -- `(a,a);` place 3
-  pub twice : readTree (40 ∷ 97 ∷ 44 ∷ 97 ∷ 41 ∷ 59 ∷ []) ≡ refused Repeated 3
+-- what is said of a result
+says-read : (body : Body) (text : List ℕ) (r : Reading Tree) → readTree text ≡ r → saysOf body text ≡ treeSays (treeRead body r .answer)
+unfolding saysOf
+says-read body text r e = ap (λ (w : Reading Tree). treeSays (treeRead body w .answer)) e
+
+pub says-leaves : (body : Body) (t : Tree) → Valid t → saysOf body (textOf t) ≡ value (length (leaves t))
+unfolding treeSays treeRead
+says-leaves body t v = says-read body (textOf t) (good t) (reads t v)
+
+pub says-fault : (body : Body) (text : List ℕ) (r : Reason) (i : ℕ) → TreeFault text r i
+    → saysOf body text ≡ row (numberOf r) (letterOf body) i
+unfolding treeSays treeRead rowOf
+says-fault body text r i f = says-read body text (refused r i) (fault-refused text r i f)
 
 pub table-rows : TableRows
-unfolding readTree kindOf repeats isIn sameLabel
+unfolding saysOf readTree treeSays kindOf repeats isIn sameLabel bytesOf numberOf letterOf
 table-rows = record { blank = refl; no-semicolon = refl; no-bytes = refl; seventeen = refl; eighty = refl; twice = refl }

@@ -19,7 +19,7 @@ use Rattle.trees.specs.Label.{Label, labelLimit, goodLabel, goodLabels, looseLa
 use Rattle.trees.specs.Tree.{Tree, leaf, node, leaves, leafLimit, Valid}
 use Rattle.trees.specs.Text.{written, textOf}
 use Rattle.trees.specs.Reading.{Reading, good, refused, repeats}
-use Rattle.trees.specs.Faults.{Continues, Fault, occurrences}
+use Rattle.trees.specs.Faults.{Continues, Edge, Fault, occurrences}
 use Rattle.newick.specs.ReadTree.{Opened, first, second, Phase, nodeDue, inLabel, afterNode, ended, State, Step, next, stop}
 use Rattle.newick.specs.ReadTree.{stepAfter, stepDue, stepLabel, step, endOf, readFrom, readTree, startState}
 use Rattle.newick.specs.Grammar.{TreeText, OpenCrowd, TreeFault}
@@ -27,8 +27,8 @@ use Rattle.trees.proofs.Bools.{clash}
 use Rattle.trees.proofs.ListLaws.{bytes-snoc, bytes-one, good-parts, good-intro, good-more, good-loose, loose-split, loose-head}
 use Rattle.trees.proofs.ReadingLaws.{KindView, is-label, is-open, is-close, is-comma, is-semicolon, kind-view, open-plain}
 use Rattle.trees.proofs.ReadingLaws.{occurrences-append, occurs, occurs-not, occurs-none, occurs-label}
-use Rattle.trees.proofs.FaultLaws.{lt-or-le, Known, Edge, Inside, known-start, Read, read-start, byte-here, before-here}
-use Rattle.trees.proofs.FaultLaws.{allowed-here, bad-here, crowd-here, plain-not-long-here, plain-pass, plain-edge, plain-known}
+use Rattle.trees.proofs.FaultLaws.{lt-or-le, Known, Inside, known-start, Read, read-start, byte-here, before-here}
+use Rattle.trees.proofs.FaultLaws.{allowed-here, bad-here, crowd-here, plain-not-long-here, plain-pass, edge-after, plain-known}
 use Rattle.trees.proofs.FaultLaws.{label-read, label-known, long-here, letter-pass, letter-inside, repeat-here, begin-pass}
 use Rattle.trees.proofs.FaultLaws.{begin-inside, whole-text, ends-here, no-fault-left}
 use Rattle.trees.proofs.RawRuns.{on, halt, on-same, raw-nil, raw-snoc}
@@ -165,7 +165,7 @@ module _ (text p : List ℕ) (b : ℕ) (rest : List ℕ) (i : ℕ) where
       labels = h .labels;
       count = count-same p b opens other (h .count);
       few = h .few;
-      marks = (plain-known (h .base) n (h .marks), plain-edge (h .base) n);
+      marks = (plain-known (h .base) n (h .marks), edge-after (h .base) (inr c));
     },
     e,
   )
@@ -332,7 +332,7 @@ module _ (text p : List ℕ) (b : ℕ) (rest : List ℕ) (i : ℕ) where
           labels = h .labels;
           count = omega (arith, h .count, occurrences-append openByte p (b ∷ []), occurs openByte b [] (sym o), occurs-none openByte);
           few = less (eqb-false opens (leafLimit - 1) d) (h .few);
-          marks = (plain-known (h .base) n (h .marks .0), plain-edge (h .base) n);
+          marks = (plain-known (h .base) n (h .marks .0), edge-after (h .base) (inl o));
         },
         e,
       )

@@ -1,3 +1,4 @@
 pub mod ReadTree
 pub mod Grammar
 pub mod Machine
+pub mod TreeSays

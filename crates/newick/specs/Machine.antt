@@ -1,7 +1,7 @@
 -- The reading machine over lists of array entries, a definition for each function of the source that takes a step.
 -- Intermediate: nothing public rests on this text; proofs/Simulation.antt ties it to the reading of a tree text.
-use Prim.Native.Nat.{ℕ, zero, suc, _+_, _-_, _*_, _≤_, _<_}
-use mathlib.Core.Bool.{Bool, true, false, cond, _&&_, _||_}
+use Prim.Native.Nat.{ℕ, _+_, _-_, _*_, _≤_, _<_}
+use mathlib.Core.Bool.{Bool, cond}
 use mathlib.Core.List.{List}
 use lib.Dec.{eqb, ltb}
 use lib.ListN.{length, getD, set}
@@ -13,6 +13,7 @@ use Rattle.trees.specs.declared.Body.{Body}
 use Rattle.trees.specs.Label.{labelLimit}
 use Rattle.trees.specs.Tree.{leafLimit}
 use Rattle.trees.specs.Arrays.{noArrays, nodeLimit}
+use Rattle.trees.specs.Stored.{partOf, isAmong}
 use Rattle.newick.specs.declared.Mode.{Mode}
 use Rattle.newick.specs.declared.Mode.the-variants.{Due, Inside, After, Done}
 use Rattle.newick.specs.declared.Scan.{Scan}
@@ -49,21 +50,9 @@ outcome (Stop r i) a = halt r i
 abbrev pub scan : Mode → ℕ → ℕ → ℕ → Scan
 scan m depth opens nodes = record { mode = m; depth = depth; opens = opens; nodes = nodes }
 
--- the n bytes from a are those from b, the last compared first
-unfoldable pub sameBytes : List ℕ → ℕ → ℕ → ℕ → Bool
-sameBytes text a b zero = true
-sameBytes text a b (suc n) = eqb (getD text (a + n) 0) (getD text (b + n) 0) && sameBytes text a b n
-
--- a label of `size` bytes from `start` is the one of `len` bytes from `first`
-abbrev pub sameLeaf : List ℕ → (start size first len : ℕ) → Bool
-sameLeaf text start size first len = eqb size len && sameBytes text first start len
-
 -- one of the first n nodes is a leaf with the label of `len` bytes from `first`
 unfoldable pub repeatOf : List ℕ → (start size : List ℕ) → ℕ → (first len : ℕ) → Bool
-unfolding sameBytes
-repeatOf text start size zero first len = false
-repeatOf text start size (suc n) first len =
-    sameLeaf text (getD start n 0) (getD size n 0) first len || repeatOf text start size n first len
+repeatOf text start size n first len = isAmong text start size n (partOf first len text)
 
 -- a byte where a node must begin
 unfoldable pub dueOf : Scan → Arrays → ℕ → Kind → Outcome
@@ -169,15 +158,9 @@ pub record Room (st : Scan) : Type 0 where
   pub few : st .opens ≤ openLimit
   pub deep : st .depth ≤ st .opens
 
--- every leaf's label, and the label from `first`, lie in the text
-pub record Within (text : List ℕ) (start size : List ℕ) (first len : ℕ) : Type 0 where
-  pub leaves : (v : ℕ) → getD start v 0 + getD size v 0 ≤ length text
-  pub label : first + len ≤ length text
-
 -- what a step in this mode may rely on
-abbrev pub Ready : Mode → List ℕ → Scan → (start size : List ℕ) → Type 0
-Ready Due text st start size = Room st
-Ready (Inside first len) text st start size =
-    Room st × (st .nodes + st .depth ≤ 2 * st .opens) × Within text start size first len
-Ready (After u) text st start size = Room st × (st .nodes + st .depth ≤ 2 * st .opens + 1) × (u < nodeLimit)
-Ready Done text st start size = Room st
+abbrev pub Ready : Mode → Scan → Type 0
+Ready Due st = Room st
+Ready (Inside first len) st = Room st × (st .nodes + st .depth ≤ 2 * st .opens)
+Ready (After u) st = Room st × (st .nodes + st .depth ≤ 2 * st .opens + 1) × (u < nodeLimit)
+Ready Done st = Room st

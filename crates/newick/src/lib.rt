@@ -3,6 +3,9 @@
 // No public function has a `requires`: a text of any length and any bytes is answered.
 use trees::Body;
 use trees::Kind;
+use trees::LABEL_LIMIT;
+use trees::LEAF_LIMIT;
+use trees::NODE_LIMIT;
 use trees::Reason;
 use trees::Refusal;
 use trees::TreeArrays;
@@ -11,17 +14,15 @@ ghost use mathlib.Core.Path.{_≡_};
 ghost use mathlib.Core.List.{List};
 ghost use lib.ListN.{length, getD};
 ghost use Rattle.trees.specs.Bytes.{kindOf, classTable};
+ghost use Rattle.trees.specs.Arrays.{nodeLimit};
 ghost use Rattle.newick.specs.ReadTree.{readTree, treeRead};
 ghost use Rattle.newick.specs.declared.Mode.the-variants.{Due};
-ghost use Rattle.newick.specs.Machine.{sameBytes, sameLeaf, repeatOf, arrays, outcome, Room, Within, Ready};
+ghost use Rattle.newick.specs.Machine.{repeatOf, arrays, outcome, Room, Ready};
 ghost use Rattle.newick.specs.Machine.{scan, dueOf, closeOf, commaOf, afterOf, labelEnd, insideOf, moveOf, answerOf};
 ghost use Rattle.newick.specs.Machine.{refusal, turnedDown, withArrays};
 
-// The most bytes of a label.
-const LABEL_LIMIT: usize = 16;
-
 // The most `(` of a tree, one less than its leaves.
-const OPEN_LIMIT: usize = 79;
+const OPEN_LIMIT: usize = LEAF_LIMIT - 1;
 
 // How many leaves were read, or why the text was turned down.
 pub enum TreeAnswer {
@@ -58,67 +59,22 @@ enum Move {
     Stop(Reason, usize),
 }
 
-// Whether the `n` bytes from `a` are those from `b`. Labels often differ at their ends, so the last are compared first.
-fn same_bytes(text: &[u8], a: usize, b: usize, n: usize) -> bool
-    requires { ⌜ (a + n ≤ length (now text)) × (b + n ≤ length (now text)) ⌝ }
-    ensures { λ r. ⌜ r ≡ sameBytes (now (text .entry)) a b n ⌝ }
-{
-    let mut i = n;
-    while 0 < i {
-        i -= 1;
-        if text[a + i] != text[b + i] {
-            return false;
-        }
-    }
-    true
-}
-
-// Whether node `v` is a leaf with the label of `len` bytes from `first`; an inner node has size 0.
-fn same_leaf(
-    text: &[u8],
-    start: &[usize; 159],
-    size: &[usize; 159],
-    v: usize,
-    first: usize,
-    len: usize,
-) -> bool
-    requires { ⌜ v < 159 ⌝ }
-    requires { ⌜ Within (now text) (now start) (now size) first len ⌝ }
-    ensures { λ r. ⌜ r
-        ≡ sameLeaf (now (text .entry)) (getD (now (start .entry)) v 0) (getD (now (size .entry)) v 0) first len ⌝ }
-{
-    if size[v] == len {
-        same_bytes(text, first, start[v], len)
-    } else {
-        false
-    }
-}
-
-// Whether one of the first `nodes` nodes is a leaf with the label of `len` bytes from `first`.
+// Whether one of the first `nodes` nodes is a leaf with the label of `len` bytes from `first`; an inner node has size 0.
 fn repeated(
     text: &[u8],
-    start: &[usize; 159],
-    size: &[usize; 159],
+    start: &[usize; NODE_LIMIT],
+    size: &[usize; NODE_LIMIT],
     nodes: usize,
     first: usize,
     len: usize,
 ) -> bool
-    requires { ⌜ nodes ≤ 159 ⌝ }
-    requires { ⌜ Within (now text) (now start) (now size) first len ⌝ }
     ensures { λ r. ⌜ r ≡ repeatOf (now (text .entry)) (now (start .entry)) (now (size .entry)) nodes first len ⌝ }
 {
-    let mut v = nodes;
-    while 0 < v {
-        v -= 1;
-        if same_leaf(text, start, size, v, first, len) {
-            return true;
-        }
-    }
-    false
+    trees::is_among(text, start, size, nodes, trees::part(text, first, len))
 }
 
 // A byte where a node must begin.
-fn on_due(st: Scan, kind: Kind, at: usize, stack: &mut [usize; 79]) -> Move
+fn on_due(st: Scan, kind: Kind, at: usize, stack: &mut [usize; OPEN_LIMIT]) -> Move
     requires { ⌜ Room st ⌝ }
     ensures { λ m. ⌜ ((l r s z : List ℕ) → outcome m (arrays (now (stack .exit)) l r s z)
         ≡ dueOf st (arrays (now (stack .entry)) l r s z) at kind) ⌝ }
@@ -153,9 +109,9 @@ fn on_close(
     st: Scan,
     u: usize,
     at: usize,
-    stack: &[usize; 79],
-    left: &mut [usize; 159],
-    right: &mut [usize; 159],
+    stack: &[usize; OPEN_LIMIT],
+    left: &mut [usize; NODE_LIMIT],
+    right: &mut [usize; NODE_LIMIT],
 ) -> Move
     requires { ⌜ Room st ⌝ }
     requires { ⌜ st .nodes + st .depth ≤ 2 * st .opens + 1 ⌝ }
@@ -182,9 +138,9 @@ fn on_close(
 }
 
 // `,` after node `u`: the innermost `(` lacks its first child, and `u` is that child.
-fn on_comma(st: Scan, u: usize, at: usize, stack: &mut [usize; 79]) -> Move
+fn on_comma(st: Scan, u: usize, at: usize, stack: &mut [usize; OPEN_LIMIT]) -> Move
     requires { ⌜ Room st ⌝ }
-    requires { ⌜ u < 159 ⌝ }
+    requires { ⌜ u < nodeLimit ⌝ }
     ensures { λ m. ⌜ ((l r s z : List ℕ) → outcome m (arrays (now (stack .exit)) l r s z)
         ≡ commaOf st (arrays (now (stack .entry)) l r s z) u at) ⌝ }
 {
@@ -211,12 +167,12 @@ fn on_after(
     u: usize,
     kind: Kind,
     at: usize,
-    stack: &mut [usize; 79],
-    left: &mut [usize; 159],
-    right: &mut [usize; 159],
+    stack: &mut [usize; OPEN_LIMIT],
+    left: &mut [usize; NODE_LIMIT],
+    right: &mut [usize; NODE_LIMIT],
 ) -> Move
     requires { ⌜ Room st ⌝ }
-    requires { ⌜ (st .nodes + st .depth ≤ 2 * st .opens + 1) × (u < 159) ⌝ }
+    requires { ⌜ (st .nodes + st .depth ≤ 2 * st .opens + 1) × (u < nodeLimit) ⌝ }
     ensures { λ m. ⌜ ((s z : List ℕ) → outcome m (arrays (now (stack .exit)) (now (left .exit)) (now (right .exit)) s z)
         ≡ afterOf st (arrays (now (stack .entry)) (now (left .entry)) (now (right .entry)) s z) u at kind) ⌝ }
 {
@@ -247,15 +203,14 @@ fn on_label_end(
     len: usize,
     kind: Kind,
     at: usize,
-    stack: &mut [usize; 79],
-    left: &mut [usize; 159],
-    right: &mut [usize; 159],
-    start: &mut [usize; 159],
-    size: &mut [usize; 159],
+    stack: &mut [usize; OPEN_LIMIT],
+    left: &mut [usize; NODE_LIMIT],
+    right: &mut [usize; NODE_LIMIT],
+    start: &mut [usize; NODE_LIMIT],
+    size: &mut [usize; NODE_LIMIT],
 ) -> Move
     requires { ⌜ Room st ⌝ }
     requires { ⌜ st .nodes + st .depth ≤ 2 * st .opens ⌝ }
-    requires { ⌜ Within (now text) (now start) (now size) first len ⌝ }
     ensures { λ m. ⌜ outcome m (arrays (now (stack .exit)) (now (left .exit)) (now (right .exit)) (now (start .exit)) (now (size .exit)))
         ≡ labelEnd (now (text .entry)) st
         (arrays (now (stack .entry)) (now (left .entry)) (now (right .entry)) (now (start .entry)) (now (size .entry)))
@@ -286,15 +241,14 @@ fn on_inside(
     len: usize,
     kind: Kind,
     at: usize,
-    stack: &mut [usize; 79],
-    left: &mut [usize; 159],
-    right: &mut [usize; 159],
-    start: &mut [usize; 159],
-    size: &mut [usize; 159],
+    stack: &mut [usize; OPEN_LIMIT],
+    left: &mut [usize; NODE_LIMIT],
+    right: &mut [usize; NODE_LIMIT],
+    start: &mut [usize; NODE_LIMIT],
+    size: &mut [usize; NODE_LIMIT],
 ) -> Move
     requires { ⌜ Room st ⌝ }
     requires { ⌜ st .nodes + st .depth ≤ 2 * st .opens ⌝ }
-    requires { ⌜ Within (now text) (now start) (now size) first len ⌝ }
     ensures { λ m. ⌜ outcome m (arrays (now (stack .exit)) (now (left .exit)) (now (right .exit)) (now (start .exit)) (now (size .exit)))
         ≡ insideOf (now (text .entry)) st
         (arrays (now (stack .entry)) (now (left .entry)) (now (right .entry)) (now (start .entry)) (now (size .entry)))
@@ -335,14 +289,14 @@ fn step(
     table: &[u8; 256],
     st: Scan,
     at: usize,
-    stack: &mut [usize; 79],
-    left: &mut [usize; 159],
-    right: &mut [usize; 159],
-    start: &mut [usize; 159],
-    size: &mut [usize; 159],
+    stack: &mut [usize; OPEN_LIMIT],
+    left: &mut [usize; NODE_LIMIT],
+    right: &mut [usize; NODE_LIMIT],
+    start: &mut [usize; NODE_LIMIT],
+    size: &mut [usize; NODE_LIMIT],
 ) -> Move
     requires { ⌜ (at < length (now text)) × (now table ≡ classTable) ⌝ }
-    requires { ⌜ Ready (st .mode) (now text) st (now start) (now size) ⌝ }
+    requires { ⌜ Ready (st .mode) st ⌝ }
     ensures { λ m. ⌜ outcome m (arrays (now (stack .exit)) (now (left .exit)) (now (right .exit)) (now (start .exit)) (now (size .exit)))
         ≡ moveOf (st .mode) (now (text .entry)) st
         (arrays (now (stack .entry)) (now (left .entry)) (now (right .entry)) (now (start .entry)) (now (size .entry)))
@@ -386,10 +340,10 @@ fn at_end(
     text: &[u8],
     body: Body,
     st: Scan,
-    start: &[usize; 159],
-    size: &[usize; 159],
+    start: &[usize; NODE_LIMIT],
+    size: &[usize; NODE_LIMIT],
 ) -> TreeAnswer
-    requires { ⌜ Ready (st .mode) (now text) st (now start) (now size) ⌝ }
+    requires { ⌜ Ready (st .mode) st ⌝ }
     ensures { λ a. ⌜ a ≡ answerOf (st .mode) (now (text .entry)) body st (now (start .entry)) (now (size .entry)) ⌝ }
 {
     let mode = st.mode;
@@ -414,10 +368,10 @@ fn turned_down(answer: TreeAnswer) -> TreeRead
         answer: answer,
         tree: TreeArrays {
             nodes: 0,
-            left: [0usize; 159],
-            right: [0usize; 159],
-            start: [0usize; 159],
-            size: [0usize; 159],
+            left: [0usize; NODE_LIMIT],
+            right: [0usize; NODE_LIMIT],
+            start: [0usize; NODE_LIMIT],
+            size: [0usize; NODE_LIMIT],
         },
     }
 }
@@ -426,10 +380,10 @@ fn turned_down(answer: TreeAnswer) -> TreeRead
 fn with_arrays(
     answer: TreeAnswer,
     nodes: usize,
-    left: [usize; 159],
-    right: [usize; 159],
-    start: [usize; 159],
-    size: [usize; 159],
+    left: [usize; NODE_LIMIT],
+    right: [usize; NODE_LIMIT],
+    start: [usize; NODE_LIMIT],
+    size: [usize; NODE_LIMIT],
 ) -> TreeRead
     ensures { λ r. ⌜ r ≡ withArrays answer nodes left right start size ⌝ }
 {
@@ -463,11 +417,11 @@ pub fn read_tree(text: &[u8], body: Body) -> TreeRead
     ensures { λ r. ⌜ r ≡ treeRead body (readTree (now (text .entry))) ⌝ }
 {
     let table = trees::classes();
-    let mut stack = [0usize; 79];
-    let mut left = [0usize; 159];
-    let mut right = [0usize; 159];
-    let mut start = [0usize; 159];
-    let mut size = [0usize; 159];
+    let mut stack = [0usize; OPEN_LIMIT];
+    let mut left = [0usize; NODE_LIMIT];
+    let mut right = [0usize; NODE_LIMIT];
+    let mut start = [0usize; NODE_LIMIT];
+    let mut size = [0usize; NODE_LIMIT];
     let mut st = beginning();
     let mut i: usize = 0;
     while i < text.len() {

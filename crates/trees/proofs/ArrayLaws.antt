@@ -15,9 +15,10 @@ use Rattle.trees.specs.declared.TreeArrays.{TreeArrays}
 use Rattle.trees.specs.Bytes.{openByte, commaByte, closeByte, semicolonByte}
 use Rattle.trees.specs.Label.{Label, labelLimit, allLabelBytes, goodLabel, goodLabels}
 use Rattle.trees.specs.Tree.{Tree, leaf, node, leaves, Valid, leafLimit}
-use Rattle.trees.specs.Text.{written, textOf}
+use Rattle.trees.specs.Text.{written, textOf, treeRoom}
 use Rattle.trees.specs.Arrays.{nodeLimit, nodesOf, lefts, rights, starts, sizes, padded, arraysOf}
-use Rattle.trees.specs.Arrays.{labelAt, shownLabel, isLeaf, goodNode, goodNodes, treeAt, noLeaf, oneTree, noTree, treeOf}
+use Rattle.trees.specs.Arrays.{labelAt, isLeaf, goodNode, goodNodes, treeAt, noLeaf, oneTree, noTree, treeOf}
+use Rattle.trees.specs.Stored.{partOf, leafLabel}
 use Rattle.trees.proofs.Bools.{bool-cases, and-left, and-right, and-intro}
 use Rattle.trees.proofs.ListLaws.{good-split}
 use Rattle.trees.proofs.PlaceLaws.{At, at-whole, at-left, at-right, at-tail, at-head, at-take, second-part, last-element}
@@ -94,7 +95,7 @@ leaf-short x h =
     (and-left (leb 1 (length x) && leb (length x) labelLimit) (allLabelBytes x) (and-left (goodLabel x) true h)))
 
 -- a label has at most 16 bytes, and each inner node writes three
-pub written-short : (t : Tree) → goodLabels (leaves t) ≡ true → length (written t) + 3 ≤ 19 * length (leaves t)
+pub written-short : (t : Tree) → goodLabels (leaves t) ≡ true → length (written t) + 3 ≤ (labelLimit + 3) * length (leaves t)
 unfolding written leaves
 written-short (leaf x) h = omega (arith, leaf-short x h)
 written-short (node a b) h =
@@ -106,7 +107,7 @@ written-short (node a b) h =
       written-short b (good-second a b h),
     )
 
-pub text-short : (t : Tree) → Valid t → length (textOf t) ≤ 1518
+pub text-short : (t : Tree) → Valid t → length (textOf t) ≤ treeRoom
 unfolding textOf
 text-short t v = omega (arith, written-short t (v .labels), length-append (written t) (semicolonByte ∷ []), v .few)
 
@@ -183,11 +184,11 @@ good-at a text (suc m) g u h = go (bool-cases (ltb u m)) (good-at a text m (and-
         rw e (and-right (goodNodes a text m) (goodNode a text m) g)
 
 -- a leaf of good arrays is shown
-pub shown-label : (a : TreeArrays) (text : List ℕ) → a .nodes ≤ nodeLimit → goodNodes a text (a .nodes) ≡ true
-    → (u : ℕ) → u < a .nodes → isLeaf a u ≡ true → shownLabel a text u ≡ labelAt a text u
-unfolding shownLabel
-shown-label a text f g u h l =
-    rw (lt-ltb u (a .nodes) h, le-leb (a .nodes) nodeLimit f, good-at a text (a .nodes) g u h, l) refl
+pub shown-label : (a : TreeArrays) (text : List ℕ) (u : ℕ) → goodNode a text u ≡ true → isLeaf a u ≡ true
+    → leafLabel text (a .start) (a .size) u ≡ labelAt a text u
+unfolding partOf labelAt
+shown-label a text u g l =
+    rw (le-leb (getD (a .start) u 0 + getD (a .size) u 0) (length text) (label-inside a text u g l .inside)) refl
 
 -- how the tree below a node unfolds
 

@@ -11,17 +11,16 @@ use lib.ListN.{length, getD, take, drop, length-append, length-drop}
 use lib.Seq.{getD-drop, take-at, drop-at, getD-at}
 use borrow.Author.Tests.{ltb-true, ltb-false, le-leb}
 use Rattle.trees.specs.declared.Reason.{Reason}
-use Rattle.trees.specs.declared.Reason.the-variants.{BadByte, EndsTooSoon, LabelTooLong, TooMany, Repeated, FirstLacks}
-use Rattle.trees.specs.declared.Reason.the-variants.{SecondLacks, Disagree, TooShort, Contents, JobTooLong}
-use Rattle.trees.specs.Bytes.{isLabelByte}
+use Rattle.trees.specs.declared.Reason.the-variants.{BadByte, EndsTooSoon, LabelTooLong, TooMany, Repeated}
+use Rattle.trees.specs.Bytes.{isLabelByte, openByte, commaByte}
 use Rattle.trees.specs.Label.{Label, labelLimit, isIn, distinct, goodLabel, goodLabels}
 use Rattle.trees.specs.Reading.{labelRun, repeats}
 use Rattle.trees.specs.Refusals.{numberOf}
-use Rattle.trees.specs.Faults.{Continues, LabelStarts, labelFrom, Fault, bad-byte, ends-too-soon, label-too-long, too-many}
+use Rattle.trees.specs.Faults.{Continues, Edge, LabelStarts, labelFrom, Fault, bad-byte, ends-too-soon, label-too-long, too-many}
 use Rattle.trees.specs.Faults.{repeated, FirstFault}
 use Rattle.trees.proofs.Bools.{bool-cases, clash, and-intro}
 use Rattle.trees.proofs.ListLaws.{in-none, in-left, in-here, in-last-cases, good-none, distinct-none}
-use Rattle.trees.proofs.ReadingLaws.{run-byte, run-length, run-cons, run-none, repeats-parts, seen-more}
+use Rattle.trees.proofs.ReadingLaws.{run-byte, run-length, run-cons, run-none, repeats-parts, seen-more, open-plain, comma-plain}
 
 pub lt-or-le : (a b : ℕ) → (a < b) ⊎ (b ≤ a)
 lt-or-le a b = ⊎-elim (λ (h : ltb a b ≡ true). inl (ltb-true a b h)) (λ (h : ltb a b ≡ false). inr (ltb-false a b h)) (bool-cases (ltb a b))
@@ -65,6 +64,11 @@ seam text p b rest i e l =
     l′ : length (p ++ (b ∷ [])) ≡ suc i
     l′ = omega (arith, length-append p (b ∷ []))
 
+-- `(` and `,` are no label bytes
+edge-byte : (b : ℕ) → (b ≡ openByte) ⊎ (b ≡ commaByte) → isLabelByte b ≡ false
+edge-byte b (inl e) = rw e open-plain
+edge-byte b (inr e) = rw e comma-plain
+
 -- labels that begin at different places do not touch
 pub starts-apart : (Whole : List ℕ → Type 0) (text : List ℕ) (j k : ℕ) → LabelStarts Whole text k → j < k → j + length (labelFrom text j) < k
 starts-apart Whole text j zero s h = omega arith
@@ -72,16 +76,12 @@ starts-apart Whole text j (suc m) s h = go (lt-or-le (j + length (labelFrom text
   where
     go : (j + length (labelFrom text j) < suc m) ⊎ (suc m ≤ j + length (labelFrom text j)) → j + length (labelFrom text j) < suc m
     go (inl l) = l
-    go (inr l) = clash (label-at text j m (omega arith) (omega arith)) (s .first m refl)
+    go (inr l) = clash (label-at text j m (omega arith) (omega arith)) (edge-byte (getD text m 0) (s .first m refl))
 
 -- `seen` are the labels that begin before place i
 pub record Known (Whole : List ℕ → Type 0) (text : List ℕ) (seen : List Label) (i : ℕ) : Type 0 where
   pub known : (k : ℕ) → LabelStarts Whole text k → k < i → isIn (labelFrom text k) seen ≡ true
   pub origin : (y : Label) → isIn y seen ≡ true → (k : ℕ) × (k < i) × LabelStarts Whole text k × (labelFrom text k ≡ y)
-
--- no label byte just before place i
-abbrev pub Edge : List ℕ → ℕ → Type 0
-Edge text i = (k : ℕ) → suc k ≡ i → isLabelByte (getD text k 0) ≡ false
 
 -- inside a label: it began at `start`, and x are its bytes before place i
 pub record Inside (Whole : List ℕ → Type 0) (text : List ℕ) (seen : List Label) (x : Label) (i : ℕ) : Type 0 where
@@ -175,7 +175,7 @@ module _ (Whole : List ℕ → Type 0) (text : List ℕ) where
       clash
       (label-at text (m .start) k (omega (arith, m .reach, m .some))
       (omega (arith, m .reach, m .some, ap length (m .run), length-append x (labelRun (drop (suc k) text)))))
-      (g k refl)
+      (edge-byte (getD text k 0) (g k refl))
 
   -- no label has its 17th byte here
   abbrev pub NotLong : ℕ → Type 0
@@ -192,7 +192,7 @@ module _ (Whole : List ℕ → Type 0) (text : List ℕ) where
 
   pub edge-not-long : (i : ℕ) → Edge text i → NotLong i
   edge-not-long zero g j s l e = omega arith
-  edge-not-long (suc k) g j s l e = clash (label-at text j k (omega arith) (omega arith)) (g k refl)
+  edge-not-long (suc k) g j s l e = clash (label-at text j k (omega arith) (omega arith)) (edge-byte (getD text k 0) (g k refl))
 
   pub inside-not-long : (seen : List Label) (x : Label) (i : ℕ) → Inside Whole text seen x i → (length x ≡ labelLimit → ⊥) → NotLong i
   inside-not-long seen x i m n j s l e = go (lt-or-le j (m .start)) (lt-or-le (m .start) j)
@@ -388,8 +388,10 @@ module _ {Whole : List ℕ → Type 0} {Crowd : List ℕ → ℕ → Type 0} {te
       → Read Whole Crowd text (p ++ (b ∷ [])) rest (suc i) seen
   plain-pass n c d = go-past c (plain-not-long Whole text i (plain n)) d (plain-not-repeat Whole text i (plain n))
 
-  pub plain-edge : isLabelByte b ≡ false → Edge text (suc i)
-  plain-edge n k e = subst (λ (w : ℕ). isLabelByte (getD text w 0) ≡ false) same (plain n)
+  -- after `(` or `,` a label can begin
+  pub edge-after : (b ≡ openByte) ⊎ (b ≡ commaByte) → Edge text (suc i)
+  edge-after o k e =
+      subst (λ (w : ℕ). (w ≡ openByte) ⊎ (w ≡ commaByte)) (sym (cut .byte) ∙ ap (λ (n : ℕ). getD text n 0) same) o
     where
       same : i ≡ k
       same = omega arith
@@ -422,7 +424,7 @@ module _ {Whole : List ℕ → Type 0} {Crowd : List ℕ → ℕ → Type 0} {te
     pub letter-inside : Inside Whole text seen (x ++ (b ∷ [])) (suc i)
     letter-inside = inside-grow Whole text seen x i b rest (cut .onward) (cut .beyond) h d
 
-  -- a label byte with no label byte just before it
+  -- a label byte where a label can begin
   module _ (k : Known Whole text seen i) (g : Edge text i) (h : isLabelByte b ≡ true) (c : Continues Whole (p ++ (b ∷ []))) where
     pub starts-here : LabelStarts Whole text i
     starts-here =
@@ -470,25 +472,19 @@ module _ {Whole : List ℕ → Type 0} {Crowd : List ℕ → ℕ → Type 0} {te
   pub no-fault-left : ((j : ℕ) → Crowd text j → j < length text) → Whole p → (q : Reason) (j : ℕ) → Fault Whole Crowd text q j → ⊥
   no-fault-left c t = none-left Whole Crowd text c (subst Whole (sym whole-text) t) (subst (Clean Whole Crowd text) (sym size) (r .clean))
 
--- a reason by its number
-reasonOf : ℕ → Reason
-reasonOf n =
-    cond (eqb n 1) BadByte (cond (eqb n 2) EndsTooSoon (cond (eqb n 3) LabelTooLong (cond (eqb n 4) TooMany (cond (eqb n 5) Repeated
-    (cond (eqb n 6) FirstLacks (cond (eqb n 7) SecondLacks (cond (eqb n 8) Disagree (cond (eqb n 9) TooShort (cond (eqb n 10) Contents JobTooLong)))))))))
+-- a fault's reason by its number
+faultReason : ℕ → Reason
+faultReason n =
+    cond (eqb n 1) BadByte (cond (eqb n 2) EndsTooSoon (cond (eqb n 3) LabelTooLong (cond (eqb n 4) TooMany Repeated)))
 
-reason-number : (r : Reason) → reasonOf (numberOf r) ≡ r
-unfolding reasonOf numberOf
-reason-number BadByte = refl
-reason-number EndsTooSoon = refl
-reason-number LabelTooLong = refl
-reason-number TooMany = refl
-reason-number Repeated = refl
-reason-number FirstLacks = refl
-reason-number SecondLacks = refl
-reason-number Disagree = refl
-reason-number TooShort = refl
-reason-number Contents = refl
-reason-number JobTooLong = refl
+fault-reason : (Whole : List ℕ → Type 0) (Crowd : List ℕ → ℕ → Type 0) (text : List ℕ) (r : Reason) (i : ℕ)
+    → Fault Whole Crowd text r i → faultReason (numberOf r) ≡ r
+unfolding faultReason numberOf
+fault-reason Whole Crowd text BadByte i (bad-byte j l a d) = refl
+fault-reason Whole Crowd text EndsTooSoon i (ends-too-soon a d) = refl
+fault-reason Whole Crowd text LabelTooLong i (label-too-long k s l) = refl
+fault-reason Whole Crowd text TooMany i (too-many j c) = refl
+fault-reason Whole Crowd text Repeated i (repeated j k l s t b d) = refl
 
 -- the first fault of a text is one
 pub first-unique : (Whole : List ℕ → Type 0) (Crowd : List ℕ → ℕ → Type 0) (text : List ℕ) (r q : Reason) (i j : ℕ)
@@ -499,4 +495,9 @@ first-unique Whole Crowd text r q i j f g = go (f .first q j (g .here)) (g .firs
     go (inl h) (inl k) = absurd (omega arith)
     go (inl h) (inr k) = absurd (omega (arith, k .0))
     go (inr h) (inl k) = absurd (omega (arith, h .0))
-    go (inr h) (inr k) = (sym (reason-number r) ∙ ap reasonOf (omega (arith, h .1, k .1)) ∙ reason-number q, h .0)
+    go (inr h) (inr k) = (
+      sym (fault-reason Whole Crowd text r i (f .here))
+          ∙ ap faultReason (omega (arith, h .1, k .1))
+          ∙ fault-reason Whole Crowd text q j (g .here),
+      h .0,
+    )

@@ -1,3 +1,4 @@
+pub mod AmongLaws
 pub mod ArrayLaws
 pub mod Bools
 pub mod ByteLaws
@@ -12,4 +13,5 @@ pub mod RawRuns
 pub mod ReadingLaws
 pub mod SameLaws
 pub mod StoredLaws
+pub mod TreeLaws
 pub mod WrittenLaws

@@ -5,12 +5,15 @@ use mathlib.Core.Bool.{true, false}
 use mathlib.Core.Logic.{_⊎_}
 use lib.ListN.{length, getD}
 use Rattle.trees.specs.Bytes.{kindOf, kindOfCode, classTable}
-use Rattle.trees.specs.Label.{Label, labelLess, isIn}
-use Rattle.trees.specs.Tree.{Tree, leaves, Same, Valid, smallest}
-use Rattle.trees.specs.Text.{textOf, normalText}
+use Rattle.trees.specs.Label.{Label, labelLimit, labelLess, isIn}
+use Rattle.trees.specs.Tree.{Tree, leaves, Same, Valid, Proper, smallest}
+use Rattle.trees.specs.Text.{textOf, treeRoom, normalText}
+use Rattle.trees.specs.Stored.{storedBytes, storedOf}
 use Rattle.trees.specs.Arrays.{arraysOf, treeOf, oneTree}
 use Rattle.trees.proofs.ByteLaws.{class-rule}
 use Rattle.trees.proofs.LabelLaws.{less-irrefl, less-trans, less-total}
+use Rattle.trees.proofs.StoredLaws.{stored-back}
+use Rattle.trees.proofs.TreeLaws.{valid-proper}
 use Rattle.trees.proofs.ArrayLaws.{stands, text-short}
 use Rattle.trees.proofs.NormalLaws.{smallest-in, smallest-least, one-normal-text, normal-text-decides}
 
@@ -27,6 +30,14 @@ order-transitive = less-trans
 
 pub order-total : (x y : Label) → (labelLess x y ≡ true) ⊎ ((x ≡ y) ⊎ (labelLess y x ≡ true))
 order-total = less-total
+
+-- "It has 1 to 16 bytes": a label that is kept apart from its text is that label again
+pub label-stored : (x : Label) → length x ≤ labelLimit → storedBytes (storedOf x) ≡ x
+label-stored = stored-back
+
+-- a valid tree is a proper one, which is what agreement asks
+pub valid-is-proper : (t : Tree) → Valid t → Proper t
+valid-is-proper = valid-proper
 
 -- "Left and right children mean nothing.": equal trees have one normal text
 pub equal-trees-one-text : (s t : Tree) → Valid s → Same s t → normalText s ≡ normalText t
@@ -48,5 +59,5 @@ pub arrays-stand : (t : Tree) → Valid t → treeOf (arraysOf t) (textOf t) ≡
 arrays-stand = stands
 
 -- 80 labels of 16 bytes, 79 times `(`, `,` and `)`, and `;`
-pub longest-text : (t : Tree) → Valid t → length (textOf t) ≤ 1518
+pub longest-text : (t : Tree) → Valid t → length (textOf t) ≤ treeRoom
 longest-text = text-short

@@ -1,6 +1,6 @@
 -- Tree arrays: which arrays a tree has, and which tree arrays stand for.
 -- Nodes are numbered in postorder: children before parents, the root last. A leaf is its own left and right child.
-use Prim.Native.Nat.{ℕ, zero, suc, _+_, _-_}
+use Prim.Native.Nat.{ℕ, zero, suc, _+_, _*_, _-_}
 use mathlib.Core.Bool.{Bool, true, cond, _&&_}
 use mathlib.Core.List.{List, [], _∷_, _++_}
 use lib.Dec.{eqb, ltb, leb}
@@ -12,7 +12,7 @@ use Rattle.trees.specs.Text.{written}
 
 -- 80 leaves have 159 nodes
 abbrev pub nodeLimit : ℕ
-nodeLimit = 159
+nodeLimit = 2 * leafLimit - 1
 
 unfoldable pub nodesOf : Tree → ℕ
 nodesOf (leaf x) = 1
@@ -109,9 +109,3 @@ treeOf a text =
     && leb (length (leaves (treeAt (a .nodes) a text (a .nodes - 1)))) leafLimit)
     (oneTree (treeAt (a .nodes) a text (a .nodes - 1)))
     noTree)
-
--- the part of the text that shows leaf u; nothing where u is no leaf with a label in the text
-unfoldable pub shownLabel : TreeArrays → List ℕ → ℕ → Label
-unfolding isLeaf goodNode labelAt
-shownLabel a text u =
-    cond (ltb u (a .nodes) && leb (a .nodes) nodeLimit && isLeaf a u && goodNode a text u) (labelAt a text u) []

@@ -3,13 +3,13 @@
 use Prim.Native.Nat.{ℕ, suc, _+_, _-_, _<_, _≤_}
 use mathlib.Core.Path.{_≡_}
 use mathlib.Core.Logic.{_⊎_}
-use mathlib.Core.Bool.{true, false, cond}
+use mathlib.Core.Bool.{true, cond}
 use mathlib.Core.List.{List, [], _∷_, _++_}
 use lib.Dec.{eqb}
 use lib.ListN.{length, getD, take, drop}
 use Rattle.trees.specs.declared.Reason.{Reason}
 use Rattle.trees.specs.declared.Reason.the-variants.{BadByte, EndsTooSoon, LabelTooLong, TooMany, Repeated}
-use Rattle.trees.specs.Bytes.{isLabelByte}
+use Rattle.trees.specs.Bytes.{isLabelByte, openByte, commaByte}
 use Rattle.trees.specs.Label.{Label, labelLimit}
 use Rattle.trees.specs.Reading.{labelRun}
 use Rattle.trees.specs.Refusals.{numberOf}
@@ -18,11 +18,15 @@ use Rattle.trees.specs.Refusals.{numberOf}
 abbrev pub Continues : (List ℕ → Type 0) → List ℕ → Type 0
 Continues Whole p = (q : List ℕ) × Whole (p ++ q)
 
--- a label begins at place j: a label byte that may stand there, and no label byte just before it
+-- place j is where a label can begin: at the start, or just after `(` or `,`
+abbrev pub Edge : List ℕ → ℕ → Type 0
+Edge text j = (k : ℕ) → suc k ≡ j → (getD text k 0 ≡ openByte) ⊎ (getD text k 0 ≡ commaByte)
+
+-- a label begins at place j: a label byte that may stand there
 pub record LabelStarts (Whole : List ℕ → Type 0) (text : List ℕ) (j : ℕ) : Type 0 where
   pub inside : j < length text
   pub labelByte : isLabelByte (getD text j 0) ≡ true
-  pub first : (k : ℕ) → suc k ≡ j → isLabelByte (getD text k 0) ≡ false
+  pub first : Edge text j
   pub allowed : Continues Whole (take (suc j) text)
 
 -- the label that begins at j

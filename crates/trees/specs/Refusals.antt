@@ -1,5 +1,6 @@
 -- The numbers of the reasons and the letters of the bodies. Scope paper, "Why a job is turned down".
 use Prim.Native.Nat.{ℕ}
+use Rattle.trees.specs.declared.Refusal.{Refusal}
 use Rattle.trees.specs.declared.Reason.{Reason}
 use Rattle.trees.specs.declared.Reason.the-variants.{BadByte, EndsTooSoon, LabelTooLong, TooMany, Repeated, FirstLacks, SecondLacks, Disagree, TooShort, Contents, JobTooLong}
 use Rattle.trees.specs.declared.Body.{Body}
@@ -18,10 +19,20 @@ numberOf TooShort = 9
 numberOf Contents = 10
 numberOf JobTooLong = 11
 
--- the letter's byte
+-- the letter's byte: S, T, K, J, O
 unfoldable pub letterOf : Body → ℕ
 letterOf S = 83
 letterOf T = 84
 letterOf K = 75
 letterOf J = 74
 letterOf O = 79
+
+-- what an answer says in the paper's terms: a value, or a row of the table. "A refusal carries its number, and within it the body
+-- letter and a place"
+pub data Said (A : Type 0) : Type 0 where
+  value : A → Said A
+  row : (number letter place : ℕ) → Said A
+
+unfoldable pub rowOf : {A : Type 0} → Refusal → Said A
+unfolding numberOf letterOf
+rowOf r = row (numberOf (r .reason)) (letterOf (r .body)) (r .place)

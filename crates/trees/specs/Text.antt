@@ -1,8 +1,9 @@
 -- The text of a tree. Scope paper, "Tree text": "A tree is a node followed by `;`. A node is a label, or `(` node `,` node `)`."
-use Prim.Native.Nat.{ℕ}
+use Prim.Native.Nat.{ℕ, _+_, _*_, _-_}
 use mathlib.Core.List.{List, [], _∷_, _++_}
 use Rattle.trees.specs.Bytes.{openByte, closeByte, commaByte, semicolonByte}
-use Rattle.trees.specs.Tree.{Tree, leaf, node, normal}
+use Rattle.trees.specs.Label.{labelLimit}
+use Rattle.trees.specs.Tree.{Tree, leaf, node, normal, leafLimit}
 
 -- a node, its children as they stand
 unfoldable pub written : Tree → List ℕ
@@ -13,6 +14,10 @@ written (node a b) = openByte ∷ (written a ++ (commaByte ∷ (written b ++ (cl
 unfoldable pub textOf : Tree → List ℕ
 unfolding written
 textOf t = written t ++ (semicolonByte ∷ [])
+
+-- the most bytes of a tree's text: 80 labels of 16 bytes, 79 times `(`, `,` and `)`, and `;`
+abbrev pub treeRoom : ℕ
+treeRoom = leafLimit * labelLimit + 3 * (leafLimit - 1) + 1
 
 -- "the normal text of a tree"
 unfoldable pub normalText : Tree → List ℕ

@@ -31,6 +31,11 @@ pub record Valid (t : Tree) : Type 0 where
   pub different : distinct (leaves t) ≡ true
   pub few : length (leaves t) ≤ leafLimit
 
+-- what agreement asks of a tree: labels all different and at most 80, whatever their bytes
+pub record Proper (t : Tree) : Type 0 where
+  pub different : distinct (leaves t) ≡ true
+  pub few : length (leaves t) ≤ leafLimit
+
 -- the smallest label in label order
 unfoldable pub smallest : Tree → Label
 smallest (leaf x) = x

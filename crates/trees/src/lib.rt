@@ -2,13 +2,24 @@
 //
 // No public function has a `requires`: each answers for all inputs.
 ghost use mathlib.Core.Path.{_≡_};
-ghost use Prim.Native.Nat.{_≤_};
-ghost use lib.ListN.{getD, length, take};
+ghost use Prim.Native.Nat.{min};
+ghost use lib.ListN.{getD, take};
 ghost use Rattle.trees.specs.Bytes.{classTable, kindOfCode};
-ghost use Rattle.trees.specs.Label.{orderOf, labelLess};
+ghost use Rattle.trees.specs.Label.{orderOf, labelLess, sameLabel};
 ghost use Rattle.trees.specs.Refusals.{numberOf, letterOf};
-ghost use Rattle.trees.specs.Arrays.{shownLabel};
-ghost use Rattle.trees.specs.Stored.{storedBytes, storedOf, partOf};
+ghost use Rattle.trees.specs.Stored.{storedBytes, storedOf, partOf, leafLabel, isPart, isAmong};
+
+// The most bytes of a label.
+pub const LABEL_LIMIT: usize = 16;
+
+// The most leaves of a tree.
+pub const LEAF_LIMIT: usize = 80;
+
+// The most nodes of a tree: each inner node joins two, so there is one less than leaves.
+pub const NODE_LIMIT: usize = 2 * LEAF_LIMIT - 1;
+
+// The most bytes of a tree's text: its labels, `(`, `,` and `)` for each inner node, and `;`.
+pub const TREE_ROOM: usize = LEAF_LIMIT * LABEL_LIMIT + 3 * (LEAF_LIMIT - 1) + 1;
 
 // What a byte of a tree text can be. Each of the 256 byte values has one kind.
 pub enum Kind {
@@ -60,7 +71,7 @@ pub struct Refusal {
 
 // A label kept apart from its text: the first `len` bytes count.
 pub struct StoredLabel {
-    pub bytes: [u8; 16],
+    pub bytes: [u8; LABEL_LIMIT],
     pub len: usize,
 }
 
@@ -68,10 +79,10 @@ pub struct StoredLabel {
 // A leaf's label is the `size` bytes of the text from `start`.
 pub struct TreeArrays {
     pub nodes: usize,
-    pub left: [usize; 159],
-    pub right: [usize; 159],
-    pub start: [usize; 159],
-    pub size: [usize; 159],
+    pub left: [usize; NODE_LIMIT],
+    pub right: [usize; NODE_LIMIT],
+    pub start: [usize; NODE_LIMIT],
+    pub size: [usize; NODE_LIMIT],
 }
 
 // The class of each byte value: 1 a label byte, 2 `(`, 3 `)`, 4 `,`, 5 `;`, 0 any other.
@@ -425,8 +436,32 @@ pub fn comes_before(a: &[u8], b: &[u8]) -> bool
     }
 }
 
-// The first `len` bytes, or all of them where they are fewer.
-fn first_bytes<'a>(bytes: &'a [u8], len: usize) -> &'a [u8]
+// The smaller of two numbers.
+pub fn least(a: usize, b: usize) -> usize
+    ensures { λ r. ⌜ r ≡ min a b ⌝ }
+{
+    if a < b { a } else { b }
+}
+
+// Labels are the same, byte for byte: the lengths first, since labels of one tree often differ there.
+pub fn same_label(a: &[u8], b: &[u8]) -> bool
+    ensures { λ r. ⌜ r ≡ sameLabel (now (a .entry)) (now (b .entry)) ⌝ }
+{
+    if a.len() != b.len() {
+        return false;
+    }
+    let mut i: usize = 0;
+    while i < a.len() {
+        if a[i] != b[i] {
+            return false;
+        }
+        i += 1;
+    }
+    true
+}
+
+// The first `len` bytes, or all of them where they are fewer: of a stored label's bytes the label.
+pub fn first_bytes<'a>(bytes: &'a [u8], len: usize) -> &'a [u8]
     ensures { λ r. ⌜ now r ≡ take len (now (bytes .entry)) ⌝ }
 {
     if len <= bytes.len() {
@@ -436,7 +471,7 @@ fn first_bytes<'a>(bytes: &'a [u8], len: usize) -> &'a [u8]
     }
 }
 
-// The same for labels kept apart from their text.
+// Where `a` stands against `b` in label order, for labels kept apart from their text.
 pub fn compare_stored(a: StoredLabel, b: StoredLabel) -> Order
     ensures { λ r. ⌜ r ≡ orderOf (storedBytes a) (storedBytes b) ⌝ }
 {
@@ -458,46 +493,63 @@ pub fn part<'a>(text: &'a [u8], start: usize, size: usize) -> &'a [u8]
     &text[start..start + size]
 }
 
-// A leaf's label as the part of the caller's text that holds it; nothing where u is no leaf with a label in the text.
-pub fn leaf_label<'a>(text: &'a [u8], tree: TreeArrays, u: usize) -> &'a [u8]
-    ensures { λ r. ⌜ now r ≡ shownLabel tree (now (text .entry)) u ⌝ }
+// An entry of an array, 0 past its end: no index has to be trusted.
+pub fn entry(xs: &[usize], i: usize) -> usize
+    ensures { λ r. ⌜ r ≡ getD (now (xs .entry)) i 0 ⌝ }
 {
-    let nodes = tree.nodes;
-    if nodes <= u {
-        return &text[..0];
-    }
-    if 159 < nodes {
-        return &text[..0];
-    }
-    let left = tree.left[u];
-    if left != u {
-        return &text[..0];
-    }
-    let size = tree.size[u];
-    if 16 < size {
-        return &text[..0];
-    }
-    let start = tree.start[u];
-    part(text, start, size)
+    if i < xs.len() { xs[i] } else { 0 }
 }
 
-// A label as it is kept apart from its text, 0 after its last byte.
-fn stored(label: &[u8]) -> StoredLabel
-    requires { ⌜ length (now label) ≤ 16 ⌝ }
+// A leaf's label as the part of the caller's text that holds it, by the arrays' starts and sizes; nothing for an inner node,
+// whose size is 0, and nothing where the part would run past the end.
+pub fn leaf_label<'a>(text: &'a [u8], start: &[usize], size: &[usize], u: usize) -> &'a [u8]
+    ensures { λ r. ⌜ now r ≡ leafLabel (now (text .entry)) (now (start .entry)) (now (size .entry)) u ⌝ }
+{
+    part(text, entry(start, u), entry(size, u))
+}
+
+// Whether the part that entry u of starts and sizes names is the label. The size comes first: of most labels it is another.
+fn is_part(text: &[u8], start: &[usize], size: &[usize], u: usize, label: &[u8]) -> bool
+    ensures { λ r. ⌜ r ≡ isPart (now (text .entry)) (getD (now (start .entry)) u 0) (getD (now (size .entry)) u 0) (now (label .entry)) ⌝ }
+{
+    if entry(size, u) == label.len() {
+        same_label(label, leaf_label(text, start, size, u))
+    } else {
+        false
+    }
+}
+
+// Whether one of the first `count` parts that starts and sizes name is the label.
+pub fn is_among(text: &[u8], start: &[usize], size: &[usize], count: usize, label: &[u8]) -> bool
+    ensures { λ r. ⌜ r ≡ isAmong (now (text .entry)) (now (start .entry)) (now (size .entry)) count (now (label .entry)) ⌝ }
+{
+    let mut u = count;
+    while 0 < u {
+        u -= 1;
+        if is_part(text, start, size, u, label) {
+            return true;
+        }
+    }
+    false
+}
+
+// A label as it is kept apart from its text, 0 after its last byte; of a longer text the first 16 bytes.
+pub fn stored(label: &[u8]) -> StoredLabel
     ensures { λ r. ⌜ r ≡ storedOf (now (label .entry)) ⌝ }
 {
-    let mut bytes = [0u8; 16];
+    let len = least(label.len(), LABEL_LIMIT);
+    let mut bytes = [0u8; LABEL_LIMIT];
     let mut i: usize = 0;
-    while i < label.len() {
+    while i < len {
         bytes[i] = label[i];
         i += 1;
     }
-    StoredLabel { bytes, len: i }
+    StoredLabel { bytes, len }
 }
 
 // A leaf's label, kept apart from the text.
-pub fn stored_leaf(text: &[u8], tree: TreeArrays, u: usize) -> StoredLabel
-    ensures { λ r. ⌜ r ≡ storedOf (shownLabel tree (now (text .entry)) u) ⌝ }
+pub fn stored_leaf(text: &[u8], start: &[usize], size: &[usize], u: usize) -> StoredLabel
+    ensures { λ r. ⌜ r ≡ storedOf (leafLabel (now (text .entry)) (now (start .entry)) (now (size .entry)) u) ⌝ }
 {
-    stored(leaf_label(text, tree, u))
+    stored(leaf_label(text, start, size, u))
 }

@@ -1,20 +1,19 @@
 -- The labels of a list's text, their places and their ranks: counting the labels that come before sorts the list. Assumes nothing.
-use Prim.Native.Nat.{ℕ, zero, suc, _+_, _-_, _<_, _≤_}
+use Prim.Native.Nat.{ℕ, zero, suc, _+_, _-_, _<_}
 use mathlib.Core.Path.{_≡_, refl, sym, _∙_, ap, ap₂, subst}
 use mathlib.Core.Bool.{Bool, true, false, cond}
 use mathlib.Core.Logic.{_⊎_, inl, inr}
 use mathlib.Core.List.{List, [], _∷_, _++_, append-assoc, append-nil}
 use native.Mathlib.Omega.{arith}
 use lib.ListN.{length, getD, length-append, replicate, List·getD-append}
-use borrow.Author.Tests.{le-leb}
 use Rattle.trees.specs.Label.{Label, labelLess, sameLabel, isIn, distinct}
 use Rattle.trees.specs.Stored.{partOf}
 use Rattle.trees.proofs.Bools.{clash}
 use Rattle.trees.proofs.LabelLaws.{less-irrefl, less-asym, same-refl, ne-same}
 use Rattle.trees.proofs.ListLaws.{at-in, distinct-head, distinct-tail}
 use Rattle.lists.specs.ReadList.{joined, startsOf, sizesOf, placesOf, listLimit}
-use Rattle.lists.specs.TextParts.{part}
-use Rattle.lists.proofs.ListPlaces.{part-at, length-starts, length-sizes}
+use Rattle.trees.proofs.AmongLaws.{part-here}
+use Rattle.lists.proofs.ListPlaces.{length-starts, length-sizes}
 use Rattle.agreement.specs.Sets.{insert, sorted, increasing}
 use Rattle.agreement.specs.Places.{placeOfNumber, placeOfLabel}
 use Rattle.agreement.proofs.SetLaws.{in-head, in-tail, in-nil, in-cases, inc-head, inc-tail, in-sorted, sorted-inc, length-sorted}
@@ -35,12 +34,6 @@ number-of (y ∷ ys) x h = go (in-cases x y ys h) (number-of ys x)
     go (inr m) f = let n = f m in record { at = suc (n .at); below = omega (arith, n .below); is = n .is }
 
 -- a label in a text
-part-here : (before x rest : List ℕ) (p : ℕ) → p ≡ length before → partOf p (length x) (before ++ (x ++ rest)) ≡ x
-unfolding partOf part
-part-here before x rest p e =
-    let h : p + length x ≤ length (before ++ (x ++ rest)) = simp length-append (omega arith) in
-    rw (le-leb (p + length x) (length (before ++ (x ++ rest))) h) (part-at before x rest p e)
-
 part-own : (xs : List Label) (before : List ℕ) (p k : ℕ) → p ≡ length before → k < length xs
     → partOf (getD (startsOf xs p) k 0) (getD (sizesOf xs) k 0) (before ++ joined xs) ≡ getD xs k []
 unfolding startsOf sizesOf joined

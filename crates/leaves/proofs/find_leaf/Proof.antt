@@ -4,6 +4,7 @@ use Prim.Native.Nat.{_≤_, _-_}
 use mathlib.Core.Path.{_≡_, refl, sym, _∙_}
 use native.Mathlib.Omega.{arith}
 use borrow.Author.Needs.{needs}
+use Rattle.trees.specs.Arrays.{nodeLimit}
 use Rattle.leaves.specs.Find.{labelled, leafFrom, foundLeaf}
 use Rattle.leaves.proofs.FindLaws.{from-hit, from-miss, from-end}
 use Rattle.leaves.proofs.find_leaf.Statement.{statement}
@@ -11,7 +12,7 @@ use Rattle.leaves.proofs.find_leaf.Tie as tie
 
 abbrev Inv-loop : tie.InvT-loop
 Inv-loop text left start size nodes label end u₀ u =
-    (u ≤ end) × (end ≤ 159) × (leafFrom (labelled text left start size label) (end - u) u ≡ foundLeaf text left start size label nodes)
+    (u ≤ end) × (end ≤ nodeLimit) × (leafFrom (labelled text left start size label) (end - u) u ≡ foundLeaf text left start size label nodes)
 
 abbrev μ-loop : tie.MeasureT-loop
 μ-loop text left start size nodes label end u₀ u =

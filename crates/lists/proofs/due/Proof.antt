@@ -2,6 +2,7 @@
 use native.Mathlib.Omega.{arith}
 use mathlib.Core.Path.{refl}
 use borrow.Author.Tests.{lt-ltb, le-ltb}
+use Rattle.lists.specs.ReadList.{listLimit}
 use Rattle.lists.specs.ListMachine.{dueOf}
 use borrow.Author.Needs.{needs}
 use Rattle.lists.proofs.due.Statement.{statement}
@@ -28,12 +29,12 @@ enum-told-6 c = search needs
 returns : tie.Need-returns
 unfolding dueOf
 returns c =
-    rw (c .before .enum-told .given .1, lt-ltb (c .before .before .before .args .count) 80 (omega arith)) refl
+    rw (c .before .enum-told .given .1, lt-ltb (c .before .before .before .args .count) listLimit (omega arith)) refl
 
 returns-2 : tie.Need-returns-2
 unfolding dueOf
 returns-2 c =
-    rw (c .before .enum-told .given .1, le-ltb (c .before .before .before .args .count) 80 (omega arith)) refl
+    rw (c .before .enum-told .given .1, le-ltb (c .before .before .before .args .count) listLimit (omega arith)) refl
 
 returns-3 : tie.Need-returns-3
 unfolding dueOf

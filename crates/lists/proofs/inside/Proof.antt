@@ -2,6 +2,7 @@
 use native.Mathlib.Omega.{arith}
 use mathlib.Core.Path.{refl}
 use borrow.Author.Tests.{lt-ltb, le-ltb}
+use Rattle.trees.specs.Label.{labelLimit}
 use Rattle.lists.specs.ListMachine.{insideOf}
 use borrow.Author.Needs.{needs}
 use Rattle.lists.proofs.inside.Statement.{statement}
@@ -49,12 +50,12 @@ close-requires-5 c κs = search needs
 returns : tie.Need-returns
 unfolding insideOf
 returns c =
-    rw (c .before .enum-told .given .1, lt-ltb (c .before .before .before .before .args .len) 16 (omega arith)) refl
+    rw (c .before .enum-told .given .1, lt-ltb (c .before .before .before .before .args .len) labelLimit (omega arith)) refl
 
 returns-2 : tie.Need-returns-2
 unfolding insideOf
 returns-2 c =
-    rw (c .before .enum-told .given .1, le-ltb (c .before .before .before .before .args .len) 16 (omega arith)) refl
+    rw (c .before .enum-told .given .1, le-ltb (c .before .before .before .before .args .len) labelLimit (omega arith)) refl
 
 returns-3 : tie.Need-returns-3
 unfolding insideOf

@@ -33,15 +33,14 @@ enum-told c = search needs
 
 add-t10 : tie.Need-add-t10
 add-t10 c =
-    omega (arith, ready-as _ _ _ _ (c .before .enum-told .given .1) (c .before .before .before .before .pre) .few)
+    omega (arith, ready-as _ (c .before .enum-told .given .1) (c .before .before .before .before .pre) .few)
 
 enum-known-mode : tie.Need-enum-known-mode
 enum-known-mode c = search needs
 
 repeated-requires : tie.Need-repeated-requires
 repeated-requires c κs =
-    let h = ready-as _ _ _ _ (c .before .mode .given .1) (c .before .before .before .before .pre) in
-    (omega (arith, h .0 .few, h .1), h .2)
+    search needs
 
 refuse-requires : tie.Need-refuse-requires
 refuse-requires c κs = search needs

@@ -18,7 +18,7 @@ enum-told c = search needs
 
 on-due-requires : tie.Need-on-due-requires
 on-due-requires c κs =
-    ready-as _ _ _ _ (c .before .enum-told .given .1) (c .before .before .before .before .before .before .pre .1)
+    ready-as _ (c .before .enum-told .given .1) (c .before .before .before .before .before .before .pre .1)
 
 enum-known-mode : tie.Need-enum-known-mode
 enum-known-mode c = search needs
@@ -26,8 +26,7 @@ enum-known-mode c = search needs
 on-inside-requires : tie.Need-on-inside-requires
 on-inside-requires c κs =
     let m = c .before .before .before .before .before .before in
-    let h = ready-as _ _ _ _ (m .mode .given .1) (m .before .before .before .before .before .pre .1) in
-    (h .0, (h .1, h .2))
+    ready-as _ (m .mode .given .1) (m .before .before .before .before .before .pre .1)
 
 enum-known-mode-2 : tie.Need-enum-known-mode-2
 enum-known-mode-2 c = search needs
@@ -35,7 +34,7 @@ enum-known-mode-2 c = search needs
 on-after-requires : tie.Need-on-after-requires
 on-after-requires c κs =
     let m = c .before .before .before .before in
-    let h = ready-as _ _ _ _ (m .mode2 .given .1) (m .before .before .before .before .before .pre .1) in
+    let h = ready-as _ (m .mode2 .given .1) (m .before .before .before .before .before .pre .1) in
     (h .0, (h .1, h .2))
 
 enum-told-2 : tie.Need-enum-told-2

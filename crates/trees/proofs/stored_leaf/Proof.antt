@@ -1,5 +1,4 @@
--- `stored_leaf` meets its contract: a shown label is short enough to be stored. Assumes nothing.
-use Rattle.trees.proofs.StoredLaws.{shown-short}
+-- `stored_leaf` meets its contract: what is stored is the part of the text that shows the leaf. Assumes nothing.
 use borrow.Author.Needs.{needs}
 use Rattle.trees.proofs.stored_leaf.Statement.{statement}
 use Rattle.trees.proofs.stored_leaf.Tie as tie
@@ -8,8 +7,7 @@ leaf-label-requires : tie.Need-leaf-label-requires
 leaf-label-requires c κs = search needs
 
 stored-requires : tie.Need-stored-requires
-stored-requires c κs =
-    rw (c .leaf-label .ensures) (shown-short _ _ _)
+stored-requires c κs = search needs
 
 returns : tie.Need-returns
 returns c = cc

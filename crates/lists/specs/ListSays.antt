@@ -1,0 +1,19 @@
+-- What an answer of the list reader says in the scope paper's terms: how many labels, or a row of the table "Why a job is turned down"
+-- with its number, body letter and place.
+use Prim.Native.Nat.{ℕ}
+use mathlib.Core.List.{List}
+use Rattle.trees.specs.declared.Body.{Body}
+use Rattle.trees.specs.Refusals.{Said, value, rowOf}
+use Rattle.lists.specs.declared.ListAnswer.{ListAnswer}
+use Rattle.lists.specs.declared.ListAnswer.the-variants.{Labels, Refused}
+use Rattle.lists.specs.ReadList.{readList, listRead}
+
+unfoldable pub listSays : ListAnswer → Said ℕ
+unfolding rowOf
+listSays (Labels n) = value n
+listSays (Refused r) = rowOf r
+
+-- what the reader says of a text that is given as a body
+unfoldable pub saysOf : Body → List ℕ → Said ℕ
+unfolding listRead readList listSays
+saysOf body text = listSays (listRead body (readList text) .answer)
