@@ -1,5 +1,5 @@
 -- From what the loops compute to the verdict on two trees and a list. Assumes nothing.
-use Prim.Native.Nat.{ℕ, zero, suc, _+_, _-_, _<_, _≤_}
+use Prim.Native.Nat.{ℕ, zero, suc, _+_, _<_, _≤_}
 use mathlib.Core.Path.{_≡_, refl, sym, _∙_, ap, subst}
 use mathlib.Core.Bool.{Bool, true, false, cond}
 use mathlib.Core.Logic.{_⊎_, inl, inr}
@@ -9,11 +9,11 @@ use native.Mathlib.Omega.{arith}
 use lib.Dec.{eqb, ltb}
 use lib.ListN.{length, getD, drop, drop-of-length-le}
 use lib.Seq.{drop-cons}
-use borrow.Author.Tests.{lt-ltb, le-ltb, ltb-true, eqb-true, eqb-false}
+use borrow.Author.Tests.{lt-ltb, le-ltb, eqb-true, eqb-false}
 use Rattle.trees.specs.declared.Reason.the-variants.{FirstLacks, SecondLacks}
 use Rattle.trees.specs.declared.Body.the-variants.{K}
 use Rattle.trees.specs.declared.TreeArrays.{TreeArrays}
-use Rattle.trees.specs.Label.{Label, distinct}
+use Rattle.trees.specs.Label.{Label, isIn, distinct}
 use Rattle.trees.specs.Tree.{Tree, Valid}
 use Rattle.trees.specs.Text.{textOf}
 use Rattle.trees.specs.Arrays.{arraysOf, nodesOf}
@@ -21,21 +21,24 @@ use Rattle.trees.proofs.Bools.{bool-cases}
 use Rattle.lists.specs.declared.LabelPlaces.{LabelPlaces}
 use Rattle.lists.specs.ReadList.{joined, placesOf}
 use Rattle.agreement.specs.Closer.{holds}
-use Rattle.agreement.specs.Sets.{sorted}
-use Rattle.agreement.specs.Answer.{Answer, firstLacks, secondLacks, disagree, largest, Three, clashing, firstClash, lacking}
+use Rattle.agreement.specs.Sets.{increasing, sorted}
+use Rattle.agreement.specs.Answer.{Answer, firstLacks, secondLacks, disagree, largest, Three, firstClash, lacking}
 use Rattle.agreement.specs.Answer.{largestSet, answer}
+use Rattle.agreement.specs.Demand.{Clash}
 use Rattle.agreement.specs.Places.{placeOfNumber, placeOfLabel}
-use Rattle.agreement.proofs.SetLaws.{length-sorted}
+use Rattle.agreement.proofs.SetLaws.{length-sorted, sorted-inc, inc-distinct}
+use Rattle.agreement.proofs.AnswerLaws.{FirstThree, clash-found}
 use Rattle.leaves.specs.Find.{foundLeaf}
-use Rattle.leaves.proofs.OwnLaws.{own-laid, ownFound, Found, found, missing}
+use Rattle.leaves.specs.Numbered.{LeafIs, Numbered}
+use Rattle.leaves.proofs.OwnLaws.{ownFound, found, missing}
 use Rattle.triples.specs.declared.Agreement.{Agreement}
 use Rattle.triples.specs.declared.Agreement.the-variants.{Agreed, Disagree, Refused}
+use Rattle.triples.specs.declared.Three.{Three as Ranked}
 use Rattle.triples.specs.Verdict.{verdictOf}
-use Rattle.triples.specs.Loops.{labelIn, rankIn, InOrder, LeavesFound, lackFrom, LowAt, LcaNumbers, numberAt, clashAt}
-use Rattle.triples.specs.Loops.{thirdOf, secondOf, firstOf, threeOf, Given}
-use Rattle.triples.proofs.LcaNumbers.{LcaAt, lca-at-swap, lca-number-at, closer-number}
-use Rattle.triples.proofs.Ranks.{label-at, place-of, place-number, order-sorted}
-use Rattle.triples.proofs.ClashSearch.{first-clash-is}
+use Rattle.triples.specs.Clash.{rankOf, clashRanks, RankedTree}
+use Rattle.triples.specs.Loops.{labelIn, rankIn, InOrder, LeavesFound, lackFrom, toldOf, Given}
+use Rattle.triples.proofs.Ranks.{number-of, label-at, place-of, place-number, order-sorted}
+use Rattle.triples.proofs.RowLaws.{rank-at}
 
 -- the leaf numbers of the list's labels in a tree
 abbrev pub LeavesOf : Tree → List Label → List ℕ → Type 0
@@ -147,134 +150,53 @@ module _ (s t : Tree) (xs : List Label) (v : Valid s) (w : Valid t) (different :
       go none = refl
       go (some c) = refl
 
-  -- the ancestor numbers of the sorted labels
-  lca-of : (u : Tree) → Valid u → ((j : ℕ) → j < length xs → holds u (getD xs j []) ≡ true) → (leaf order low numbers : List ℕ)
-      → LeavesOf u xs leaf → ((r : ℕ) → r < length xs → (getD order r 0 < length xs) × (getD xs (getD order r 0) [] ≡ getD (sorted xs) r []))
-      → ((n : ℕ) → n < nodesOf u → LowAt (arraysOf u .left) low n) → LcaNumbers low (nodesOf u) leaf order (length xs) numbers
-      → length xs ≤ 80 → (p q : ℕ) → p < length xs → q < length xs
-      → LcaAt u (getD (sorted xs) p []) (getD (sorted xs) q []) (numberAt numbers p q)
-  unfolding holds
-  lca-of u valid held leaf order low numbers l o f n few p q hp hq =
-      let a = one p hp in
-      let b = one q hq in
-      rw (n p q hp (omega arith))
-      (lca-number-at u (valid .different) (arraysOf u .left) (arraysOf u .right) low (own-laid u) f (getD (sorted xs) p [])
-      (getD (sorted xs) q []) (getD leaf (getD order p 0) 0) (getD leaf (getD order q 0) 0) (a .below) (b .below) (a .is) (b .is))
-    where
-      one : (r : ℕ) → r < length xs → Found u (getD (sorted xs) r []) (getD leaf (getD order r 0) 0)
-      one r h =
-          let k = o r h in
-          subst (λ (x : Label). Found u x (getD leaf (getD order r 0) 0)) (k .1)
-          (subst (Found u (getD xs (getD order r 0) [])) (sym (l (getD order r 0) (k .0)))
-          (found u (getD xs (getD order r 0) []) valid (held (getD order r 0) (k .0))))
+  -- the labels in label order, by their numbers in the list
+  module _ (order : List ℕ)
+      (o : (r : ℕ) → r < length xs → (getD order r 0 < length xs) × (getD xs (getD order r 0) [] ≡ getD (sorted xs) r [])) where
+    -- the leaves in that order are those of the sorted labels
+    leaves-ranked : (u : Tree) → Valid u → ((j : ℕ) → j < length xs → holds u (getD xs j []) ≡ true) → (leaf ranked : List ℕ)
+        → LeavesOf u xs leaf → ((r : ℕ) → r < length xs → getD ranked r 0 ≡ getD leaf (getD order r 0) 0) → Numbered u (sorted xs) ranked
+    unfolding holds
+    leaves-ranked u valid held leaf ranked l e r h =
+        let k = o r (omega (arith, length-sorted xs)) in
+        let g = e r (omega (arith, length-sorted xs)) ∙ l (getD order r 0) (k .0) in
+        let f = found u (getD xs (getD order r 0) []) valid (held (getD order r 0) (k .0)) in
+        subst (λ (n : ℕ). LeafIs u n (getD (sorted xs) r [])) (sym g)
+        (subst (λ (x : Label). LeafIs u (ownFound u (getD xs (getD order r 0) [])) x) (k .1) (record { below = f .below; is = f .is }))
 
-  -- the numbers tell which three labels clash
-  module _ (numbers1 numbers2 : List ℕ)
-      (n1 : (p q : ℕ) → p < length xs → q < length xs → LcaAt s (getD (sorted xs) p []) (getD (sorted xs) q []) (numberAt numbers1 p q))
-      (n2 : (p q : ℕ) → p < length xs → q < length xs → LcaAt t (getD (sorted xs) p []) (getD (sorted xs) q []) (numberAt numbers2 p q))
-    where
-      tells : (i j k : ℕ) → i < j → j < k → k < length xs
-          → clashAt numbers1 numbers2 i j k ≡ clashing s t (getD (sorted xs) i []) (getD (sorted xs) j []) (getD (sorted xs) k [])
-      unfolding clashAt clashing
-      tells i j k h l m =
-          let a = getD (sorted xs) i [] in
-          let b = getD (sorted xs) j [] in
-          let c = getD (sorted xs) k [] in
-          let hi : i < length xs = omega arith in
-          let hj : j < length xs = omega arith in
-          let ij = n1 i j hi hj in
-          let ik = n1 i k hi m in
-          let jk = n1 j k hj m in
-          let ij2 = n2 i j hi hj in
-          let ik2 = n2 i k hi m in
-          let jk2 = n2 j k hj m in
-          rw (
-            closer-number s a b c (numberAt numbers1 i j) (numberAt numbers1 i k) (v .different) ij ik,
-            closer-number s a c b (numberAt numbers1 i k) (numberAt numbers1 i j) (v .different) ik ij,
-            closer-number s b c a (numberAt numbers1 j k) (numberAt numbers1 i j) (v .different) jk
-                (lca-at-swap s a b (numberAt numbers1 i j) ij),
-            closer-number t a b c (numberAt numbers2 i j) (numberAt numbers2 i k) (w .different) ij2 ik2,
-            closer-number t a c b (numberAt numbers2 i k) (numberAt numbers2 i j) (w .different) ik2 ij2,
-            closer-number t b c a (numberAt numbers2 j k) (numberAt numbers2 i j) (w .different) jk2
-                (lca-at-swap t a b (numberAt numbers2 i j) ij2),
-          )
-          refl
+    -- the place of a label by its rank
+    place : (x : Label) → isIn x (sorted xs) ≡ true
+        → (rankOf (sorted xs) x < length xs)
+        × (getD (placesOf xs .start) (getD order (rankOf (sorted xs) x) 0) 0 ≡ placeOfLabel xs 0 x)
+    place x h =
+        let n = number-of (sorted xs) x h in
+        let e : rankOf (sorted xs) x ≡ n .at =
+        ap (rankOf (sorted xs)) (sym (n .is)) ∙ rank-at (sorted xs) (n .at) (inc-distinct (sorted xs) (sorted-inc xs different)) (n .below) in
+        let l : rankOf (sorted xs) x < length xs = omega (arith, e, n .below, length-sorted xs) in
+        let k = o (rankOf (sorted xs) x) l in (
+          l,
+          place-of xs (getD order (rankOf (sorted xs) x) 0) different (k .0)
+              ∙ ap (placeOfLabel xs 0) (k .1 ∙ ap (λ (m : ℕ). getD (sorted xs) m []) e ∙ n .is),
+        )
 
-      -- the places of the labels found
-      module _ (order : List ℕ)
-          (o : (r : ℕ) → r < length xs → (getD order r 0 < length xs) × (getD xs (getD order r 0) [] ≡ getD (sorted xs) r [])) where
-        place : (r : ℕ) → r < length xs → getD (placesOf xs .start) (getD order r 0) 0 ≡ placeOfLabel xs 0 (getD (sorted xs) r [])
-        place r h =
-            place-of xs (getD order r 0) different (o r h .0) ∙ ap (λ (x : Label). placeOfLabel xs 0 x) (o r h .1)
+    told-clash : (c : Option Three) → FirstThree (Clash s t (sorted xs)) c
+        → toldOf order (placesOf xs .start) (length xs) (clashRanks (sorted xs) c) ≡ clashTold c
+    unfolding toldOf clashRanks
+    told-clash none f = rw (length-sorted xs, le-ltb (length xs) (length xs) (omega arith)) refl
+    told-clash (some c) f =
+        let a = place (c .one) (f .0 .inOne) in
+        let b = place (c .two) (f .0 .inTwo) in
+        let d = place (c .three) (f .0 .inThree) in
+        rw (lt-ltb (rankOf (sorted xs) (c .one)) (length xs) (a .0), a .1, b .1, d .1) refl
 
-        -- what is told of three ranks, and the labels that have them
-        abbrev told : ℕ → ℕ → ℕ → Agreement
-        told i j k =
-            cond (ltb i (length xs))
-            (cond (ltb j (length xs))
-            (cond (ltb k (length xs))
-            (Disagree (getD (placesOf xs .start) (getD order i 0) 0) (getD (placesOf xs .start) (getD order j 0) 0)
-            (getD (placesOf xs .start) (getD order k 0) 0))
-            Agreed)
-            Agreed)
-            Agreed
-
-        abbrev named : ℕ → ℕ → ℕ → Option Three
-        named i j k =
-            cond (ltb i (length xs))
-            (cond (ltb j (length xs))
-            (cond (ltb k (length xs))
-            (some (record { one = getD (sorted xs) i []; two = getD (sorted xs) j []; three = getD (sorted xs) k [] }))
-            none)
-            none)
-            none
-
-        told-named : (i j k : ℕ) → told i j k ≡ clashTold (named i j k)
-        told-named i j k = go (bool-cases (ltb i (length xs))) (bool-cases (ltb j (length xs))) (bool-cases (ltb k (length xs)))
-          where
-            go : (ltb i (length xs) ≡ true) ⊎ (ltb i (length xs) ≡ false) → (ltb j (length xs) ≡ true) ⊎ (ltb j (length xs) ≡ false)
-                → (ltb k (length xs) ≡ true) ⊎ (ltb k (length xs) ≡ false) → told i j k ≡ clashTold (named i j k)
-            go (inr a) b c = rw a refl
-            go (inl a) (inr b) c = rw (a, b) refl
-            go (inl a) (inl b) (inr c) = rw (a, b, c) refl
-            go (inl a) (inl b) (inl c) =
-                rw (
-                  a,
-                  b,
-                  c,
-                  place i (ltb-true i (length xs) a),
-                  place j (ltb-true j (length xs) b),
-                  place k (ltb-true k (length xs) c),
-                )
-                refl
-
-        three-verdict : lacking s t xs 0 ≡ none
-            → threeOf numbers1 numbers2 order (placesOf xs .start) (length xs) ≡ verdictOf xs (answer s t xs)
-        unfolding threeOf
-        three-verdict e =
-            let i = firstOf numbers1 numbers2 (length xs) in
-            let j = secondOf numbers1 numbers2 (length xs) i in
-            told-named i j (thirdOf numbers1 numbers2 (length xs) i j)
-            ∙ ap clashTold (sym (first-clash-is s t (sorted xs) numbers1 numbers2 (length xs) (length-sorted xs) tells))
-            ∙ sym (answer-clash e)
+    told-verdict : lacking s t xs 0 ≡ none
+        → toldOf order (placesOf xs .start) (length xs) (clashRanks (sorted xs) (firstClash s t (sorted xs))) ≡ verdictOf xs (answer s t xs)
+    told-verdict e =
+        told-clash (firstClash s t (sorted xs)) (clash-found s t (sorted xs) (sorted-inc xs different)) ∙ sym (answer-clash e)
 
 nodes-is : (t : Tree) (tree : TreeArrays) → tree ≡ arraysOf t → tree .nodes ≡ nodesOf t
 unfolding arraysOf
 nodes-is t tree d = ap (λ (q : TreeArrays). q .nodes) d
-
--- the first nodes below and the ancestor numbers, over a tree's own arrays
-own-numbers : (t : Tree) (xs : List Label) (tree : TreeArrays) → tree ≡ arraysOf t → (count : ℕ) → count ≡ length xs
-    → (leaf order low numbers : List ℕ) → ((u : ℕ) → u < tree .nodes → LowAt (tree .left) low u)
-    → LcaNumbers low (tree .nodes) leaf order count numbers
-    → ((u : ℕ) → u < nodesOf t → LowAt (arraysOf t .left) low u) × LcaNumbers low (nodesOf t) leaf order (length xs) numbers
-unfolding arraysOf
-own-numbers t xs tree d count e leaf order low numbers w n =
-    subst
-    (λ (k : ℕ). ((u : ℕ) → u < nodesOf t → LowAt (arraysOf t .left) low u) × LcaNumbers low (nodesOf t) leaf order k numbers)
-    e
-    (subst
-    (λ (q : TreeArrays). ((u : ℕ) → u < q .nodes → LowAt (q .left) low u) × LcaNumbers low (q .nodes) leaf order count numbers)
-    d (w, n))
 
 module _ (s t : Tree) (xs : List Label) (first second list : List ℕ) (one two : TreeArrays) (places : LabelPlaces)
     (g : Given s t xs first second list one two places) where
@@ -327,12 +249,11 @@ module _ (s t : Tree) (xs : List Label) (first second list : List ℕ) (one two 
         go o h A k (lack-first n) = absurd (let z : _≡_ {A = ℕ} 0 1 = cc in omega arith)
         go o h A k (lack-second n) = absurd (let z : _≡_ {A = ℕ} 0 1 = cc in omega arith)
 
-    -- no label is lacking: the three searches decide
-    module _ (agreed : lack ≡ Agreed) (order low1 low2 numbers1 numbers2 : List ℕ)
+    -- no label is lacking: the search for a clash decides
+    module _ (agreed : lack ≡ Agreed) (order ranked1 ranked2 : List ℕ)
         (o : InOrder (rankIn list (places .start) (places .size) (places .count)) (places .count) (places .count) order)
-        (w1 : (u : ℕ) → u < one .nodes → LowAt (one .left) low1 u) (w2 : (u : ℕ) → u < two .nodes → LowAt (two .left) low2 u)
-        (n1 : LcaNumbers low1 (one .nodes) leaf1 order (places .count) numbers1)
-        (n2 : LcaNumbers low2 (two .nodes) leaf2 order (places .count) numbers2) where
+        (w1 : (r : ℕ) → r < places .count → getD ranked1 r 0 ≡ getD leaf1 (getD order r 0) 0)
+        (w2 : (r : ℕ) → r < places .count → getD ranked2 r 0 ≡ getD leaf2 (getD order r 0) 0) where
       shown : (k : ℕ) → k < length xs → labelIn list (places .start) (places .size) k ≡ getD xs k []
       shown k h =
           ap (λ (z : List ℕ). labelIn z (places .start) (places .size) k) (g .listed)
@@ -342,17 +263,34 @@ module _ (s t : Tree) (xs : List Label) (first second list : List ℕ) (one two 
       in-order : (r : ℕ) → r < length xs → (getD order r 0 < length xs) × (getD xs (getD order r 0) [] ≡ getD (sorted xs) r [])
       in-order = order-sorted xs (g .different) list (places .start) (places .size) (places .count) count-is shown order o
 
-      pub compared-verdict : threeOf numbers1 numbers2 order (places .start) (places .count) ≡ verdictOf xs (answer s t xs)
-      compared-verdict =
-          let h = held-all agreed in
-          let v = g .valid1 in
-          let w = g .valid2 in
-          let d = g .different in
-          let a = own-numbers s xs one (g .tree1) (places .count) count-is leaf1 order low1 numbers1 w1 n1 in
-          let b = own-numbers t xs two (g .tree2) (places .count) count-is leaf2 order low2 numbers2 w2 n2 in
-          ap (λ (q : LabelPlaces). threeOf numbers1 numbers2 order (q .start) (places .count)) (g .placed)
-          ∙ ap (λ (n : ℕ). threeOf numbers1 numbers2 order (placesOf xs .start) n) count-is
-          ∙ three-verdict s t xs v w d numbers1 numbers2
-          (lca-of s t xs v w d s v (λ j k. h .1 j k .0) leaf1 order low1 numbers1 l1 in-order (a .0) (a .1) (g .few))
-          (lca-of s t xs v w d t w (λ j k. h .1 j k .1) leaf2 order low2 numbers2 l2 in-order (b .0) (b .1) (g .few)) order in-order
-          (h .0)
+      ranked-first : RankedTree s (sorted xs) (one .left) (one .nodes) ranked1
+      ranked-first =
+          record {
+            valid = g .valid1;
+            children = ap (λ (q : TreeArrays). q .left) (g .tree1);
+            size = nodes-is s one (g .tree1);
+            numbered = leaves-ranked s t xs (g .valid1) (g .valid2) (g .different) order in-order s (g .valid1)
+                (λ j h. held-all agreed .1 j h .0) leaf1 ranked1 l1 (λ r h. w1 r (omega (arith, count-is)));
+          }
+
+      ranked-second : RankedTree t (sorted xs) (two .left) (two .nodes) ranked2
+      ranked-second =
+          record {
+            valid = g .valid2;
+            children = ap (λ (q : TreeArrays). q .left) (g .tree2);
+            size = nodes-is t two (g .tree2);
+            numbered = leaves-ranked s t xs (g .valid1) (g .valid2) (g .different) order in-order t (g .valid2)
+                (λ j h. held-all agreed .1 j h .1) leaf2 ranked2 l2 (λ r h. w2 r (omega (arith, count-is)));
+          }
+
+      pub compared-verdict : places .count ≤ 80 → (three : Ranked)
+          → ((u v : Tree) (C : List Label) → increasing C ≡ true → places .count ≡ length C → places .count ≤ 80
+          → RankedTree u C (one .left) (one .nodes) ranked1 → RankedTree v C (two .left) (two .nodes) ranked2
+          → three ≡ clashRanks C (firstClash u v C))
+          → toldOf order (places .start) (places .count) three ≡ verdictOf xs (answer s t xs)
+      compared-verdict few three search =
+          ap (λ (q : LabelPlaces). toldOf order (q .start) (places .count) three) (g .placed)
+          ∙ ap (λ (n : ℕ). toldOf order (placesOf xs .start) n three) count-is
+          ∙ ap (toldOf order (placesOf xs .start) (length xs))
+          (search s t (sorted xs) (sorted-inc xs (g .different)) (count-is ∙ sym (length-sorted xs)) few ranked-first ranked-second)
+          ∙ told-verdict s t xs (g .valid1) (g .valid2) (g .different) order in-order (held-all agreed .0)

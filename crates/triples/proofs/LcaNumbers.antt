@@ -1,8 +1,8 @@
 -- The number of a least common ancestor is the smallest number of a node that holds both leaves, and comparing these numbers
 -- tells the closer pair. Assumes nothing.
-use Prim.Native.Nat.{ℕ, zero, suc, _+_, _-_, _<_, _≤_}
+use Prim.Native.Nat.{ℕ, zero, suc, _+_, _-_, _<_, _≤_, min, max}
 use mathlib.Core.Path.{_≡_, refl, sym, _∙_, ap}
-use mathlib.Core.Bool.{true, false, not, _&&_}
+use mathlib.Core.Bool.{Bool, true, false, not, _&&_}
 use mathlib.Core.Logic.{_⊎_, inl, inr}
 use mathlib.Core.List.{List}
 use native.Mathlib.Omega.{arith}
@@ -21,7 +21,7 @@ use Rattle.agreement.specs.Closer.{holds, lca, closer}
 use Rattle.agreement.proofs.HoldsLaws.{distinct-node}
 use Rattle.agreement.proofs.CloserLaws.{lca-left, lca-right, lca-top}
 use Rattle.leaves.specs.Find.{leafFrom}
-use Rattle.triples.specs.Loops.{LowAt, bothBelow, lcaNumber}
+use Rattle.triples.specs.Loops.{LowAt, spanFrom, lcaNumber}
 use Rattle.triples.proofs.LoopLaws.{FirstHit, hit, none, first-hit}
 
 -- the nodes of subtree s, which ends at number w, stand in the tree's numbering from `low` on
@@ -138,47 +138,39 @@ lca-at-swap t a b n r =
 module _ (t : Tree) (d : distinct (leaves t) ≡ true) (left right low : List ℕ) (laid : Laid left right (postorder t))
     (filled : (u : ℕ) → u < nodesOf t → LowAt left low u) (a b : Label) (u v : ℕ) (below-u : u < nodesOf t)
     (below-v : v < nodesOf t) (is-a : subtree (postorder t) u ≡ leaf a) (is-b : subtree (postorder t) v ≡ leaf b) where
-  told : (w : ℕ) → w < nodesOf t → u ≤ w → bothBelow low u v w ≡ true
+  spans : ℕ → Bool
+  spans w = leb (getD low w 0) (min u v)
+
+  told : (w : ℕ) → w < nodesOf t → max u v ≤ w → spans w ≡ true
       → (holds (subtree (postorder t) w) a ≡ true) × (holds (subtree (postorder t) w) b ≡ true)
-  unfolding bothBelow
+  unfolding spans
   told w h k e =
       let r = run t w h in
       let z = low-is t d left right low laid filled (suc w) w (omega arith) h in
-      let x = leb (getD low w 0) u in
-      let y = leb (getD low w 0) v in
-      let p = leb-true (getD low w 0) u (and-left x (y && leb v w) e) in
-      let q = leb-true (getD low w 0) v (and-left y (leb v w) (and-right x (y && leb v w) e)) in
-      let o = leb-true v w (and-right y (leb v w) (and-right x (y && leb v w) e)) in (
-        run-holds t d a u below-u is-a w (subtree (postorder t) w) r (omega (arith, z, p)) k,
-        run-holds t d b v below-v is-b w (subtree (postorder t) w) r (omega (arith, z, q)) o,
+      let p = leb-true (getD low w 0) (min u v) e in (
+        run-holds t d a u below-u is-a w (subtree (postorder t) w) r (omega (arith, z, p)) (omega arith),
+        run-holds t d b v below-v is-b w (subtree (postorder t) w) r (omega (arith, z, p)) (omega arith),
       )
 
   tell : (w : ℕ) → w < nodesOf t → holds (subtree (postorder t) w) a ≡ true → holds (subtree (postorder t) w) b ≡ true
-      → (u ≤ w) × (bothBelow low u v w ≡ true)
-  unfolding bothBelow
+      → (max u v ≤ w) × (spans w ≡ true)
+  unfolding spans
   tell w h p q =
       let r = run t w h in
       let z = low-is t d left right low laid filled (suc w) w (omega arith) h in
       let k = holds-run t d a u below-u is-a w (subtree (postorder t) w) r h p in
-      let l = holds-run t d b v below-v is-b w (subtree (postorder t) w) r h q in (
-        k .1,
-        rw (
-          le-leb (getD low w 0) u (omega (arith, z, k)),
-          le-leb (getD low w 0) v (omega (arith, z, l)),
-          le-leb v w (l .1),
-        )
-            refl,
-      )
+      let l = holds-run t d b v below-v is-b w (subtree (postorder t) w) r h q in
+      (omega (arith, k, l), le-leb (getD low w 0) (min u v) (omega (arith, z, k, l)))
 
   held : (x : Label) (w : ℕ) → w < nodesOf t → subtree (postorder t) w ≡ leaf x → holds t x ≡ true
   unfolding holds
   held x w h e = subtree-in t w h x (leaf-held (subtree (postorder t) w) x e)
 
   pub lca-number-at : LcaAt t a b (lcaNumber low (nodesOf t) u v)
-  unfolding lcaNumber
-  lca-number-at = go (leafFrom (bothBelow low u v) (nodesOf t - u) u) (first-hit (bothBelow low u v) (nodesOf t - u) u)
+  unfolding lcaNumber spanFrom spans
+  lca-number-at = go (leafFrom spans (nodesOf t - max u v) (max u v)) (first-hit spans (nodesOf t - max u v) (max u v))
     where
-      go : (r : ℕ) → FirstHit (bothBelow low u v) (nodesOf t - u) u r → LcaAt t a b r
+      go : (r : ℕ) → FirstHit spans (nodesOf t - max u v) (max u v) r → LcaAt t a b r
       go r (hit h k e f) =
           let b = told r (omega arith) h e in
           record {

@@ -1,6 +1,8 @@
 pub mod LoopLaws
+pub mod SpanLaws
 pub mod LcaNumbers
 pub mod Ranks
+pub mod RowLaws
 pub mod ClashSearch
 pub mod Composed
 pub mod Readings

@@ -13,11 +13,11 @@ use borrow.Author.Tests.{eqb-true, eqb-false, ltb-true, lt-ltb, le-ltb}
 use Rattle.trees.specs.Label.{Label, labelLess}
 use Rattle.trees.specs.declared.Reason.the-variants.{FirstLacks, SecondLacks}
 use Rattle.trees.specs.declared.Body.the-variants.{K}
-use Rattle.triples.specs.declared.Agreement.the-variants.{Agreed, Disagree, Refused}
+use Rattle.triples.specs.declared.Agreement.the-variants.{Agreed, Refused}
 use Rattle.trees.proofs.Bools.{bool-cases}
 use Rattle.trees.proofs.LabelLaws.{less-irrefl}
 use Rattle.leaves.specs.Find.{leafFrom}
-use Rattle.triples.specs.Loops.{labelIn, lessCount, rankIn, lackFrom, InOrder, LowAt, thirdOf, secondOf, firstOf, threeOf}
+use Rattle.triples.specs.Loops.{labelIn, lessCount, rankIn, lackFrom, InOrder, LowAt}
 
 -- counting
 one-or-none : (b : Bool) → cond b 1 0 ≤ 1
@@ -171,25 +171,3 @@ first-hit is (suc n) u = go (is u) refl (first-hit is n (suc u))
     go false e (hit h l i f) = hit (omega arith) (omega arith) i (from-here e (leafFrom is n (suc u)) f)
     go false e (none h f) =
         none (omega arith) (λ k p q. from-here e (suc u + n) f k p (omega arith))
-
--- the three answers of the search for a clash
-module _ (one two order start : List ℕ) (count i j k : ℕ) (first : i ≡ firstOf one two count) where
-  pub no-first : count ≤ i → Agreed ≡ threeOf one two order start count
-  unfolding threeOf
-  no-first h = rw (← first, le-ltb i count h) refl
-
-  module _ (here : i < count) (second : j ≡ secondOf one two count i) where
-    pub no-second : count ≤ j → Agreed ≡ threeOf one two order start count
-    unfolding threeOf
-    no-second h = rw (← first, ← second, lt-ltb i count here, le-ltb j count h) refl
-
-    module _ (there : j < count) (third : k ≡ thirdOf one two count i j) where
-      pub no-third : count ≤ k → Agreed ≡ threeOf one two order start count
-      unfolding threeOf
-      no-third h = rw (← first, ← second, ← third, lt-ltb i count here, lt-ltb j count there, le-ltb k count h) refl
-
-      pub three-told : k < count
-          → Disagree (getD start (getD order i 0) 0) (getD start (getD order j 0) 0) (getD start (getD order k 0) 0)
-          ≡ threeOf one two order start count
-      unfolding threeOf
-      three-told h = rw (← first, ← second, ← third, lt-ltb i count here, lt-ltb j count there, lt-ltb k count h) refl

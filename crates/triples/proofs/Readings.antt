@@ -10,12 +10,12 @@ use Rattle.trees.specs.Label.{Label}
 use Rattle.trees.specs.Tree.{Tree}
 use Rattle.trees.specs.Arrays.{arraysOf}
 use Rattle.trees.specs.Reading.{Reading, good, refused}
-use Rattle.trees.proofs.ArrayLaws.{few-nodes}
 use Rattle.newick.specs.declared.TreeAnswer.the-variants as Trees
 use Rattle.newick.specs.declared.TreeRead.{TreeRead}
 use Rattle.newick.specs.ReadTree.{readTree, treeRead}
 use Rattle.newick.proofs.Accepts.{accepts}
 use Rattle.lists.specs.declared.ListAnswer.the-variants as Lists
+use Rattle.lists.specs.declared.LabelPlaces.{LabelPlaces}
 use Rattle.lists.specs.declared.ListRead.{ListRead}
 use Rattle.lists.specs.ReadList.{readList, listRead, placesOf}
 use Rattle.lists.proofs.Accepts.{list-accepts}
@@ -51,18 +51,18 @@ list-was body (refused x i) r n e a =
 
 -- a body that cannot be read decides
 first-body : (reading second : Reading Tree) (list : Reading (List Label)) (r : TreeRead) (x : Refusal) → r ≡ treeRead S reading
-    → r .answer ≡ Trees.Refused x → treeRefusal (r .answer) ≡ verdictOn reading second list
+    → r .answer ≡ Trees.Refused x → treeRefusal (r .answer) S ≡ verdictOn reading second list
 unfolding treeRead verdictOn treeRefusal
 first-body (good t) second list r x e a =
     absurd (let b = ap (λ (q : TreeRead). q .answer) e in let z : _≡_ {A = ℕ} 0 1 = cc in omega arith)
-first-body (refused y i) second list r x e a = ap (λ (q : TreeRead). treeRefusal (q .answer)) e
+first-body (refused y i) second list r x e a = ap (λ (q : TreeRead). treeRefusal (q .answer) S) e
 
 second-body : (s : Tree) (reading : Reading Tree) (list : Reading (List Label)) (r : TreeRead) (x : Refusal) → r ≡ treeRead T reading
-    → r .answer ≡ Trees.Refused x → treeRefusal (r .answer) ≡ verdictOnSecond s reading list
+    → r .answer ≡ Trees.Refused x → treeRefusal (r .answer) T ≡ verdictOnSecond s reading list
 unfolding treeRead verdictOnSecond treeRefusal
 second-body s (good t) list r x e a =
     absurd (let b = ap (λ (q : TreeRead). q .answer) e in let z : _≡_ {A = ℕ} 0 1 = cc in omega arith)
-second-body s (refused y i) list r x e a = ap (λ (q : TreeRead). treeRefusal (q .answer)) e
+second-body s (refused y i) list r x e a = ap (λ (q : TreeRead). treeRefusal (q .answer) T) e
 
 list-body : (s t : Tree) (reading : Reading (List Label)) (r : ListRead) (x : Refusal) → r ≡ listRead K reading
     → r .answer ≡ Lists.Refused x → listRefusal (r .answer) ≡ verdictOnList s t reading
@@ -73,7 +73,7 @@ list-body s t (refused y i) r x e a = ap (λ (q : ListRead). listRefusal (q .ans
 
 module _ (first second list : List ℕ) where
   pub first-refused : (r : TreeRead) (x : Refusal) → r ≡ treeRead S (readTree first) → r .answer ≡ Trees.Refused x
-      → treeRefusal (r .answer) ≡ verdict first second list
+      → treeRefusal (r .answer) S ≡ verdict first second list
   unfolding verdict
   first-refused r x e a = first-body (readTree first) (readTree second) (readList list) r x e a
 
@@ -84,7 +84,7 @@ module _ (first second list : List ℕ) where
     on-second = ap (λ (q : Reading Tree). verdictOn q (readTree second) (readList list)) (sym (s .read))
 
     pub second-refused : (r : TreeRead) (x : Refusal) → r ≡ treeRead T (readTree second) → r .answer ≡ Trees.Refused x
-        → treeRefusal (r .answer) ≡ verdict first second list
+        → treeRefusal (r .answer) T ≡ verdict first second list
     second-refused r x e a = second-body (s .tree) (readTree second) (readList list) r x e a ∙ on-second
 
     module _ (two : TreeRead) (t : TreeWas (readTree second) two) where
@@ -120,25 +120,9 @@ module _ (first second list : List ℕ) where
               few = c .3;
             }
 
-        pub few-read : (one .tree .nodes ≤ 159) × (two .tree .nodes ≤ 159) × (three .places .count ≤ 80)
-        unfolding arraysOf placesOf
-        few-read =
-            let g = given-read in
-            omega (
-              arith,
-              ap nodes-of (s .arrays),
-              ap nodes-of (t .arrays),
-              ap count-of (k .places),
-              few-nodes (s .tree) (g .valid1),
-              few-nodes (t .tree) (g .valid2),
-              g .few,
-            )
-          where
-            nodes-of : Rattle.trees.specs.declared.TreeArrays.TreeArrays → ℕ
-            nodes-of q = q .nodes
-
-            count-of : Rattle.lists.specs.declared.LabelPlaces.LabelPlaces → ℕ
-            count-of q = q .count
+        pub few-read : three .places .count ≤ 80
+        unfolding placesOf
+        few-read = omega (arith, ap (λ (q : LabelPlaces). q .count) (k .places), given-read .few)
 
 -- where the verdict is that the trees agree, all three bodies were read
 pub record AllRead (one two : Reading Tree) (three : Reading (List Label)) : Type 0 where

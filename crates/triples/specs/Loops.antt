@@ -1,11 +1,12 @@
 -- What the loops of the test compute, over the arrays that they are lent. Intermediate: nothing public rests on this text.
-use Prim.Native.Nat.{ℕ, zero, suc, _+_, _*_, _-_, _≤_, _<_}
+use Prim.Native.Nat.{ℕ, zero, suc, _+_, _-_, _%_, _≤_, _<_, min, max}
 use mathlib.Core.Path.{_≡_}
-use mathlib.Core.Bool.{Bool, true, cond, _&&_, _||_}
-use mathlib.Core.List.{List}
+use mathlib.Core.Bool.{Bool, true, cond, _||_}
+use mathlib.Core.List.{List, []}
 use lib.Dec.{ltb, leb}
 use lib.ListN.{length, getD}
-use Rattle.trees.specs.declared.Reason.the-variants.{FirstLacks, SecondLacks}
+use Rattle.trees.specs.declared.Reason.the-variants.{EndsTooSoon, FirstLacks, SecondLacks}
+use Rattle.trees.specs.declared.Body.{Body}
 use Rattle.trees.specs.declared.Body.the-variants.{K}
 use Rattle.trees.specs.declared.TreeArrays.{TreeArrays}
 use Rattle.trees.specs.Label.{Label, labelLess, distinct}
@@ -19,9 +20,10 @@ use Rattle.lists.specs.declared.ListAnswer.{ListAnswer}
 use Rattle.lists.specs.declared.ListAnswer.the-variants as Lists
 use Rattle.newick.specs.declared.TreeAnswer.{TreeAnswer}
 use Rattle.newick.specs.declared.TreeAnswer.the-variants as Trees
-use Rattle.agreement.specs.Answer.{differ}
+use Rattle.agreement.specs.Answer.{differ, clashing}
 use Rattle.leaves.specs.Find.{leafFrom, foundLeaf}
 use Rattle.triples.specs.declared.Agreement.{Agreement}
+use Rattle.triples.specs.declared.Three.{Three}
 use Rattle.triples.specs.declared.Agreement.the-variants.{Agreed, Disagree, Refused}
 
 -- label k of a list's text
@@ -61,67 +63,71 @@ lackFrom leaf1 nodes1 leaf2 nodes2 start (suc n) k =
 abbrev pub LowAt : List ℕ → List ℕ → ℕ → Type 0
 LowAt left low u = getD low u 0 ≡ cond (ltb (getD left u 0) u) (getD low (getD left u 0) 0) u
 
--- leaves u and v are below node w
-unfoldable pub bothBelow : List ℕ → ℕ → ℕ → ℕ → Bool
-bothBelow low u v w = leb (getD low w 0) u && (leb (getD low w 0) v && leb v w)
+-- the first node from b on whose first node below is not past a
+unfoldable pub spanFrom : List ℕ → ℕ → ℕ → ℕ → ℕ
+unfolding leafFrom
+spanFrom low a nodes b = leafFrom (λ w. leb (getD low w 0) a) (nodes - b) b
 
--- the number of the least common ancestor of leaves u and v: the first node from u on that has both below it
+-- the number of the least common ancestor of leaves u and v: the first node past neither that spans both
 unfoldable pub lcaNumber : List ℕ → ℕ → ℕ → ℕ → ℕ
-unfolding leafFrom bothBelow
-lcaNumber low nodes u v = leafFrom (bothBelow low u v) (nodes - u) u
+unfolding spanFrom
+lcaNumber low nodes u v = spanFrom low (min u v) nodes (max u v)
 
--- the number for the labels of ranks p and q, at p * 80 + q
-abbrev pub numberAt : List ℕ → ℕ → ℕ → ℕ
-numberAt numbers p q = getD numbers (p * 80 + q) 0
+-- the ancestor numbers of the label of rank i and the first n labels, as bytes
+abbrev pub LcaRow : List ℕ → ℕ → List ℕ → ℕ → ℕ → List ℕ → Type 0
+LcaRow low nodes leaf n i row =
+    (q : ℕ) → q < n → getD leaf i 0 < nodes → getD leaf q 0 < nodes
+    → getD row q 0 ≡ lcaNumber low nodes (getD leaf i 0) (getD leaf q 0) % 256
 
-abbrev pub LcaNumbers : List ℕ → ℕ → List ℕ → List ℕ → ℕ → List ℕ → Type 0
-LcaNumbers low nodes leaf order count numbers =
-    (p q : ℕ) → p < count → q < 80
-    → numberAt numbers p q ≡ lcaNumber low nodes (getD leaf (getD order p 0) 0) (getD leaf (getD order q 0) 0)
-
--- the labels of ranks i, j and k have different closer pairs, told by ancestor numbers
-unfoldable pub clashAt : List ℕ → List ℕ → ℕ → ℕ → ℕ → Bool
+-- two numbers are not ordered in one tree as in the other
+unfoldable pub apartOf : ℕ → ℕ → ℕ → ℕ → Bool
 unfolding differ
-clashAt one two i j k =
-    differ (ltb (numberAt one i j) (numberAt one i k)) (ltb (numberAt two i j) (numberAt two i k))
-    || (differ (ltb (numberAt one i k) (numberAt one i j)) (ltb (numberAt two i k) (numberAt two i j))
-    || differ (ltb (numberAt one j k) (numberAt one i j)) (ltb (numberAt two j k) (numberAt two i j)))
+apartOf x1 y1 x2 y2 = differ (ltb x1 y1) (ltb x2 y2) || differ (ltb y1 x1) (ltb y2 x2)
+
+-- the labels of ranks i, j and k clash
+unfoldable pub clashAt : Tree → Tree → List Label → ℕ → ℕ → ℕ → Bool
+unfolding clashing
+clashAt s t xs i j k = clashing s t (getD xs i []) (getD xs j []) (getD xs k [])
+
+-- the rows of rank i tell which later ranks clash
+abbrev pub Tells : (ℕ → ℕ → Bool) → ℕ → ℕ → List ℕ → List ℕ → Type 0
+Tells clash i count row1 row2 =
+    (j k : ℕ) → i < j → j < k → k < count
+    → clash j k ≡ apartOf (getD row1 j 0) (getD row1 k 0) (getD row2 j 0) (getD row2 k 0)
 
 -- the first rank past j, past i, and of all, that begins or ends a clash; the number of labels where there is none
-unfoldable pub thirdOf : List ℕ → List ℕ → ℕ → ℕ → ℕ → ℕ
-unfolding leafFrom clashAt
-thirdOf one two count i j = leafFrom (clashAt one two i j) (count - (j + 1)) (j + 1)
+unfoldable pub thirdOf : (ℕ → ℕ → Bool) → ℕ → ℕ → ℕ
+unfolding leafFrom
+thirdOf clash count j = leafFrom (clash j) (count - (j + 1)) (j + 1)
 
-unfoldable pub secondOf : List ℕ → List ℕ → ℕ → ℕ → ℕ
+unfoldable pub secondOf : (ℕ → ℕ → Bool) → ℕ → ℕ → ℕ
 unfolding leafFrom thirdOf
-secondOf one two count i = leafFrom (λ j. ltb (thirdOf one two count i j) count) (count - (i + 1)) (i + 1)
+secondOf clash count i = leafFrom (λ j. ltb (thirdOf clash count j) count) (count - (i + 1)) (i + 1)
 
-unfoldable pub firstOf : List ℕ → List ℕ → ℕ → ℕ
+unfoldable pub firstOf : (ℕ → ℕ → ℕ → Bool) → ℕ → ℕ
 unfolding leafFrom secondOf
-firstOf one two count = leafFrom (λ i. ltb (secondOf one two count i) count) (count - 0) 0
+firstOf clash count = leafFrom (λ i. ltb (secondOf (clash i) count i) count) (count - 0) 0
 
--- the places of the first three labels that clash
-unfoldable pub threeOf : List ℕ → List ℕ → List ℕ → List ℕ → ℕ → Agreement
-unfolding firstOf secondOf thirdOf
-threeOf one two order start count =
-    let i = firstOf one two count in
-    let j = secondOf one two count i in
-    let k = thirdOf one two count i j in
-    cond (ltb i count)
-    (cond (ltb j count)
-    (cond (ltb k count)
-    (Disagree (getD start (getD order i 0) 0) (getD start (getD order j 0) 0) (getD start (getD order k 0) 0))
-    Agreed)
-    Agreed)
+-- the verdict on three ranks: the places of their labels, where there are three
+unfoldable pub toldOf : List ℕ → List ℕ → ℕ → Three → Agreement
+toldOf order start count r =
+    cond (ltb (r .first) count)
+    (Disagree (getD start (getD order (r .first) 0) 0) (getD start (getD order (r .second) 0) 0)
+    (getD start (getD order (r .third) 0) 0))
     Agreed
 
--- the refusal that a reader's answer carries
-unfoldable pub treeRefusal : TreeAnswer → Agreement
-treeRefusal (Trees.Leaves n) = Agreed
-treeRefusal (Trees.Refused r) = Refused r
+-- the refusal that a reader's answer carries; an answer that carries none does not come here, and is refused too
+unfoldable pub unreadBody : Body → Agreement
+unreadBody body = Refused (record { reason = EndsTooSoon; body = body; place = 0 })
+
+unfoldable pub treeRefusal : TreeAnswer → Body → Agreement
+unfolding unreadBody
+treeRefusal (Trees.Leaves n) body = unreadBody body
+treeRefusal (Trees.Refused r) body = Refused r
 
 unfoldable pub listRefusal : ListAnswer → Agreement
-listRefusal (Lists.Labels n) = Agreed
+unfolding unreadBody
+listRefusal (Lists.Labels n) = unreadBody K
 listRefusal (Lists.Refused r) = Refused r
 
 -- two trees and a list as the readers hand them over

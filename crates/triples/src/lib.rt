@@ -1,8 +1,6 @@
 // The test of agreement: do two trees have the same closer pairs for each three labels of a list?
 //
-// No public function has a `requires`: texts of any length and any bytes are answered. Nodes are numbered children first, so of
-// two ancestors of a leaf the smaller number is the nearer one: closer pairs are told by comparing numbers. Labels go by their
-// rank in label order.
+// No public function has a `requires`: texts of any length and any bytes are answered. Labels go by their rank in label order.
 use lists::LabelPlaces;
 use lists::ListAnswer;
 use newick::TreeAnswer;
@@ -11,17 +9,24 @@ use trees::Reason;
 use trees::Refusal;
 use trees::TreeArrays;
 ghost use mathlib.Core.Path.{_≡_};
-ghost use mathlib.Core.Bool.{cond};
+ghost use mathlib.Core.Bool.{true, cond};
 ghost use mathlib.Core.List.{List};
-ghost use Prim.Native.Nat.{ℕ, _<_, _≤_};
-ghost use lib.Dec.{ltb};
-ghost use lib.ListN.{getD};
+ghost use Prim.Native.Nat.{ℕ, _<_, _≤_, min};
+ghost use lib.ListN.{length, getD};
 ghost use Rattle.trees.specs.Label.{Label, labelLess};
 ghost use Rattle.trees.specs.Tree.{Tree};
-ghost use Rattle.agreement.specs.Answer.{answer, differ};
+ghost use Rattle.agreement.specs.Sets.{increasing};
+ghost use Rattle.agreement.specs.Answer.{answer, firstClash};
 ghost use Rattle.triples.specs.Verdict.{verdict, verdictOf};
-ghost use Rattle.triples.specs.Loops.{labelIn, rankIn, InOrder, LeavesFound, lackFrom, LowAt, bothBelow, lcaNumber, LcaNumbers};
-ghost use Rattle.triples.specs.Loops.{clashAt, thirdOf, secondOf, firstOf, threeOf, treeRefusal, listRefusal, Given};
+ghost use Rattle.triples.specs.Clash.{clashRanks, RankedTree, Ranks};
+ghost use Rattle.triples.specs.Loops.{labelIn, rankIn, InOrder, LeavesFound, lackFrom, toldOf, unreadBody, treeRefusal, listRefusal, Given};
+use crate::ancestors::lca_row;
+use crate::ancestors::lows;
+use crate::search::second;
+use crate::search::third;
+
+mod ancestors;
+mod search;
 
 // The trees agree on the list; or the places in the list of the first three labels, in label order, that have different
 // closer pairs; or why a text was turned down, the list's as body K.
@@ -29,6 +34,13 @@ pub enum Agreement {
     Agreed,
     Disagree(usize, usize, usize),
     Refused(Refusal),
+}
+
+// Three labels by their ranks in label order.
+pub struct Three {
+    pub first: usize,
+    pub second: usize,
+    pub third: usize,
 }
 
 // 1 where label j of the list comes before label k in label order, else 0.
@@ -145,177 +157,82 @@ fn lacking(
     Agreement::Agreed
 }
 
-// The number of the first node below node u.
-fn low_at(left: &[usize; 159], low: &[usize; 159], u: usize) -> usize
-    requires { ⌜ u < 159 ⌝ }
-    ensures { λ r. ⌜ r ≡ cond (ltb (getD (now (left .entry)) u 0) u) (getD (now (low .entry)) (getD (now (left .entry)) u 0) 0) u ⌝ }
+// The smaller number.
+fn least(a: usize, b: usize) -> usize
+    ensures { λ r. ⌜ r ≡ min a b ⌝ }
 {
-    let child = left[u];
-    if child < u { low[child] } else { u }
+    if a < b { a } else { b }
 }
 
-// The number of the first node below each node: the nodes below node u are those from there to u.
-fn lows(left: &[usize; 159], nodes: usize) -> [usize; 159]
-    requires { ⌜ nodes ≤ 159 ⌝ }
-    ensures { λ r. ⌜ ((u : ℕ) → u < nodes → LowAt (now (left .entry)) r u) ⌝ }
-{
-    let mut low = [0usize; 159];
-    let mut u: usize = 0;
-    while u < nodes {
-        let first = low_at(left, &low, u);
-        low[u] = first;
-        u += 1;
-    }
-    low
-}
-
-// Leaves u and v are below node w, where u is not past w.
-fn both_below(low: &[usize; 159], u: usize, v: usize, w: usize) -> bool
-    requires { ⌜ w < 159 ⌝ }
-    ensures { λ r. ⌜ r ≡ bothBelow (now (low .entry)) u v w ⌝ }
-{
-    let first = low[w];
-    if u < first {
-        return false;
-    }
-    if v < first {
-        return false;
-    }
-    v <= w
-}
-
-// The number of the least common ancestor of leaves u and v.
-fn lca_number(low: &[usize; 159], nodes: usize, u: usize, v: usize) -> usize
-    requires { ⌜ nodes ≤ 159 ⌝ }
-    ensures { λ r. ⌜ r ≡ lcaNumber (now (low .entry)) nodes u v ⌝ }
-{
-    let mut w = u;
-    while w < nodes {
-        if both_below(low, u, v, w) {
-            return w;
-        }
-        w += 1;
-    }
-    w
-}
-
-// The same for the labels of ranks p and q, at p * 80 + q.
-fn lca_numbers(
-    low: &[usize; 159],
-    nodes: usize,
-    leaf: &[usize; 80],
-    order: &[usize; 80],
+// The first three labels, in label order, that have different closer pairs in two trees, by their ranks among `count` labels; three
+// times the count where the trees agree on them all. A tree is given by its arrays' left children and how many nodes it has, the
+// labels by the numbers of their leaves in label order. What arrays of no tree give is left free but for `Ranks`.
+pub fn first_clash(
+    left1: &[usize; 159],
+    nodes1: usize,
+    leaf1: &[usize; 80],
+    left2: &[usize; 159],
+    nodes2: usize,
+    leaf2: &[usize; 80],
     count: usize,
-) -> [usize; 6400]
-    requires { ⌜ (nodes ≤ 159) × (count ≤ 80) × ((i : ℕ) → getD (now order) i 0 < 80) ⌝ }
-    ensures { λ r. ⌜ LcaNumbers (now (low .entry)) nodes (now (leaf .entry)) (now (order .entry)) count r ⌝ }
+) -> Three
+    ensures { λ r. ⌜ Ranks (min count 80) r ⌝ }
+    ensures { λ r. ⌜ ((s t : Tree) (xs : List Label) → increasing xs ≡ true → count ≡ length xs → count ≤ 80
+        → RankedTree s xs (now (left1 .entry)) nodes1 (now (leaf1 .entry))
+        → RankedTree t xs (now (left2 .entry)) nodes2 (now (leaf2 .entry))
+        → r ≡ clashRanks xs (firstClash s t xs)) ⌝ }
 {
-    let end = count * 80;
-    let mut numbers = [0usize; 6400];
-    let mut c: usize = 0;
-    while c < end {
-        let p = order[c / 80];
-        let q = order[c % 80];
-        let n = lca_number(low, nodes, leaf[p], leaf[q]);
-        numbers[c] = n;
-        c += 1;
-    }
-    numbers
-}
-
-// One tree has the first number below the second, and the other tree has not.
-fn differs(a1: usize, b1: usize, a2: usize, b2: usize) -> bool
-    ensures { λ r. ⌜ r ≡ differ (ltb a1 b1) (ltb a2 b2) ⌝ }
-{
-    if a1 < b1 { !(a2 < b2) } else { a2 < b2 }
-}
-
-// The labels of ranks i, j and k have different closer pairs in the two trees.
-fn clashes(one: &[usize; 6400], two: &[usize; 6400], i: usize, j: usize, k: usize) -> bool
-    requires { ⌜ (i < 80) × (j < 80) × (k < 80) ⌝ }
-    ensures { λ r. ⌜ r ≡ clashAt (now (one .entry)) (now (two .entry)) i j k ⌝ }
-{
-    let ij1 = one[i * 80 + j];
-    let ik1 = one[i * 80 + k];
-    let jk1 = one[j * 80 + k];
-    let ij2 = two[i * 80 + j];
-    let ik2 = two[i * 80 + k];
-    let jk2 = two[j * 80 + k];
-    if differs(ij1, ik1, ij2, ik2) {
-        return true;
-    }
-    if differs(ik1, ij1, ik2, ij2) {
-        return true;
-    }
-    differs(jk1, ij1, jk2, ij2)
-}
-
-// The first rank past j that clashes with i and j, or `count`.
-fn third(one: &[usize; 6400], two: &[usize; 6400], count: usize, i: usize, j: usize) -> usize
-    requires { ⌜ (count ≤ 80) × (i < count) × (j < count) ⌝ }
-    ensures { λ r. ⌜ r ≡ thirdOf (now (one .entry)) (now (two .entry)) count i j ⌝ }
-{
-    let mut k = j + 1;
-    while k < count {
-        if clashes(one, two, i, j, k) {
-            return k;
-        }
-        k += 1;
-    }
-    k
-}
-
-// The first rank past i that begins a clash with i, or `count`.
-fn second(one: &[usize; 6400], two: &[usize; 6400], count: usize, i: usize) -> usize
-    requires { ⌜ (count ≤ 80) × (i < count) ⌝ }
-    ensures { λ r. ⌜ r ≡ secondOf (now (one .entry)) (now (two .entry)) count i ⌝ }
-{
-    let mut j = i + 1;
-    while j < count {
-        if third(one, two, count, i, j) < count {
-            return j;
-        }
-        j += 1;
-    }
-    j
-}
-
-// The first rank that begins a clash, or `count`.
-fn first_rank(one: &[usize; 6400], two: &[usize; 6400], count: usize) -> usize
-    requires { ⌜ count ≤ 80 ⌝ }
-    ensures { λ r. ⌜ r ≡ firstOf (now (one .entry)) (now (two .entry)) count ⌝ }
-{
+    let most = least(count, 80);
+    let end1 = least(nodes1, 159);
+    let end2 = least(nodes2, 159);
+    let low1 = lows(left1, end1);
+    let low2 = lows(left2, end2);
     let mut i: usize = 0;
-    while i < count {
-        if second(one, two, count, i) < count {
-            return i;
+    while i < most {
+        let row1 = lca_row(&low1, end1, leaf1, most, i);
+        let row2 = lca_row(&low2, end2, leaf2, most, i);
+        let j = second(&row1, &row2, most, i);
+        if j < most {
+            let k = third(&row1, &row2, most, j);
+            return Three {
+                first: i,
+                second: j,
+                third: k,
+            };
         }
         i += 1;
     }
-    i
+    Three {
+        first: most,
+        second: most,
+        third: most,
+    }
 }
 
-// The places of the first three labels that clash, or `Agreed`.
-fn first_three(
-    one: &[usize; 6400],
-    two: &[usize; 6400],
-    order: &[usize; 80],
-    start: &[usize; 80],
-    count: usize,
-) -> Agreement
+// The leaf numbers of the list's labels in label order.
+fn ranked(leaf: &[usize; 80], order: &[usize; 80], count: usize) -> [usize; 80]
     requires { ⌜ (count ≤ 80) × ((i : ℕ) → getD (now order) i 0 < 80) ⌝ }
-    ensures { λ r. ⌜ r ≡ threeOf (now (one .entry)) (now (two .entry)) (now (order .entry)) (now (start .entry)) count ⌝ }
+    ensures { λ r. ⌜ ((i : ℕ) → i < count → getD r i 0 ≡ getD (now (leaf .entry)) (getD (now (order .entry)) i 0) 0) ⌝ }
 {
-    let i = first_rank(one, two, count);
+    let mut by_rank = [0usize; 80];
+    let mut i: usize = 0;
+    while i < count {
+        let k = order[i];
+        by_rank[i] = leaf[k];
+        i += 1;
+    }
+    by_rank
+}
+
+// The verdict on three ranks: the places of their labels, or that there are none.
+fn told(three: Three, order: &[usize; 80], start: &[usize; 80], count: usize) -> Agreement
+    requires { ⌜ (count ≤ 80) × ((i : ℕ) → getD (now order) i 0 < 80) × Ranks count three ⌝ }
+    ensures { λ r. ⌜ r ≡ toldOf (now (order .entry)) (now (start .entry)) count three ⌝ }
+{
+    let i = three.first;
+    let j = three.second;
+    let k = three.third;
     if count <= i {
-        return Agreement::Agreed;
-    }
-    let j = second(one, two, count, i);
-    if count <= j {
-        return Agreement::Agreed;
-    }
-    let k = third(one, two, count, i, j);
-    if count <= k {
         return Agreement::Agreed;
     }
     let a = order[i];
@@ -333,7 +250,7 @@ fn compared(
     list: &[u8],
     places: LabelPlaces,
 ) -> Agreement
-    requires { ⌜ (one .nodes ≤ 159) × (two .nodes ≤ 159) × (places .count ≤ 80) ⌝ }
+    requires { ⌜ places .count ≤ 80 ⌝ }
     ensures { λ r. ⌜ ((s t : Tree) (xs : List Label)
         → Given s t xs (now (first .entry)) (now (second .entry)) (now (list .entry)) one two places
         → r ≡ verdictOf xs (answer s t xs)) ⌝ }
@@ -347,21 +264,39 @@ fn compared(
         return lack;
     };
     let order = label_order(list, places);
+    let leaves1 = ranked(&leaf1, &order, count);
+    let leaves2 = ranked(&leaf2, &order, count);
     let left1 = one.left;
     let left2 = two.left;
-    let low1 = lows(&left1, one.nodes);
-    let low2 = lows(&left2, two.nodes);
-    let numbers1 = lca_numbers(&low1, one.nodes, &leaf1, &order, count);
-    let numbers2 = lca_numbers(&low2, two.nodes, &leaf2, &order, count);
-    first_three(&numbers1, &numbers2, &order, &start, count)
+    let three = first_clash(
+        &left1,
+        one.nodes,
+        &leaves1,
+        &left2,
+        two.nodes,
+        &leaves2,
+        count,
+    );
+    told(three, &order, &start, count)
+}
+
+// A text that was turned down, though its reader does not say why: it does not come about.
+fn unread(body: Body) -> Agreement
+    ensures { λ r. ⌜ r ≡ unreadBody body ⌝ }
+{
+    Agreement::Refused(Refusal {
+        reason: Reason::EndsTooSoon,
+        body,
+        place: 0,
+    })
 }
 
 // The refusal of a tree text that was turned down.
-fn tree_refusal(answer: TreeAnswer) -> Agreement
-    ensures { λ r. ⌜ r ≡ treeRefusal answer ⌝ }
+fn tree_refusal(answer: TreeAnswer, body: Body) -> Agreement
+    ensures { λ r. ⌜ r ≡ treeRefusal answer body ⌝ }
 {
     match answer {
-        TreeAnswer::Leaves(_) => Agreement::Agreed,
+        TreeAnswer::Leaves(_) => unread(body),
         TreeAnswer::Refused(refusal) => Agreement::Refused(refusal),
     }
 }
@@ -371,7 +306,7 @@ fn list_refusal(answer: ListAnswer) -> Agreement
     ensures { λ r. ⌜ r ≡ listRefusal answer ⌝ }
 {
     match answer {
-        ListAnswer::Labels(_) => Agreement::Agreed,
+        ListAnswer::Labels(_) => unread(Body::K),
         ListAnswer::Refused(refusal) => Agreement::Refused(refusal),
     }
 }
@@ -384,12 +319,12 @@ pub fn agree_on(first: &[u8], second: &[u8], list: &[u8]) -> Agreement
     let one = newick::read_tree(first, Body::S);
     let answer1 = one.answer;
     let TreeAnswer::Leaves(_) = answer1 else {
-        return tree_refusal(answer1);
+        return tree_refusal(answer1, Body::S);
     };
     let two = newick::read_tree(second, Body::T);
     let answer2 = two.answer;
     let TreeAnswer::Leaves(_) = answer2 else {
-        return tree_refusal(answer2);
+        return tree_refusal(answer2, Body::T);
     };
     let three = lists::read_list(list, Body::K);
     let answer3 = three.answer;

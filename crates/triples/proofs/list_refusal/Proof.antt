@@ -1,5 +1,5 @@
--- Both arms compute to the definition. Assumes nothing.
-use mathlib.Core.Path.{refl}
+-- By cases on the answer. Assumes nothing.
+use mathlib.Core.Path.{refl, _∙_}
 use Rattle.triples.specs.Loops.{listRefusal}
 use borrow.Author.Needs.{needs}
 use Rattle.triples.proofs.list_refusal.Statement.{statement}
@@ -8,13 +8,16 @@ use Rattle.triples.proofs.list_refusal.Tie as tie
 enum-told : tie.Need-enum-told
 enum-told c = search needs
 
+unread-requires : tie.Need-unread-requires
+unread-requires c κs = search needs
+
 enum-known-answer : tie.Need-enum-known-answer
 enum-known-answer c = search needs
 
 returns : tie.Need-returns
 unfolding listRefusal
 returns c =
-    rw (c .enum-told .given .1) refl
+    c .unread .ensures ∙ rw (c .before .enum-told .given .1) refl
 
 returns-2 : tie.Need-returns-2
 unfolding listRefusal
@@ -22,4 +25,5 @@ returns-2 c =
     rw (c .before .answer .given .1) refl
 
 pub list-refusal-spec : {M : Type 1} → statement M
-list-refusal-spec = tie.close (tie.spec enum-told enum-known-answer returns returns-2)
+list-refusal-spec =
+    tie.close (tie.spec enum-told unread-requires enum-known-answer returns returns-2)

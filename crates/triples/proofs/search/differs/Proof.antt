@@ -2,8 +2,8 @@
 use mathlib.Core.Path.{refl}
 use borrow.Author.Tests.{lt-ltb, le-ltb}
 use Rattle.agreement.specs.Answer.{differ}
-use Rattle.triples.proofs.differs.Statement.{statement}
-use Rattle.triples.proofs.differs.Tie as tie
+use Rattle.triples.proofs.search.differs.Statement.{statement}
+use Rattle.triples.proofs.search.differs.Tie as tie
 
 returns : tie.Need-returns
 unfolding differ

@@ -2,8 +2,8 @@
 use mathlib.Core.Path.{refl}
 use borrow.Author.Tests.{lt-ltb, le-ltb}
 use borrow.Author.Needs.{needs}
-use Rattle.triples.proofs.low_at.Statement.{statement}
-use Rattle.triples.proofs.low_at.Tie as tie
+use Rattle.triples.proofs.ancestors.low_at.Statement.{statement}
+use Rattle.triples.proofs.ancestors.low_at.Tie as tie
 
 mul-child : tie.Need-mul-child
 mul-child c = search needs

@@ -5,8 +5,8 @@ use native.Mathlib.Omega.{arith}
 use lib.ListN.{length, length-set, length-replicate}
 use Rattle.triples.specs.Loops.{LowAt}
 use Rattle.triples.proofs.LoopLaws.{low-next}
-use Rattle.triples.proofs.lows.Statement.{statement}
-use Rattle.triples.proofs.lows.Tie as tie
+use Rattle.triples.proofs.ancestors.lows.Statement.{statement}
+use Rattle.triples.proofs.ancestors.lows.Tie as tie
 
 abbrev Inv-loop : tie.InvT-loop
 Inv-loop left nodes low₀ u₀ low u =

@@ -1,0 +1,95 @@
+-- The invariant: each rank passed has its number, by the side of u that its leaf is on. Assumes nothing.
+use Rattle.triples.proofs.SpanLaws.{on-side-is}
+use Rattle.triples.specs.Loops.{LcaRow, lcaNumber}
+use Prim.Native.Nat.{ℕ, _≤_, _<_, _-_, _+_, _%_}
+use mathlib.Core.Path.{_≡_, _∙_, ap₂}
+use native.Mathlib.Omega.{arith}
+use lib.ListN.{length, getD, length-set, length-replicate}
+use Rattle.triples.proofs.LoopLaws.{store-next}
+use Rattle.triples.proofs.ancestors.lca_row.Statement.{statement}
+use Rattle.triples.proofs.ancestors.lca_row.Tie as tie
+
+abbrev Inv-loop : tie.InvT-loop
+Inv-loop low nodes leaf count i u before after row₀ q₀ row q =
+    (q ≤ count) × (length row ≡ 80) × LcaRow low nodes leaf q i row
+
+abbrev μ-loop : tie.MeasureT-loop
+μ-loop low nodes leaf count i u before after row₀ q₀ row q =
+    count - q
+
+leaf-of-requires : tie.Need-leaf-of-requires Inv-loop μ-loop
+leaf-of-requires c κs =
+    omega arith
+
+ancestors-before-requires : tie.Need-ancestors-before-requires Inv-loop μ-loop
+ancestors-before-requires c κs =
+    omega arith
+
+ancestors-after-requires : tie.Need-ancestors-after-requires Inv-loop μ-loop
+ancestors-after-requires c κs =
+    omega arith
+
+loop-holds : tie.Need-loop-holds Inv-loop μ-loop
+loop-holds c =
+    (omega arith, simp length-replicate, λ k h. absurd (omega arith))
+
+leaf-of-requires-2 : tie.Need-leaf-of-requires-2 Inv-loop μ-loop
+leaf-of-requires-2 c κs =
+    omega arith
+
+on-side-requires : tie.Need-on-side-requires Inv-loop μ-loop
+on-side-requires c κs =
+    omega arith
+
+array-write-row : tie.Need-array-write-row Inv-loop μ-loop
+array-write-row c =
+    omega arith
+
+add-q : tie.Need-add-q Inv-loop μ-loop
+add-q c =
+    omega arith
+
+loop-less : tie.Need-loop-less Inv-loop μ-loop
+loop-less c =
+    omega arith
+
+loop-again : tie.Need-loop-again Inv-loop μ-loop
+loop-again c =
+    let v = c .before .before .before .before .before .loop .inv in
+    let s = c .before .before .before .before .before .before .before .before .before .args in
+    let q = c .before .before .before .before .before .loop .q in (
+      omega arith,
+      simp length-set (v .1),
+      store-next
+          (λ k x. getD (s .leaf .now) (s .i) 0 < s .nodes → getD (s .leaf .now) k 0 < s .nodes
+          → x ≡ lcaNumber (s .low .now) (s .nodes) (getD (s .leaf .now) (s .i) 0) (getD (s .leaf .now) k 0) % 256)
+          (c .before .before .before .before .before .loop .row) q _ (omega (arith, v .1)) (v .2)
+          (λ h k.
+          let a = c .before .before .before .before .before .before .before .before .leaf-of .ensures .1 (omega arith) in
+          let b = c .before .before .before .leaf-of2 .ensures .1 (omega arith) in
+          c .on-side .ensures
+          ∙ on-side-is (s .low .now) (c .before .before .before .before .before .before .before .ancestors-before .result) (c .before .before .before .before .before .before .ancestors-after .result) (s .nodes) _ _ (c .before .before .before .before .before .before .before .ancestors-before .ensures) (c .before .before .before .before .before .before .ancestors-after .ensures) (omega arith)
+          ∙ ap₂ (λ (x y : ℕ). lcaNumber (s .low .now) (s .nodes) x y % 256) a b),
+    )
+
+returns : tie.Need-returns Inv-loop μ-loop
+returns c =
+    λ k h. c .before .loop .inv .2 k (omega arith)
+
+pub lca-row-spec : {M : Type 1} → statement M
+lca-row-spec =
+    tie.close
+    (tie.spec
+    Inv-loop
+    μ-loop
+    leaf-of-requires
+    ancestors-before-requires
+    ancestors-after-requires
+    loop-holds
+    leaf-of-requires-2
+    on-side-requires
+    array-write-row
+    add-q
+    loop-less
+    loop-again
+    returns)

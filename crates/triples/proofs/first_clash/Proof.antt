@@ -1,0 +1,160 @@
+-- The invariant: the search from rank i on finds what the search of all ranks finds. Assumes nothing.
+use Rattle.triples.specs.declared.Three.{Three}
+use Rattle.triples.specs.Clash.{RankedTree, Ranks}
+use Rattle.triples.proofs.ClashSearch.{second-later, ranks-found, ranks-none, found-is, none-is}
+use borrow.Author.Needs.{needs}
+use Prim.Native.Nat.{ℕ, _-_, _<_, _≤_, _+_}
+use mathlib.Core.Path.{_≡_, refl, sym, _∙_, ap, subst}
+use mathlib.Core.Bool.{Bool, true}
+use mathlib.Core.List.{List}
+use native.Mathlib.Omega.{arith}
+use lib.Dec.{ltb}
+use lib.ListN.{length, getD}
+use borrow.Author.Tests.{lt-ltb, le-ltb}
+use Rattle.trees.specs.Label.{Label}
+use Rattle.trees.specs.Tree.{Tree}
+use Rattle.agreement.specs.Sets.{increasing}
+use Rattle.agreement.proofs.SetLaws.{inc-distinct}
+use Rattle.leaves.specs.Find.{leafFrom}
+use Rattle.leaves.proofs.FindLaws.{from-hit, from-miss, from-end}
+use Rattle.triples.specs.Loops.{apartOf, clashAt, Tells, secondOf, firstOf}
+use Rattle.triples.proofs.RowLaws.{rows-tell}
+use Rattle.triples.proofs.first_clash.Statement.{statement}
+use Rattle.triples.proofs.first_clash.Tie as tie
+
+abbrev Inv-loop : tie.InvT-loop
+Inv-loop left1 nodes1 leaf1 left2 nodes2 leaf2 count most end1 end2 low1 low2 i₀ i =
+    (i ≤ most) × ((s t : Tree) (xs : List Label) → increasing xs ≡ true → most ≡ length xs → RankedTree s xs left1 nodes1 leaf1
+    → RankedTree t xs left2 nodes2 leaf2
+    → leafFrom (λ k. ltb (secondOf (clashAt s t xs k) most k) most) (most - i) i ≡ firstOf (clashAt s t xs) most)
+
+abbrev μ-loop : tie.MeasureT-loop
+μ-loop left1 nodes1 leaf1 left2 nodes2 leaf2 count most end1 end2 low1 low2 i₀ i =
+    most - i
+
+least-requires : tie.Need-least-requires Inv-loop μ-loop
+least-requires c κs =
+    search needs
+
+least-requires-2 : tie.Need-least-requires-2 Inv-loop μ-loop
+least-requires-2 c κs =
+    search needs
+
+least-requires-3 : tie.Need-least-requires-3 Inv-loop μ-loop
+least-requires-3 c κs =
+    search needs
+
+lows-requires : tie.Need-lows-requires Inv-loop μ-loop
+lows-requires c κs =
+    omega arith
+
+lows-requires-2 : tie.Need-lows-requires-2 Inv-loop μ-loop
+lows-requires-2 c κs =
+    omega arith
+
+loop-holds : tie.Need-loop-holds Inv-loop μ-loop
+unfolding firstOf
+loop-holds c =
+    (omega arith, λ s t xs h l p q. refl)
+
+lca-row-requires : tie.Need-lca-row-requires Inv-loop μ-loop
+lca-row-requires c κs =
+    omega arith
+
+lca-row-requires-2 : tie.Need-lca-row-requires-2 Inv-loop μ-loop
+lca-row-requires-2 c κs =
+    omega arith
+
+second-requires : tie.Need-second-requires Inv-loop μ-loop
+second-requires c κs =
+    omega arith
+
+third-requires : tie.Need-third-requires Inv-loop μ-loop
+third-requires c κs =
+    omega arith
+
+returns : tie.Need-returns Inv-loop μ-loop
+returns c =
+    let n = c .before .before .before .before .before .before .before .before .before .before .before .before .before .before .before .before .before .least .result in
+    let i = c .before .before .before .before .before .before .before .before .before .before .before .before .loop .i in
+    let j = c .before .before .before .before .second .result in
+    let row1 = c .before .before .before .before .before .before .before .before .before .lca-row .result in
+    let row2 = c .before .before .before .before .before .before .before .lca-row2 .result in
+    let a = c .before .before .before .before .before .before .before .before .before .before .before .before .before .before .before .before .before .before .args in
+    let own : ℕ → ℕ → Bool = λ p q. apartOf (getD row1 p 0) (getD row1 q 0) (getD row2 p 0) (getD row2 q 0) in
+    let two = c .before .before .before .before .second .ensures own (λ p q _ _ _. refl) in
+    let later = second-later own n i j two in
+    let ranks = ranks-found own n i j (c .third .result) (c .before .before .before .before .before .before .before .before .before .before .before .loop-test .taken) two (c .before .before .before .if1 .taken)
+    (c .third .ensures own i later (λ p q _ _ _. refl)) in (
+      subst (λ (m : ℕ). Ranks m (record { first = i; second = j; third = c .third .result })) (c .before .before .before .before .before .before .before .before .before .before .before .before .before .before .before .before .before .least .ensures) ranks,
+      λ s t xs inc len few p q.
+          let d = inc-distinct xs inc in
+          let l : n ≡ length xs = omega (arith, c .before .before .before .before .before .before .before .before .before .before .before .before .before .before .before .before .before .least .ensures) in
+          let tells = rows-tell s t xs d (a .left1 .now) (a .nodes1) (a .leaf1 .now) (a .left2 .now) (a .nodes2) (a .leaf2 .now) p q
+          (c .before .before .before .before .before .before .before .before .before .before .before .before .before .before .lows .result) (c .before .before .before .before .before .before .before .before .before .before .before .before .before .lows2 .result) _ _ (c .before .before .before .before .before .before .before .before .before .before .before .before .before .before .before .before .least2 .ensures) (c .before .before .before .before .before .before .before .before .before .before .before .before .before .before .before .least3 .ensures) (c .before .before .before .before .before .before .before .before .before .before .before .before .before .before .lows .ensures) (c .before .before .before .before .before .before .before .before .before .before .before .before .before .lows2 .ensures)
+          n i row1 row2 l (c .before .before .before .before .before .before .before .before .before .before .before .loop-test .taken) (c .before .before .before .before .before .before .before .before .before .lca-row .ensures) (c .before .before .before .before .before .before .before .lca-row2 .ensures) in
+          let second = c .before .before .before .before .second .ensures (clashAt s t xs i) tells in
+          let first = sym (from-hit (λ k. ltb (secondOf (clashAt s t xs k) n k) n) n i
+          (ap (λ (z : ℕ). ltb z n) (sym second) ∙ lt-ltb j n (c .before .before .before .if1 .taken)))
+          ∙ c .before .before .before .before .before .before .before .before .before .before .before .before .loop .inv .1 s t xs inc l p q in
+          found-is s t xs n (sym l) d i j (c .third .result) first (c .before .before .before .before .before .before .before .before .before .before .before .loop-test .taken) second (c .before .before .before .if1 .taken)
+          (c .third .ensures (clashAt s t xs i) i later tells) (ranks .found (c .before .before .before .before .before .before .before .before .before .before .before .loop-test .taken) .2),
+    )
+
+add-i : tie.Need-add-i Inv-loop μ-loop
+add-i c =
+    omega arith
+
+loop-less : tie.Need-loop-less Inv-loop μ-loop
+loop-less c =
+    omega arith
+
+loop-again : tie.Need-loop-again Inv-loop μ-loop
+loop-again c =
+    let n = c .before .before .before .before .before .before .before .before .before .before .before .before .before .before .least .result in
+    let i = c .before .before .before .before .before .before .before .before .before .loop .i in
+    let a = c .before .before .before .before .before .before .before .before .before .before .before .before .before .before .before .args in (
+      omega arith,
+      λ s t xs inc l p q.
+          let tells = rows-tell s t xs (inc-distinct xs inc) (a .left1 .now) (a .nodes1) (a .leaf1 .now) (a .left2 .now) (a .nodes2)
+          (a .leaf2 .now) p q (c .before .before .before .before .before .before .before .before .before .before .before .lows .result) (c .before .before .before .before .before .before .before .before .before .before .lows2 .result) _ _ (c .before .before .before .before .before .before .before .before .before .before .before .before .before .least2 .ensures) (c .before .before .before .before .before .before .before .before .before .before .before .before .least3 .ensures) (c .before .before .before .before .before .before .before .before .before .before .before .lows .ensures)
+          (c .before .before .before .before .before .before .before .before .before .before .lows2 .ensures) n i (c .before .before .before .before .before .before .lca-row .result) (c .before .before .before .before .lca-row2 .result) l (c .before .before .before .before .before .before .before .before .loop-test .taken) (c .before .before .before .before .before .before .lca-row .ensures)
+          (c .before .before .before .before .lca-row2 .ensures) in
+          sym (from-miss (λ k. ltb (secondOf (clashAt s t xs k) n k) n) n i (c .before .before .before .before .before .before .before .before .loop-test .taken)
+          (ap (λ (z : ℕ). ltb z n) (sym (c .before .second .ensures (clashAt s t xs i) tells)) ∙ le-ltb _ n (c .if1 .left)))
+          ∙ c .before .before .before .before .before .before .before .before .before .loop .inv .1 s t xs inc l p q,
+    )
+
+returns-2 : tie.Need-returns-2 Inv-loop μ-loop
+returns-2 c =
+    let n = c .before .before .before .before .before .before .least .result in
+    let i = c .before .loop .i in
+    let end : i ≡ n = omega arith in (
+      subst (λ (m : ℕ). Ranks m (record { first = n; second = n; third = n })) (c .before .before .before .before .before .before .least .ensures) (ranks-none n),
+      λ s t xs inc len few p q.
+          let l : n ≡ length xs = omega (arith, c .before .before .before .before .before .before .least .ensures) in
+          none-is s t xs n (sym l) (inc-distinct xs inc) n refl
+          (sym (c .before .loop .inv .1 s t xs inc l p q) ∙ from-end (λ k. ltb (secondOf (clashAt s t xs k) n k) n) n i (omega arith) ∙ end),
+    )
+
+pub first-clash-spec : {M : Type 1} → statement M
+first-clash-spec =
+    tie.close
+    (tie.spec
+    Inv-loop
+    μ-loop
+    least-requires
+    least-requires-2
+    least-requires-3
+    lows-requires
+    lows-requires-2
+    loop-holds
+    lca-row-requires
+    lca-row-requires-2
+    second-requires
+    third-requires
+    returns
+    add-i
+    loop-less
+    loop-again
+    returns-2)

@@ -1,0 +1,103 @@
+-- The invariant: some rank is found, here or later, exactly if the search finds one. Assumes nothing.
+use borrow.Author.Needs.{needs}
+use Prim.Native.Nat.{ℕ, _-_, _<_, _≤_, _+_}
+use mathlib.Core.Path.{_≡_, refl, sym, _∙_, ap, ap₂}
+use mathlib.Core.Bool.{Bool, false, _||_}
+use native.Mathlib.Omega.{arith}
+use lib.Dec.{ltb}
+use lib.ListN.{getD}
+use Rattle.leaves.specs.Find.{leafFrom}
+use Rattle.triples.specs.Loops.{apartOf, Tells, thirdOf}
+use Rattle.triples.proofs.SpanLaws.{some-step, some-end, or-assoc, or-false}
+use Rattle.triples.proofs.search.any_apart.Statement.{statement}
+use Rattle.triples.proofs.search.any_apart.Tie as tie
+
+abbrev Inv-loop : tie.InvT-loop
+Inv-loop row1 row2 count j x1 x2 found₀ k₀ found k =
+    (j < k) × (x1 ≡ getD row1 j 0) × (x2 ≡ getD row2 j 0) × ((clash : ℕ → ℕ → Bool) (i : ℕ) → i < j → Tells clash i count row1 row2
+    → ltb (thirdOf clash count j) count ≡ (found || ltb (leafFrom (clash j) (count - k) k) count))
+
+abbrev μ-loop : tie.MeasureT-loop
+μ-loop row1 row2 count j x1 x2 found₀ k₀ found k =
+    count - k
+
+element-copy-out-x1 : tie.Need-element-copy-out-x1 Inv-loop μ-loop
+element-copy-out-x1 c =
+    omega arith
+
+element-copy-out-x2 : tie.Need-element-copy-out-x2 Inv-loop μ-loop
+element-copy-out-x2 c =
+    omega arith
+
+add-k : tie.Need-add-k Inv-loop μ-loop
+add-k c =
+    omega arith
+
+loop-holds : tie.Need-loop-holds Inv-loop μ-loop
+unfolding thirdOf
+loop-holds c =
+    (omega arith, refl, refl, λ clash i h t. refl)
+
+element-copy-out-apart : tie.Need-element-copy-out-apart Inv-loop μ-loop
+element-copy-out-apart c =
+    omega arith
+
+element-copy-out-apart-2 : tie.Need-element-copy-out-apart-2 Inv-loop μ-loop
+element-copy-out-apart-2 c =
+    omega arith
+
+apart-requires : tie.Need-apart-requires Inv-loop μ-loop
+apart-requires c κs = search needs
+
+either-requires : tie.Need-either-requires Inv-loop μ-loop
+either-requires c κs = search needs
+
+add-k-2 : tie.Need-add-k-2 Inv-loop μ-loop
+add-k-2 c =
+    omega arith
+
+loop-less : tie.Need-loop-less Inv-loop μ-loop
+loop-less c =
+    omega arith
+
+loop-again : tie.Need-loop-again Inv-loop μ-loop
+loop-again c =
+    let inv = c .before .before .before .before .before .loop .inv in
+    let k = c .before .before .before .before .before .loop .k in
+    let a = c .before .before .before .before .before .before .before .before .args in (
+      omega arith,
+      inv .1,
+      inv .2,
+      λ clash i h t. inv .3 clash i h t
+          ∙ ap (λ (b : Bool). c .before .before .before .before .before .loop .found || b) (some-step (clash (a .j)) (a .count) k (omega arith))
+          ∙ ap (λ (b : Bool). c .before .before .before .before .before .loop .found || (b || ltb (leafFrom (clash (a .j)) (a .count - (k + 1)) (k + 1)) (a .count)))
+          (t (a .j) k h (inv .0) (omega arith)
+          ∙ ap₂ (λ (x y : ℕ). apartOf x (getD (a .row1 .now) k 0) y (getD (a .row2 .now) k 0)) (sym (inv .1)) (sym (inv .2))
+          ∙ sym (c .before .apart .ensures))
+          ∙ or-assoc (c .before .before .before .before .before .loop .found) (c .before .apart .result)
+          (ltb (leafFrom (clash (a .j)) (a .count - (k + 1)) (k + 1)) (a .count))
+          ∙ ap (λ (b : Bool). b || ltb (leafFrom (clash (a .j)) (a .count - (k + 1)) (k + 1)) (a .count)) (sym (c .either .ensures)),
+    )
+
+returns : tie.Need-returns Inv-loop μ-loop
+returns c =
+    λ clash i h t. sym (c .before .loop .inv .3 clash i h t ∙ ap (λ (b : Bool). c .before .loop .found || b) (some-end _ _ _ (omega arith)) ∙ or-false _)
+
+pub any-apart-spec : {M : Type 1} → statement M
+any-apart-spec =
+    tie.close
+    (tie.spec
+    Inv-loop
+    μ-loop
+    element-copy-out-x1
+    element-copy-out-x2
+    add-k
+    loop-holds
+    element-copy-out-apart
+    element-copy-out-apart-2
+    apart-requires
+    either-requires
+    add-k-2
+    loop-less
+    loop-again
+    returns)
