@@ -5,10 +5,9 @@ pub mod CloserLaws
 pub mod CloserOnce
 pub mod DemandLaws
 pub mod Divide
-pub mod Greedy
+pub mod PowerLaws
 pub mod HoldsLaws
 pub mod KeepLaws
-pub mod LocalChange
 pub mod PairInduction
 pub mod Promises
 pub mod Recurrence
@@ -17,4 +16,5 @@ pub mod RestrictText
 pub mod SameLaws
 pub mod SetLaws
 pub mod Table
+pub mod Tells
 pub mod WeightLaws

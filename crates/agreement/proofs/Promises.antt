@@ -1,5 +1,5 @@
 -- What the definitions of this crate promise, in the scope paper's order; each theorem cites one name. Assumes nothing.
-use Prim.Native.Nat.{ℕ, _/_, _≤_}
+use Prim.Native.Nat.{ℕ, _/_, _%_, _≤_}
 use mathlib.Core.Path.{_≡_}
 use mathlib.Core.Bool.{Bool, true, false, _&&_}
 use mathlib.Core.Logic.{_↔_}
@@ -7,7 +7,7 @@ use mathlib.Core.Option.{some}
 use mathlib.Core.List.{List, map}
 use lib.ListN.{length}
 use Rattle.trees.specs.Label.{Label, distinct}
-use Rattle.trees.specs.Tree.{Tree, leaves, Valid}
+use Rattle.trees.specs.Tree.{Tree, leaves, leafLimit, Valid}
 use Rattle.agreement.specs.Closer.{holds, closer, Agree, Common}
 use Rattle.agreement.specs.Restrict.{restrict}
 use Rattle.agreement.specs.SameKept.{SameKept}
@@ -18,16 +18,15 @@ use Rattle.agreement.specs.Answer.{Answer, firstLacks, secondLacks, disa
 use Rattle.agreement.specs.Demand.{IsAnswer, Clash, IsDisagreement, IsFirstLacks, IsSecondLacks}
 use Rattle.agreement.specs.Outcome.{Outcome}
 use Rattle.agreement.specs.Greatest.{Greatest}
-use Rattle.agreement.specs.GreedyLoop.{greedy, sizeOfWeight, fits}
+use Rattle.agreement.specs.Powers.{whole, decode, telling}
 use Rattle.agreement.specs.Starred.{Row, answered, rows}
 use Rattle.agreement.proofs.AnswerLaws
 use Rattle.agreement.proofs.DemandLaws
-use Rattle.agreement.proofs.Greedy
+use Rattle.agreement.proofs.Tells
 use Rattle.agreement.proofs.CloserOnce.{OneOf, closer-once}
 use Rattle.agreement.proofs.AgreeRestrict.{agree-iff-same}
 use Rattle.agreement.proofs.RestrictText.{one-text}
 use Rattle.agreement.proofs.Recurrence.{Reach, best-bound, best-reached}
-use Rattle.agreement.proofs.LocalChange.{best-unmarked}
 use Rattle.agreement.proofs.Table
 
 -- "Of three different leaves in a binary tree, exactly one pair has its least common ancestor below that of all three"
@@ -46,8 +45,8 @@ pub common-restriction : (s t : Tree) (X : Label → Bool) → Valid s → Valid
     → keptText (restrict X s) ≡ keptText (restrict X t)
 common-restriction = one-text
 
--- source paper 001, Lemma 3.1, with weights: no agreed set weighs more than the recurrence says, one weighs as much, and a label's
--- weight counts only where both trees hold it
+-- source paper 001, Lemma 3.1, with weights: no agreed set weighs more than the recurrence says, and
+-- one weighs as much
 pub recurrence-bound : (w : Label → ℕ) (s t : Tree) (X : Label → Bool) → distinct (leaves s) ≡ true → distinct (leaves t) ≡ true
     → Common s t X → Agree s t X → weightIn w s X ≤ best w s t
 recurrence-bound = best-bound
@@ -55,10 +54,6 @@ recurrence-bound = best-bound
 pub recurrence-reached : (w : Label → ℕ) (s t : Tree) → distinct (leaves s) ≡ true → distinct (leaves t) ≡ true
     → Reach w s t (best w s t)
 recurrence-reached = best-reached
-
-pub recurrence-local : (v w : Label → ℕ) (s t : Tree) (y : Label) → ((x : Label) → (x ≡ y → ⊥) → v x ≡ w x)
-    → (holds s y && holds t y) ≡ false → best v s t ≡ best w s t
-recurrence-local = best-unmarked
 
 -- "Trees agree on a set of leaves common to both exactly if each three of the set have the same closer pair in both"
 pub agreement-test : (s t : Tree) (X : List Label) → increasing X ≡ true → (agreeOn s t X ≡ true) ↔ Agree s t (setOf X)
@@ -101,17 +96,15 @@ module _ (s t : Tree) (K : List Label) (valid : Valid s) (different : distinct K
   pub answer-promise : (A : Answer) → (answer s t K ≡ A) ↔ Outcome s t K A
   answer-promise A = DemandLaws.answer-exactly s t K (valid .different) different A
 
-  -- "Document 001, Lemma 3.1, gives a recurrence over pairs of nodes. It may be used; it is not the definition.": any oracle of
-  -- greatest weights finds the set, and tells when three required labels clash
-  module _ (M : List Label → ℕ) (held : Common s t (setOf K))
-      (oracle : (F : List Label) → increasing F ≡ true → Common s t (setOf F) → Greatest (forcing F) s t (M F)) where
-    pub oracle-promise : M (sorted K) / forcedUnit ≡ length K
-        → answer s t K ≡ largest (greedy (fits M (sizeOfWeight (M (sorted K)))) (common s t) (sorted K))
-    oracle-promise all = Greedy.oracle-set s t K M (valid .different) (valid .few) different held oracle all
+  -- "Document 001, Lemma 3.1, gives a recurrence over pairs of nodes. It may be used; it is not the definition.": the greatest weight
+  -- of labels that weigh units and powers of two tells the set, or that three required labels clash
+  module _ (M : ℕ) (held : Common s t (setOf K)) (great : Greatest (telling leafLimit (sorted K) (common s t)) s t M) where
+    pub weight-tells-set : M / whole / forcedUnit ≡ length K → answer s t K ≡ largest (decode leafLimit (common s t) (M % whole))
+    weight-tells-set = Tells.told-set s t K valid different held M great
 
-    pub oracle-refusal : (M (sorted K) / forcedUnit ≡ length K → ⊥)
+    pub weight-tells-eight : (M / whole / forcedUnit ≡ length K → ⊥)
         → (a : Label) × (b : Label) × (c : Label) × (answer s t K ≡ disagree a b c)
-    oracle-refusal not-all = Greedy.oracle-eight s t K M (valid .different) (valid .few) different held oracle not-all
+    weight-tells-eight = Tells.told-eight s t K valid different held M great
 
 -- "The starred cases are shown of the definitions, gathered in one table with one theorem."
 pub starred-promise : map answered rows ≡ map (λ (r : Row). some (r .expected)) rows

@@ -3,7 +3,7 @@
 use Prim.Native.Nat.{ℕ, suc, _+_, _*_, _/_, _%_, _≤_}
 use mathlib.Core.Path.{_≡_, refl, sym, _∙_, ap, subst}
 use mathlib.Core.Bool.{Bool, true, false, cond, not}
-use mathlib.Core.Logic.{_⊎_, inl, inr, _↔_}
+use mathlib.Core.Logic.{_⊎_, inl, inr}
 use mathlib.Core.List.{List, [], _∷_}
 use native.Mathlib.Omega.{arith}
 use lib.ListN.{length}
@@ -106,17 +106,20 @@ module _ (s t : Tree) (F : List Label) (M : ℕ) (ds : distinct (leaves s) ≡ t
   unfolding holds
   list-size Y p = count-held Y (leaves s) (p .ordered) ds (λ x m. p .commonLeaves x m .0)
 
-  list-weight : (Y : List Label) → Allowed s t F Y → 127 * length F + length Y ≤ M
+  -- what an allowed set weighs
+  pub list-weight : (Y : List Label) → Allowed s t F Y → weightIn (forcing F) s (setOf Y) ≡ 127 * length F + length Y
   list-weight Y p =
       omega (
         arith,
-        great .bound (setOf Y) (p .commonLeaves) (p .agreed),
         set-weight s F (setOf Y),
         list-size Y p,
         keep-parts (setOf F) (keep (setOf Y) (leaves s)),
         held-all F (setOf Y) (leaves s) (p .required),
         forced-count,
       )
+
+  list-bound : (Y : List Label) → Allowed s t F Y → 127 * length F + length Y ≤ M
+  list-bound Y p = omega (arith, great .bound (setOf Y) (p .commonLeaves) (p .agreed), list-weight Y p)
 
   -- the set that reaches the greatest weight: what its forced labels and others say
   record Split (forced others : ℕ) : Type 0 where
@@ -135,16 +138,17 @@ module _ (s t : Tree) (F : List Label) (M : ℕ) (ds : distinct (leaves s) ≡ t
 
   -- a set that holds every forced label is there only if the greatest weight counts them all
   pub forced-held : (Y : List Label) → Allowed s t F Y → M / forcedUnit ≡ length F
-  forced-held Y p = omega (arith, list-weight Y p, split .weight, split .atMost, split .size, split .fewer)
+  forced-held Y p = omega (arith, list-bound Y p, split .weight, split .atMost, split .size, split .fewer)
 
   -- and then no such set is larger than this
   pub forced-bound : (Y : List Label) → Allowed s t F Y → length Y ≤ M / forcedUnit + M % forcedUnit
-  forced-bound Y p = omega (arith, list-weight Y p, forced-held Y p, split .weight, split .atMost, split .size, split .fewer)
+  forced-bound Y p = omega (arith, list-bound Y p, forced-held Y p, split .weight, split .atMost, split .size, split .fewer)
 
-  -- and one is as large
-  pub forced-reached : M / forcedUnit ≡ length F → (Y : List Label) × Allowed s t F Y × (length Y ≡ M / forcedUnit + M % forcedUnit)
+  -- and the set that reaches the greatest weight is as large
+  pub forced-reached : M / forcedUnit ≡ length F
+      → Allowed s t F (keep (great .set) (common s t)) × (length (keep (great .set) (common s t)) ≡ M / forcedUnit + M % forcedUnit)
   unfolding holds
-  forced-reached e = (Y, allowed′, omega (arith, list-size Y allowed′, size, split .weight, split .atMost, split .size, split .fewer))
+  forced-reached e = (allowed′, omega (arith, list-size Y allowed′, size, split .weight, split .atMost, split .size, split .fewer))
     where
       Y : List Label
       Y = keep (great .set) (common s t)
@@ -165,7 +169,3 @@ module _ (s t : Tree) (F : List Label) (M : ℕ) (ds : distinct (leaves s) ≡ t
         commonLeaves = subst (Common s t) (sym same) (great .commonLeaves);
         agreed = subst (Agree s t) (sym same) (great .agreed);
       }
-
-  -- all forced labels can be held exactly if the greatest weight counts them all
-  pub forced-exactly : ((Y : List Label) × Allowed s t F Y) ↔ (M / forcedUnit ≡ length F)
-  forced-exactly = (λ p. forced-held (p .0) (p .1), λ e. let r = forced-reached e in (r .0, r .1))

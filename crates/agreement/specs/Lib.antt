@@ -8,5 +8,5 @@ pub mod Answer
 pub mod Demand
 pub mod Outcome
 pub mod Greatest
-pub mod GreedyLoop
+pub mod Powers
 pub mod Starred

@@ -1,12 +1,11 @@
 -- Bodies that were read: what the readers' answers say of them, what the engine's parts may take from them, and how the answer to
 -- three texts follows from the answer to two trees and a list. Assumes nothing.
-use Prim.Native.Nat.{ℕ, _-_, _<_, _≤_, min}
+use Prim.Native.Nat.{ℕ, _<_, _≤_, min}
 use mathlib.Core.Path.{_≡_, refl, sym, _∙_, ap, ap₂, subst}
-use mathlib.Core.Bool.{Bool, true, false}
+use mathlib.Core.Bool.{Bool, true, false, cond}
 use mathlib.Core.List.{List, []}
-use mathlib.Core.Option.{some}
 use native.Mathlib.Omega.{arith}
-use lib.ListN.{length, getD, replicate, List·getD-append}
+use lib.ListN.{length, getD}
 use Rattle.trees.specs.declared.TreeArrays.{TreeArrays}
 use Rattle.trees.specs.declared.Reason.{Reason}
 use Rattle.trees.specs.declared.Reason.the-variants.{FirstLacks, SecondLacks}
@@ -17,6 +16,7 @@ use Rattle.trees.specs.Label.{Label}
 use Rattle.trees.specs.Tree.{Tree, leaves, Valid}
 use Rattle.trees.specs.Arrays.{arraysOf, nodeLimit}
 use Rattle.trees.specs.Reading.{Reading, good, refused}
+use Rattle.trees.proofs.Bools.{clash, refute}
 use Rattle.trees.proofs.ArrayLaws.{few-nodes}
 use Rattle.newick.specs.declared.TreeAnswer.the-variants.{Leaves, Refused as TreeRefused}
 use Rattle.newick.specs.declared.TreeRead.{TreeRead}
@@ -28,26 +28,27 @@ use Rattle.lists.specs.declared.ListRead.{ListRead}
 use Rattle.lists.specs.ReadList.{readList, listRead, placesOf, startsOf, listLimit}
 use Rattle.lists.proofs.Accepts.{list-accepts}
 use Rattle.lists.proofs.ListPlaces.{length-starts}
-use Rattle.agreement.specs.Sets.{increasing, common}
-use Rattle.agreement.proofs.SetLaws.{common-inc}
+use Rattle.agreement.specs.Closer.{holds}
+use Rattle.agreement.specs.Sets.{common}
+use Rattle.agreement.proofs.SetLaws.{common-inc, in-common, common-in}
 use Rattle.agreement.proofs.Promises.{six-promise, seven-promise}
-use Rattle.agreement.specs.Answer.{Answer, firstLacks, secondLacks, lacking, answer}
-use Rattle.agreement.specs.Places.{placeOfNumber, placeOfLabel}
-use Rattle.triples.specs.declared.Agreement.the-variants.{Agreed, Disagree as Clashed, Refused as Untold}
-use Rattle.triples.specs.Verdict.{verdict}
+use Rattle.agreement.specs.Answer.{Answer, firstLacks, secondLacks, answer}
+use Rattle.agreement.specs.Places.{placeOfNumber}
+use Rattle.triples.specs.declared.Three.{Three}
+use Rattle.triples.proofs.Ranks.{place-number}
 use Rattle.mast.specs.declared.LargestAnswer.{LargestAnswer}
 use Rattle.mast.specs.declared.LargestAnswer.the-variants.{Disagree, Refused}
-use Rattle.mast.specs.declared.required.Lack.{Lack}
-use Rattle.mast.specs.declared.required.Lack.the-variants.{Nothing, First, Second}
 use Rattle.mast.specs.Largest.{Solution, clashed, turned, solutionOf, solve, largestOf, outputOf}
-use Rattle.mast.specs.Engine.{OwnLeaves, OwnList, Numbered, Ranked, forcedFrom}
-use Rattle.mast.specs.Required.{lackOf, answerOf}
-use Rattle.mast.specs.Choice.{Job, Solved}
-use Rattle.mast.specs.Table.{side}
+use Rattle.leaves.specs.Numbered.{Numbered}
+use Rattle.mast.specs.Weighing.{chosenFrom}
+use Rattle.mast.specs.Engine.{OwnLeaves, OwnList, Ranked}
+use Rattle.mast.specs.Required.{Marks, MarkedTo}
+use Rattle.mast.specs.Solving.{Solved}
+use Rattle.mast.specs.Asked.{Clashes, SomeClash, placesOfThree, FirstMissing, AskedOf}
 use Rattle.mast.specs.Finish.{InRange, ByRank, fittedSet, resultFrom}
 use Rattle.mast.specs.Given.{Reads}
-use Rattle.mast.specs.Bodies.{Bodies, Bounded, HeldBodies, OrderedBodies, ClashingBodies, unreadTree, unreadList}
-use Rattle.mast.proofs.RequiredLaws.{lack-answer, lack-none}
+use Rattle.mast.specs.Bodies.{Bodies, Bounded, OrderedBodies, unreadTree, unreadList}
+use Rattle.mast.proofs.RequiredLaws.{marked-all, marked-common}
 
 -- what the readers say
 
@@ -226,185 +227,172 @@ module _ (first second list : List ℕ) (tree1 tree2 : TreeArrays) (places : Lab
   pub list-few : places .count ≤ listLimit
   list-few = omega (arith, own-list .count-is, own-list .few)
 
--- what holds of the trees and the list read holds of any that the texts are read as
-pub by-reads : (first second list : List ℕ) (P : Tree → Tree → List Label → Type 0) (s t u v : Tree) (xs ys : List Label)
-    → Reads first second list s t xs → Reads first second list u v ys → P s t xs → P u v ys
-by-reads first second list P s t u v xs ys r q p =
-    let e = same-reads first second list s t u v xs ys r q in
-    subst (λ (w : Tree). P w v ys) (e .0) (subst (λ (w : Tree). P s w ys) (e .1) (subst (λ (w : List Label). P s t w) (e .2) p))
+-- number 6 or 7: the first label of the list that is not common
 
-pub solved-reads : (first second list : List ℕ) (s t u v : Tree) (xs ys : List Label) (found : Bool) (weight : List ℕ)
-    → Reads first second list s t xs → Reads first second list u v ys → Solved s t xs found weight → Solved u v ys found weight
-solved-reads first second list s t u v xs ys found weight =
-    by-reads first second list (λ (a : Tree) (b : Tree) (zs : List Label). Solved a b zs found weight) s t u v xs ys
+module _ (s t : Tree) (xs : List Label) (first list : List ℕ) (tree1 : TreeArrays) (places : LabelPlaces) (n : ℕ)
+    (h : FirstMissing s t xs first list tree1 places n) where
+  abbrev x : Label
+  x = getD xs n []
 
--- number 6 or 7
+  both : (k : ℕ) → k < n → (holds s (getD xs k []) ≡ true) × (holds t (getD xs k []) ≡ true)
+  both k l = in-common s t (getD xs k []) (h .earlier k l)
 
-module _ (first second list : List ℕ) (tree1 tree2 : TreeArrays) (places : LabelPlaces) (b : Bodies first second list tree1 tree2 places)
-    (room : ℕ) where
-  -- the first label that a tree lacks decides
-  lack-answered : (a : Answer) → lacking (b .s) (b .t) (b .K) 0 ≡ some a → answer (b .s) (b .t) (b .K) ≡ a
-  unfolding answer
-  lack-answered a e = rw (e, answer) refl
+  lack-place : getD (places .start) n 0 ≡ placeOfNumber xs n
+  lack-place = ap (λ (l : List ℕ). getD l n 0) (h .own-list .start-is) ∙ place-number xs n (h .below)
 
-  lack-place : (n : ℕ) → n < length (b .K) → getD (places .start) n 0 ≡ placeOfNumber (b .K) n
-  unfolding placeOfNumber placesOf
-  lack-place n h =
-      rw (b .list-places)
-      (List·getD-append (startsOf (b .K) 0) (replicate (listLimit - length (startsOf (b .K) 0)) 0) 0 n (omega (arith, length-starts (b .K) 0)))
+  lack-told : (reason : Reason) (a : Answer) (room : ℕ) → answer s t xs ≡ a
+      → solutionOf s xs room a ≡ turned (record { reason = reason; body = K; place = placeOfNumber xs n })
+      → resultFrom (Refused (record { reason = reason; body = K; place = getD (places .start) n 0 })) (placesOf [])
+      ≡ largestOf (solutionOf s xs room (answer s t xs))
+  lack-told reason a room e is =
+      turned-result (solutionOf s xs room (answer s t xs)) _ _ (ap (solutionOf s xs room) e ∙ is)
+      (ap (λ (p : ℕ). Refused (record { reason = reason; body = K; place = p })) lack-place)
 
-  pub record LackTold (reason : Reason) (n : ℕ) : Type 0 where
-    pub low : n < length (b .K)
-    pub solution : solve first second list room ≡ turned (record { reason = reason; body = K; place = getD (places .start) n 0 })
-
-  lack-told : (reason : Reason) (n : ℕ) (l : Lack) (a : Answer) → l ≡ lackOf (lacking (b .s) (b .t) (b .K) 0) → answerOf l ≡ some a
-      → (answer (b .s) (b .t) (b .K) ≡ a → n < length (b .K))
-      → solutionOf (b .s) (b .K) room a ≡ turned (record { reason = reason; body = K; place = placeOfNumber (b .K) n }) → LackTold reason n
-  lack-told reason n l a e f low is =
-      let k = lack-answered a (sym (lack-answer (b .s) (b .t) (b .K) 0) ∙ ap answerOf (sym e) ∙ f) in
-      record {
-        low = low k;
-        solution =
-            solve-reads first second list room (b .s) (b .t) (b .K) (b .reads) ∙ ap (solutionOf (b .s) (b .K) room) k ∙ is
-            ∙ (rw (lack-place n (low k)) refl);
-      }
-
-  pub six-told : (n : ℕ) → First n ≡ lackOf (lacking (b .s) (b .t) (b .K) 0) → LackTold FirstLacks n
-  unfolding solutionOf answerOf
-  six-told n e =
-      lack-told FirstLacks n (First n) (firstLacks n) e refl
-      (λ a. six-promise (b .s) (b .t) (b .K) (first-valid first second list tree1 tree2 places b)
-      (own-list first second list tree1 tree2 places b .different) n .0 a .found .inList)
+  pub lack-answered : (held : Bool) (room : ℕ) → held ≡ holds s x
+      → resultFrom (Refused (record { reason = cond held SecondLacks FirstLacks; body = K; place = getD (places .start) n 0 })) (placesOf [])
+      ≡ largestOf (solutionOf s xs room (answer s t xs))
+  unfolding solutionOf
+  lack-answered false room e =
+      lack-told FirstLacks (firstLacks n) room
+      (six-promise s t xs (h .own .valid) (h .own-list .different) n .1
+      (record { found = record { inList = h .below; earlier = both }; lacked = sym e }))
       refl
-
-  pub seven-told : (n : ℕ) → Second n ≡ lackOf (lacking (b .s) (b .t) (b .K) 0) → LackTold SecondLacks n
-  unfolding solutionOf answerOf
-  seven-told n e =
-      lack-told SecondLacks n (Second n) (secondLacks n) e refl
-      (λ a. seven-promise (b .s) (b .t) (b .K) (first-valid first second list tree1 tree2 places b)
-      (own-list first second list tree1 tree2 places b .different) n .0 a .found .inList)
+  lack-answered true room e =
+      lack-told SecondLacks (secondLacks n) room
+      (seven-promise s t xs (h .own .valid) (h .own-list .different) n .1
+      (record { found = record { inList = h .below; earlier = both }; held = sym e; lacked = lacked′ }))
       refl
+    where
+      lacked′ : holds t x ≡ false
+      lacked′ = refute (holds t x) (λ k. clash (common-in s t x (sym e) k) (h .missing))
 
-  pub all-held : Nothing ≡ lackOf (lacking (b .s) (b .t) (b .K) 0) → HeldBodies first second list tree1 tree2 places
-  all-held e = record { bodies = b; held = lack-none (b .s) (b .t) (b .K) 0 e }
+  pub lack-output : (room : ℕ) (out : List ℕ) → out ≡ outputOf (solutionOf s xs room (answer s t xs)) out
+  unfolding solutionOf outputOf
+  lack-output room out = go (holds s x) refl
+    where
+      go : (b : Bool) → holds s x ≡ b → out ≡ outputOf (solutionOf s xs room (answer s t xs)) out
+      go false e =
+          rw (six-promise s t xs (h .own .valid) (h .own-list .different) n .1
+          (record { found = record { inList = h .below; earlier = both }; lacked = e })) refl
+      go true e =
+          rw (seven-promise s t xs (h .own .valid) (h .own-list .different) n .1
+          (record {
+            found = record { inList = h .below; earlier = both };
+            held = e;
+            lacked = refute (holds t x) (λ k. clash (common-in s t x e k) (h .missing));
+          })) refl
 
 -- number 8
 
-module _ (first second list : List ℕ) (k : ClashingBodies first second list) where
-  eight-verdict : verdict first second list
-      ≡ Clashed (placeOfLabel (k .K) 0 (k .a)) (placeOfLabel (k .K) 0 (k .b)) (placeOfLabel (k .K) 0 (k .c))
-  unfolding verdict
-  eight-verdict = rw (k .reads .first-is, k .reads .second-is, k .reads .list-is, k .clash) refl
+pub eight-result : (xs : List Label) (a b c : Label) (three : Three) → three ≡ placesOfThree xs a b c
+    → resultFrom (Disagree (three .first) (three .second) (three .third)) (placesOf []) ≡ largestOf (clashed xs a b c)
+unfolding largestOf
+eight-result xs a b c three e = rw e refl
 
-  eight-solution : (room : ℕ) → solve first second list room ≡ clashed (k .K) (k .a) (k .b) (k .c)
-  unfolding solutionOf
-  eight-solution room = solve-reads first second list room (k .s) (k .t) (k .K) (k .reads) ∙ (rw (k .clash) refl)
+-- the set or number 8, where every label of the list is common
 
-  pub eight-told : (i j n room : ℕ) → Clashed i j n ≡ verdict first second list
-      → resultFrom (Disagree i j n) (placesOf []) ≡ largestOf (solve first second list room)
-  unfolding largestOf
-  eight-told i j n room e =
-      let d : Clashed i j n ≡ Clashed (placeOfLabel (k .K) 0 (k .a)) (placeOfLabel (k .K) 0 (k .b)) (placeOfLabel (k .K) 0 (k .c)) = e ∙ eight-verdict in
-      let p : i ≡ placeOfLabel (k .K) 0 (k .a) = cc in
-      let q : j ≡ placeOfLabel (k .K) 0 (k .b) = cc in
-      let r : n ≡ placeOfLabel (k .K) 0 (k .c) = cc in
-      rw (eight-solution room, p, q, r) refl
-
-  pub eight-output : (room : ℕ) (out : List ℕ) → out ≡ outputOf (solve first second list room) out
-  unfolding outputOf
-  eight-output room out = rw (eight-solution room) refl
-
-  pub eight-not-agreed : Agreed ≡ verdict first second list → ⊥
-  eight-not-agreed e =
-      let d : Agreed ≡ Clashed (placeOfLabel (k .K) 0 (k .a)) (placeOfLabel (k .K) 0 (k .b)) (placeOfLabel (k .K) 0 (k .c)) = e ∙ eight-verdict in
-      let z : _≡_ {A = ℕ} 0 1 = cc in
-      omega arith
-
-  pub eight-not-refused : (q : Refusal) → Untold q ≡ verdict first second list → ⊥
-  eight-not-refused q e =
-      let d : Untold q ≡ Clashed (placeOfLabel (k .K) 0 (k .a)) (placeOfLabel (k .K) 0 (k .b)) (placeOfLabel (k .K) 0 (k .c)) = e ∙ eight-verdict in
-      let z : _≡_ {A = ℕ} 0 1 = cc in
-      omega arith
-
--- the set
-
-abbrev pub RanksBy : List ℕ → ℕ → List ℕ → Type 0
-RanksBy order m rank =
-    (t : Tree) (C : List Label) → Valid t → increasing C ≡ true → m ≡ length C → Numbered t C order → Ranked t C rank
-
-module _ (first second list : List ℕ) (tree1 tree2 : TreeArrays) (places : LabelPlaces) (order1 order2 : List ℕ) (m : ℕ)
-    (o : OrderedBodies first second list tree1 tree2 places order1 order2 m) where
-  abbrev pub bodiesOf : Bodies first second list tree1 tree2 places
-  bodiesOf = o .given .bodies
-
-  pub first-ranked : (rank : List ℕ) → RanksBy order1 m rank → Ranked (bodiesOf .s) (common (bodiesOf .s) (bodiesOf .t)) rank
-  first-ranked rank h =
-      let v = first-valid first second list tree1 tree2 places bodiesOf in
-      h (bodiesOf .s) _ v (common-inc (bodiesOf .s) (bodiesOf .t) (v .different)) (o .order .count) (o .order .first)
-
-  pub job-of : (rank1 rank2 : List ℕ) → RanksBy order1 m rank1 → RanksBy order2 m rank2
-      → Job (bodiesOf .s) (bodiesOf .t) (side (tree1 .left) (tree1 .right) rank1 (tree1 .nodes))
-      (side (tree2 .left) (tree2 .right) rank2 (tree2 .nodes)) order1 order2 m
-  job-of rank1 rank2 h k =
-      let p = first-leaves first second list tree1 tree2 places bodiesOf in
-      let q = second-leaves first second list tree1 tree2 places bodiesOf in
+module _ (s t : Tree) (xs : List Label) (text : List ℕ) (tree1 tree2 : TreeArrays) (order1 order2 : List ℕ) (m : ℕ) (number : List ℕ)
+    (places : LabelPlaces) (h : AskedOf s t xs text tree1 tree2 order1 order2 m number places) where
+  pub some-clash : (found : Bool) (chosen : List Bool) → Solved s t xs found chosen → found ≡ false
+      → SomeClash tree1 tree2 order1 order2 m number places
+  some-clash found chosen solved e =
+      let k = solved .eight e in
       record {
-        first =
-            record {
-              valid = p .valid;
-              left-is = p .left-is;
-              right-is = ap (λ a. a .right) (bodiesOf .first-arrays);
-              nodes-is = p .nodes-is;
-              ranked = first-ranked rank1 h;
-            };
-        second =
-            record {
-              valid = q .valid;
-              left-is = q .left-is;
-              right-is = ap (λ a. a .right) (bodiesOf .second-arrays);
-              nodes-is = q .nodes-is;
-              ranked = k (bodiesOf .t) _ (q .valid) (common-inc (bodiesOf .s) (bodiesOf .t) (p .valid .different)) (o .order .count) (o .order .second);
-            };
-        order = o .order;
-      }
-
-  pub in-range : InRange order1 m
-  in-range r h =
-      let p = first-leaves first second list tree1 tree2 places bodiesOf in
-      let l = o .order .first r (omega (arith, o .order .count)) in
-      omega (arith, l .below, few-nodes (bodiesOf .s) (p .valid))
-
-  pub by-rank : ByRank (bodiesOf .s) (common (bodiesOf .s) (bodiesOf .t)) tree1 first order1 m
-  by-rank =
-      let p = first-leaves first second list tree1 tree2 places bodiesOf in
-      record {
-        valid = p .valid;
-        arrays-is = bodiesOf .first-arrays;
-        text-is = p .text-is;
-        count = o .order .count;
-        numbered = o .order .first;
-      }
-
-  pub set-solution : (found : Bool) (weight : List ℕ) (room : ℕ)
-      → ((s t : Tree) (xs : List Label) → Reads first second list s t xs → Solved s t xs found weight) → found ≡ true
-      → fittedSet (bodiesOf .s) (forcedFrom weight 0 (common (bodiesOf .s) (bodiesOf .t))) room ≡ solve first second list room
-  unfolding solutionOf
-  set-solution found weight room h e =
-      sym (solve-reads first second list room (bodiesOf .s) (bodiesOf .t) (bodiesOf .K) (bodiesOf .reads)
-      ∙ (rw (h (bodiesOf .s) (bodiesOf .t) (bodiesOf .K) (bodiesOf .reads) .set e) refl))
-
-  pub clashing : (found : Bool) (weight : List ℕ)
-      → ((s t : Tree) (xs : List Label) → Reads first second list s t xs → Solved s t xs found weight) → found ≡ false
-      → ClashingBodies first second list
-  clashing found weight h e =
-      let k = h (bodiesOf .s) (bodiesOf .t) (bodiesOf .K) (bodiesOf .reads) .eight e in
-      record {
-        s = bodiesOf .s;
-        t = bodiesOf .t;
-        K = bodiesOf .K;
-        reads = bodiesOf .reads;
+        s = s;
+        t = t;
+        K = xs;
         a = k .0;
         b = k .1;
         c = k .2;
-        clash = k .3;
+        of = record { asked = h .asked; list-places = h .list-places; clash = k .3 };
       }
+
+  pub clash-is : (found : Bool) (chosen : List Bool) → Solved s t xs found chosen → found ≡ false
+      → (a : Label) × (b : Label) × (c : Label) × Clashes s t xs a b c tree1 tree2 order1 order2 m number places
+  clash-is found chosen solved e =
+      let k = solved .eight e in
+      (k .0, k .1, k .2, record { asked = h .asked; list-places = h .list-places; clash = k .3 })
+
+  pub by-rank : ByRank s (common s t) tree1 text order1 m
+  by-rank = record {
+    valid = h .asked .one .valid;
+    arrays-is = h .asked .one .arrays-is;
+    text-is = h .text-is;
+    count = h .asked .one .count;
+    numbered = h .asked .one .numbered;
+  }
+
+  pub in-range : InRange order1 m
+  in-range r l = omega (arith, h .asked .one .numbered r (omega (arith, h .asked .one .count)) .below, few-nodes s (h .asked .one .valid))
+
+  pub set-solution : (found : Bool) (chosen : List Bool) (room : ℕ) → Solved s t xs found chosen → found ≡ true
+      → fittedSet s (chosenFrom chosen 0 (common s t)) room ≡ solutionOf s xs room (answer s t xs)
+  unfolding solutionOf
+  set-solution found chosen room solved e = rw (solved .set e) refl
+
+  pub eight-solution : (a b c : Label) (room : ℕ) → Clashes s t xs a b c tree1 tree2 order1 order2 m number places
+      → solutionOf s xs room (answer s t xs) ≡ clashed xs a b c
+  unfolding solutionOf
+  eight-solution a b c room k = rw (k .clash) refl
+
+pub clashed-output : (x : Solution) (xs : List Label) (a b c : Label) (out : List ℕ) → x ≡ clashed xs a b c → out ≡ outputOf x out
+unfolding outputOf
+clashed-output x xs a b c out e = rw e refl
+
+-- bodies that were read, with the common labels in label order and the required ones marked
+
+module _ (first second list : List ℕ) (tree1 tree2 : TreeArrays) (places : LabelPlaces) (order1 order2 : List ℕ) (m : ℕ)
+    (o : OrderedBodies first second list tree1 tree2 places order1 order2 m) (few : m ≤ 80) (number : List ℕ) (n : ℕ)
+    (marked : MarkedTo n (places .count) (common (o .bodies .s) (o .bodies .t)) (o .bodies .K) number) where
+  abbrev b : Bodies first second list tree1 tree2 places
+  b = o .bodies
+
+  one : OwnLeaves (b .s) first (tree1 .left) (tree1 .start) (tree1 .size) (tree1 .nodes)
+  one = first-leaves first second list tree1 tree2 places b
+
+  two : OwnLeaves (b .t) second (tree2 .left) (tree2 .start) (tree2 .size) (tree2 .nodes)
+  two = second-leaves first second list tree1 tree2 places b
+
+  own : OwnList (b .K) list (places .start) (places .size) (places .count)
+  own = own-list first second list tree1 tree2 places b
+
+  pub first-missing : n < places .count → FirstMissing (b .s) (b .t) (b .K) first list tree1 places n
+  first-missing l = record {
+    own = one;
+    own-list = own;
+    below = omega (arith, own .count-is);
+    earlier = marked .marks .inside;
+    missing = marked .stopped l;
+  }
+
+  pub all-asked : places .count ≤ n → n ≤ places .count → AskedOf (b .s) (b .t) (b .K) first tree1 tree2 order1 order2 m number places
+  all-asked l k = record {
+    asked = record {
+      one = record {
+        valid = one .valid;
+        arrays-is = b .first-arrays;
+        ordered = common-inc (b .s) (b .t) (one .valid .different);
+        count = o .order .count;
+        few = few;
+        numbered = o .order .first;
+      };
+      two = record {
+        valid = two .valid;
+        arrays-is = b .second-arrays;
+        ordered = common-inc (b .s) (b .t) (one .valid .different);
+        count = o .order .count;
+        few = few;
+        numbered = o .order .second;
+      };
+      different = own .different;
+      few = own .few;
+      held = marked-common (b .s) (b .t) (b .K) number whole-list;
+      marked = marked-all (common (b .s) (b .t)) (b .K) number whole-list;
+      count-is = own .count-is;
+    };
+    text-is = one .text-is;
+    list-places = b .list-places;
+  }
+    where
+      whole-list : Marks (length (b .K)) (common (b .s) (b .t)) (b .K) number
+      whole-list = let e : n ≡ length (b .K) = omega (arith, own .count-is) in rw e at (marked .marks)

@@ -1,5 +1,5 @@
--- A leaf's start and size are its label's place and length; the forced labels one rank further; places stored and leaves flagged
--- rank by rank are those of the forced labels. Assumes nothing.
+-- A leaf's start and size are its label's place and length; the chosen labels one rank further; places stored and leaves flagged
+-- rank by rank are those of the chosen labels. Assumes nothing.
 use Prim.Native.Nat.{ℕ, zero, suc, _+_, _-_, _<_, _≤_}
 use mathlib.Core.Path.{_≡_, refl, sym, _∙_, ap}
 use mathlib.Core.Bool.{Bool, true, false, cond, or-false}
@@ -26,9 +26,9 @@ use Rattle.lists.specs.ReadList.{padded, listLimit}
 use Rattle.lists.proofs.ListPlaces.{store}
 use Rattle.agreement.specs.Closer.{holds}
 use Rattle.agreement.specs.Places.{placeIn}
-use Rattle.agreement.specs.Weights.{forcedUnit}
 use Rattle.leaves.proofs.OwnLaws.{own-leaf}
-use Rattle.mast.specs.Engine.{LeafIs, Numbered, forcedFrom}
+use Rattle.leaves.specs.Numbered.{LeafIs, Numbered}
+use Rattle.mast.specs.Weighing.{chosenFrom}
 use Rattle.mast.specs.Largest.{setPlaces}
 use Rattle.mast.specs.Finish.{placesFrom, Stored, Flagged}
 
@@ -99,48 +99,48 @@ module _ (t : Tree) (v : Valid t) (u : ℕ) (x : Label) (l : LeafIs t u x) where
       (omega (arith, i .inside, length-drop (getD (arraysOf t .start) u 0) (textOf t))))
       ∙ ap length e
 
--- the forced labels of a list with one label more
+-- the chosen labels of a list with one label more
 cond-append : (b : Bool) (c : Label) (xs ys : List Label) → cond b (c ∷ (xs ++ ys)) (xs ++ ys) ≡ cond b (c ∷ xs) xs ++ ys
 cond-append true c xs ys = refl
 cond-append false c xs ys = refl
 
-abbrev ownForced : List ℕ → ℕ → Label → List Label
-ownForced w r c = cond (eqb (getD w r 0) forcedUnit) (c ∷ []) []
+abbrev ownChosen : List Bool → ℕ → Label → List Label
+ownChosen w r c = cond (getD w r false) (c ∷ []) []
 
-forced-snoc : (w : List ℕ) (r : ℕ) (C : List Label) (c : Label)
-    → forcedFrom w r (C ++ (c ∷ [])) ≡ forcedFrom w r C ++ ownForced w (r + length C) c
-unfolding forcedFrom
-forced-snoc w r [] c = ap (λ (n : ℕ). ownForced w n c) (omega arith)
-forced-snoc w r (d ∷ C) c =
-    ap (λ (xs : List Label). cond (eqb (getD w r 0) forcedUnit) (d ∷ xs) xs)
-    (forced-snoc w (suc r) C c ∙ ap (λ (n : ℕ). forcedFrom w (suc r) C ++ ownForced w n c) (omega arith))
-    ∙ cond-append (eqb (getD w r 0) forcedUnit) d (forcedFrom w (suc r) C) (ownForced w (r + suc (length C)) c)
+chosen-snoc : (w : List Bool) (r : ℕ) (C : List Label) (c : Label)
+    → chosenFrom w r (C ++ (c ∷ [])) ≡ chosenFrom w r C ++ ownChosen w (r + length C) c
+unfolding chosenFrom
+chosen-snoc w r [] c = ap (λ (n : ℕ). ownChosen w n c) (omega arith)
+chosen-snoc w r (d ∷ C) c =
+    ap (λ (xs : List Label). cond (getD w r false) (d ∷ xs) xs)
+    (chosen-snoc w (suc r) C c ∙ ap (λ (n : ℕ). chosenFrom w (suc r) C ++ ownChosen w n c) (omega arith))
+    ∙ cond-append (getD w r false) d (chosenFrom w (suc r) C) (ownChosen w (r + suc (length C)) c)
 
--- the forced labels among the first r of C
-abbrev pub forcedTo : List ℕ → List Label → ℕ → List Label
-forcedTo w C r = forcedFrom w 0 (take r C)
+-- the chosen labels among the first r of C
+abbrev pub chosenTo : List Bool → List Label → ℕ → List Label
+chosenTo w C r = chosenFrom w 0 (take r C)
 
-forced-next : (w : List ℕ) (C : List Label) (r : ℕ) → r < length C
-    → forcedTo w C (r + 1) ≡ forcedTo w C r ++ ownForced w r (getD C r [])
-forced-next w C r h =
+chosen-next : (w : List Bool) (C : List Label) (r : ℕ) → r < length C
+    → chosenTo w C (r + 1) ≡ chosenTo w C r ++ ownChosen w r (getD C r [])
+chosen-next w C r h =
     rw (add-one r, take-suc C r [])
-    (forced-snoc w 0 (take r C) (getD C r []) ∙ ap (λ (n : ℕ). forcedTo w C r ++ ownForced w n (getD C r [])) (omega (arith, length-take r C)))
+    (chosen-snoc w 0 (take r C) (getD C r []) ∙ ap (λ (n : ℕ). chosenTo w C r ++ ownChosen w n (getD C r [])) (omega (arith, length-take r C)))
 
-pub forced-all : (w : List ℕ) (C : List Label) (r : ℕ) → length C ≤ r → forcedTo w C r ≡ forcedFrom w 0 C
-forced-all w C r h = ap (forcedFrom w 0) (take-all r C h)
+pub chosen-all : (w : List Bool) (C : List Label) (r : ℕ) → length C ≤ r → chosenTo w C r ≡ chosenFrom w 0 C
+chosen-all w C r h = ap (chosenFrom w 0) (take-all r C h)
 
-forced-few : (w : List ℕ) (r : ℕ) (C : List Label) → length (forcedFrom w r C) ≤ length C
-unfolding forcedFrom
-forced-few w r [] = omega arith
-forced-few w r (c ∷ C) = go (eqb (getD w r 0) forcedUnit) (forced-few w (suc r) C)
+chosen-few : (w : List Bool) (r : ℕ) (C : List Label) → length (chosenFrom w r C) ≤ length C
+unfolding chosenFrom
+chosen-few w r [] = omega arith
+chosen-few w r (c ∷ C) = go (getD w r false) (chosen-few w (suc r) C)
   where
-    go : (b : Bool) → length (forcedFrom w (suc r) C) ≤ length C
-        → length (cond b (c ∷ forcedFrom w (suc r) C) (forcedFrom w (suc r) C)) ≤ suc (length C)
+    go : (b : Bool) → length (chosenFrom w (suc r) C) ≤ length C
+        → length (cond b (c ∷ chosenFrom w (suc r) C) (chosenFrom w (suc r) C)) ≤ suc (length C)
     go true h = omega arith
     go false h = omega arith
 
-pub forced-to-few : (w : List ℕ) (C : List Label) (r : ℕ) → length (forcedTo w C r) ≤ r
-forced-to-few w C r = omega (arith, forced-few w 0 (take r C), length-take r C)
+pub chosen-to-few : (w : List Bool) (C : List Label) (r : ℕ) → length (chosenTo w C r) ≤ r
+chosen-to-few w C r = omega (arith, chosen-few w 0 (take r C), length-take r C)
 
 -- places with one label more
 places-eq : {n m : ℕ} {a b c d : List ℕ} → n ≡ m → a ≡ b → c ≡ d → placesFrom n a c ≡ placesFrom m b d
@@ -164,19 +164,19 @@ pub stored-count : (b : Bool) (at len : ℕ) (old new : LabelPlaces) → Stored 
 stored-count true at len old new k = omega (arith, k .count)
 stored-count false at len old new k = omega (arith, k .count)
 
-pub places-none : (s : Tree) (w : List ℕ) (C : List Label)
-    → placesFrom 0 (replicate listLimit 0) (replicate listLimit 0) ≡ setPlaces s (forcedTo w C 0)
-unfolding setPlaces forcedFrom
+pub places-none : (s : Tree) (w : List Bool) (C : List Label)
+    → placesFrom 0 (replicate listLimit 0) (replicate listLimit 0) ≡ setPlaces s (chosenTo w C 0)
+unfolding setPlaces chosenFrom
 places-none s w C = refl
 
-module _ (s : Tree) (v : Valid s) (w order : List ℕ) (C : List Label) (num : Numbered s C order) where
-  pub places-next : (r : ℕ) → r < length C → r < listLimit → (old new : LabelPlaces) → old ≡ setPlaces s (forcedTo w C r)
-      → Stored (eqb (getD w r 0) forcedUnit) (getD (arraysOf s .start) (getD order r 0) 0) (getD (arraysOf s .size) (getD order r 0) 0)
-      old new → new ≡ setPlaces s (forcedTo w C (r + 1))
+module _ (s : Tree) (v : Valid s) (w : List Bool) (order : List ℕ) (C : List Label) (num : Numbered s C order) where
+  pub places-next : (r : ℕ) → r < length C → r < listLimit → (old new : LabelPlaces) → old ≡ setPlaces s (chosenTo w C r)
+      → Stored (getD w r false) (getD (arraysOf s .start) (getD order r 0) 0) (getD (arraysOf s .size) (getD order r 0) 0)
+      old new → new ≡ setPlaces s (chosenTo w C (r + 1))
   places-next r h l old new e k =
-      places-more s (forcedTo w C r) (getD C r []) (omega (arith, forced-to-few w C r)) (eqb (getD w r 0) forcedUnit) new
+      places-more s (chosenTo w C r) (getD C r []) (omega (arith, chosen-to-few w C r)) (getD w r false) new
       (rw (e, own-start s v (getD order r 0) (getD C r []) (num r h), own-size s v (getD order r 0) (getD C r []) (num r h)) at k)
-      ∙ ap (setPlaces s) (sym (forced-next w C r h))
+      ∙ ap (setPlaces s) (sym (chosen-next w C r h))
 
 -- flags with one leaf more
 module _ (s : Tree) (v : Valid s) (X : List Label) (x : Label) (p : ℕ) (l : LeafIs s p x) (kept : List Bool) (size : length kept ≡ nodeLimit)
@@ -205,16 +205,16 @@ module _ (s : Tree) (v : Valid s) (X : List Label) (x : Label) (p : ℕ) (l : Le
   flag-more true = flag-one
   flag-more false = rw (append-nil X) f
 
-pub flags-none : (s : Tree) (v : Valid s) (w : List ℕ) (C : List Label) → Flagged s (forcedTo w C 0) (replicate nodeLimit false)
-unfolding forcedFrom isIn
+pub flags-none : (s : Tree) (v : Valid s) (w : List Bool) (C : List Label) → Flagged s (chosenTo w C 0) (replicate nodeLimit false)
+unfolding chosenFrom isIn
 flags-none s v w C u h x e = getD-replicate nodeLimit u false false (omega (arith, few-nodes s v))
 
-module _ (s : Tree) (v : Valid s) (w order : List ℕ) (C : List Label) (num : Numbered s C order) where
-  pub flags-next : (r : ℕ) → r < length C → (kept new : List Bool) → length kept ≡ nodeLimit → Flagged s (forcedTo w C r) kept
-      → new ≡ cond (eqb (getD w r 0) forcedUnit) (set kept (getD order r 0) true) kept → Flagged s (forcedTo w C (r + 1)) new
+module _ (s : Tree) (v : Valid s) (w : List Bool) (order : List ℕ) (C : List Label) (num : Numbered s C order) where
+  pub flags-next : (r : ℕ) → r < length C → (kept new : List Bool) → length kept ≡ nodeLimit → Flagged s (chosenTo w C r) kept
+      → new ≡ cond (getD w r false) (set kept (getD order r 0) true) kept → Flagged s (chosenTo w C (r + 1)) new
   flags-next r h kept new size f e =
-      rw (e, forced-next w C r h)
-      (flag-more s v (forcedTo w C r) (getD C r []) (getD order r 0) (num r h) kept size f (eqb (getD w r 0) forcedUnit))
+      rw (e, chosen-next w C r h)
+      (flag-more s v (chosenTo w C r) (getD C r []) (getD order r 0) (num r h) kept size f (getD w r false))
 
 pub flags-length : (b : Bool) (kept new : List Bool) (u : ℕ) → length kept ≡ nodeLimit → new ≡ cond b (set kept u true) kept
     → length new ≡ nodeLimit

@@ -26,7 +26,8 @@ use Rattle.agreement.specs.Sets.{increasing, insert, sorted, keep, common}
 use Rattle.agreement.proofs.SetLaws.{inc-head, inc-tail, length-sorted, length-insert, common-inc, in-common, keep-few, within-few}
 use Rattle.leaves.specs.Find.{foundLeaf}
 use Rattle.leaves.proofs.OwnLaws.{own-leaf, own-inner, own-label, ownFound, found, missing}
-use Rattle.mast.specs.Engine.{OwnLeaves, LeafIs, Numbered, Ordered, Ranked}
+use Rattle.leaves.specs.Numbered.{LeafIs, Numbered}
+use Rattle.mast.specs.Engine.{OwnLeaves, Ordered, Ranked}
 use Rattle.mast.specs.Ranks.{Place, Opened, commonFrom, mostCommon, Collected, ranksOf}
 
 -- what the arrays of a tree tell of a leaf

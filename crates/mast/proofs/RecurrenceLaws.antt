@@ -1,5 +1,5 @@
--- Laws of the recurrence over pairs of nodes: a leaf against a node goes by the node's children, no value passes 128 for each
--- leaf, so that sums stay below their cap. Assumes nothing.
+-- Laws of the recurrence over pairs of nodes: a leaf against a node goes by the node's children, no value passes 129 * 2^80 for each
+-- leaf, so that sums never wrap. Assumes nothing.
 use Prim.Native.Nat.{ℕ, _+_, _*_, _≤_, max}
 use mathlib.Core.Path.{_≡_}
 use mathlib.Core.Bool.{Bool, true, false, cond, _||_, or-false}
@@ -9,10 +9,11 @@ use lib.ListN.{length, length-append}
 use Rattle.trees.specs.Label.{Label, sameLabel, isIn}
 use Rattle.trees.specs.Tree.{Tree, leaf, node, leaves, leafLimit}
 use Rattle.agreement.specs.Closer.{holds}
-use Rattle.agreement.specs.Weights.{best, forcedUnit}
+use Rattle.agreement.specs.Weights.{best}
 use Rattle.agreement.proofs.HoldsLaws.{holds-node}
 use Rattle.agreement.proofs.Recurrence.{best-leaf-left, best-leaf-right, best-node}
-use Rattle.mast.specs.Table.{capped}
+use Rattle.agreement.specs.Powers.{whole}
+use Rattle.mast.specs.Table.{wrapped, Light}
 
 pub holds-same : (y x : Label) → holds (leaf y) x ≡ sameLabel x y
 unfolding holds leaves isIn
@@ -51,8 +52,8 @@ leaves-some : (t : Tree) → 1 ≤ length (leaves t)
 leaves-some (leaf x) = unfold leaves in omega arith
 leaves-some (node a b) = omega (arith, leaves-node a b, leaves-some a)
 
-module _ (w : Label → ℕ) (light : (x : Label) → w x ≤ forcedUnit) where
-  pub best-bound : (s t : Tree) → best w s t ≤ forcedUnit * length (leaves s)
+module _ (w : Label → ℕ) (light : Light w) where
+  pub best-bound : (s t : Tree) → best w s t ≤ 129 * whole * length (leaves s)
   best-bound (leaf x) t =
       rw (best-leaf-left w x t) (cond-le (holds t x) (w x) _ (omega (arith, light x, leaves-some (leaf x))))
   best-bound (node a b) (leaf y) =
@@ -65,14 +66,14 @@ module _ (w : Label → ℕ) (light : (x : Label) → w x ≤ forcedUnit) where
       (max-le (max-le (best-bound (node a b) c) (best-bound (node a b) d))
       (max-le (omega (arith, best-bound a c, best-bound b d)) (omega (arith, best-bound a d, best-bound b c)))))
 
-  -- the cap is never reached
-  cap-free : (a b c d : Tree) → length (leaves (node a b)) ≤ leafLimit
-      → capped (best w a c) (best w b d) ≡ best w a c + best w b d
-  cap-free a b c d few = omega (arith, leaves-node a b, best-bound a c, best-bound b d)
+  -- sums never wrap
+  wrap-free : (a b c d : Tree) → length (leaves (node a b)) ≤ leafLimit
+      → wrapped (best w a c) (best w b d) ≡ best w a c + best w b d
+  wrap-free a b c d few = omega (arith, leaves-node a b, best-bound a c, best-bound b d)
 
   pub best-inner : (a b c d : Tree) → length (leaves (node a b)) ≤ leafLimit
       → max (max (best w a (node c d)) (best w b (node c d)))
       (max (max (best w (node a b) c) (best w (node a b) d))
-      (max (capped (best w a c) (best w b d)) (capped (best w a d) (best w b c))))
+      (max (wrapped (best w a c) (best w b d)) (wrapped (best w a d) (best w b c))))
       ≡ best w (node a b) (node c d)
-  best-inner a b c d few = rw (best-node w a b c d, cap-free a b c d few, cap-free a b d c few)
+  best-inner a b c d few = rw (best-node w a b c d, wrap-free a b c d few, wrap-free a b d c few)

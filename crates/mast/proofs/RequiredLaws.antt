@@ -1,33 +1,37 @@
--- The labels of the required list that a tree lacks, and the weights that force its labels. Assumes nothing.
-use Prim.Native.Nat.{ℕ, zero, suc, _+_, _-_, _<_, _≤_}
+-- The required list by rank: the search for a label's rank, labels marked one after the other, and the ranks that are marked are
+-- those of the required labels in label order. Assumes nothing.
+use Prim.Native.Nat.{ℕ, zero, suc, _+_, _-_, _%_, _<_, _≤_}
 use mathlib.Core.Path.{_≡_, refl, sym, _∙_, ap, subst}
-use mathlib.Core.Bool.{Bool, true, false, cond}
+use mathlib.Core.Bool.{Bool, true, false, cond, not}
 use mathlib.Core.Logic.{_⊎_, inl, inr}
-use mathlib.Core.List.{List, [], _∷_}
-use mathlib.Core.Option.{some}
+use mathlib.Core.List.{List, [], _∷_, _++_, map, append-nil}
 use native.Mathlib.Omega.{arith}
 use native.Mathlib.Numerals.{add-one}
 use lib.Dec.{eqb, ltb}
-use lib.ListN.{length, getD, set, drop, replicate, length-set, length-replicate, getD-replicate, drop-of-length-le}
-use lib.Seq.{drop-cons, getD-set-same, getD-set-other}
-use borrow.Author.Tests.{eqb-true, eqb-false, lt-ltb, le-ltb}
-use Rattle.trees.specs.Label.{Label, isIn}
-use Rattle.trees.specs.Tree.{Tree}
-use Rattle.trees.specs.Stored.{partOf}
-use Rattle.trees.proofs.Bools.{bool-cases}
+use lib.ListN.{length, getD, set, replicate, length-append, length-set, length-replicate, length-map, getD-replicate, List·getD-append, List·getD-eq-default}
+use lib.Seq.{getD-set-same, getD-set-other, getD-at}
+use borrow.Author.Tests.{eq-eqb, ne-eqb, eqb-true, eqb-false, ltb-true, ltb-false, lt-ltb, le-ltb}
+use Rattle.trees.specs.Label.{Label, sameLabel, isIn, distinct}
+use Rattle.trees.specs.Tree.{Tree, leaves}
+use Rattle.trees.specs.Stored.{partOf, leafLabel}
+use Rattle.trees.proofs.Bools.{bool-cases, clash, refute}
+use Rattle.trees.proofs.LabelLaws.{eq-same, same-eq}
 use Rattle.trees.proofs.ListLaws.{at-in}
+use Rattle.lists.specs.ReadList.{placesOf}
 use Rattle.agreement.specs.Closer.{holds, Common}
-use Rattle.agreement.specs.Sets.{increasing, common, sorted, setOf}
-use Rattle.agreement.specs.Weights.{forcing, forcedUnit}
-use Rattle.agreement.specs.Answer.{firstLacks, secondLacks, lacking}
-use Rattle.agreement.proofs.SetLaws.{in-nil, in-head, in-cases, in-other, in-sorted, common-inc, common-in}
-use Rattle.triples.proofs.Ranks.{number-of}
+use Rattle.agreement.specs.Sets.{increasing, common, sorted, keep, setOf}
+use Rattle.agreement.proofs.SetLaws.{in-sorted, length-sorted, sorted-inc, keep-set, in-common}
+use Rattle.agreement.proofs.KeepLaws.{keep-cong}
+use Rattle.triples.specs.Loops.{labelIn}
+use Rattle.triples.specs.Clash.{rankOf}
+use Rattle.triples.proofs.Ranks.{number-of, label-at}
+use Rattle.triples.proofs.RowLaws.{rank-at}
 use Rattle.leaves.specs.Find.{foundLeaf}
-use Rattle.mast.specs.declared.required.Lack.the-variants.{Nothing, First, Second}
-use Rattle.mast.specs.Engine.{OwnLeaves, OwnList, Ranked, Weighs}
-use Rattle.mast.specs.Required.{lackOf, answerOf, startWeights, forcedAt, rankOrNone}
-use Rattle.mast.proofs.ListPlaces.{list-part}
-use Rattle.mast.proofs.RankLaws.{own-low, search-found, search-missing, inc-differ}
+use Rattle.leaves.specs.Numbered.{LeafIs, Numbered}
+use Rattle.mast.specs.Engine.{OwnLeaves, OwnList}
+use Rattle.mast.specs.Required.{FoundRank, Marks, MarkedTo, ranksFrom, Entries, Added}
+use Rattle.mast.specs.Solving.{Marked}
+use Rattle.mast.proofs.RankLaws.{own-part, search-found, search-missing, inc-differ}
 
 -- the search tells whether the tree holds a label
 pub search-holds : {t : Tree} {text left start size : List ℕ} {nodes : ℕ} → OwnLeaves t text left start size nodes → (x : Label)
@@ -38,173 +42,277 @@ search-holds {t} {text} {left} {start} {size} {nodes} o x = go (bool-cases (hold
     go (inl k) = lt-ltb (foundLeaf text left start size x nodes) nodes (omega (arith, search-found o x k .below, o .nodes-is)) ∙ sym k
     go (inr k) = le-ltb (foundLeaf text left start size x nodes) nodes (omega (arith, search-missing o x k)) ∙ sym k
 
--- the list from label k on
-module _ (s t : Tree) {K : List Label} {list starts sizes : List ℕ} {count : ℕ} (own : OwnList K list starts sizes count) (k : ℕ) where
-  module _ (h : k < count) (x : Label) (shown : x ≡ partOf (getD starts k 0) (getD sizes k 0) list) where
-    here : drop k K ≡ x ∷ drop (suc k) K
-    here =
-        drop-cons K k [] (omega (arith, own .count-is))
-        ∙ ap (λ (y : Label). y ∷ drop (suc k) K) (sym (shown ∙ list-part own k h))
+-- label k of the list
+pub list-part : {K : List Label} {text start size : List ℕ} {count : ℕ} → OwnList K text start size count → (k : ℕ) → k < count
+    → partOf (getD start k 0) (getD size k 0) text ≡ getD K k []
+unfolding labelIn
+list-part {K} o k h = rw (o .text-is, o .start-is, o .size-is) (label-at K k (omega (arith, o .count-is)))
 
-    pub lack-first : holds s x ≡ false → lackOf (lacking s t (drop k K) k) ≡ First k
-    unfolding lacking lackOf
-    lack-first p = rw (here, p) refl
+-- the search for a rank
 
-    pub lack-second : holds s x ≡ true → holds t x ≡ false → lackOf (lacking s t (drop k K) k) ≡ Second k
-    unfolding lacking lackOf
-    lack-second p q = rw (here, p, q) refl
+module _ {s : Tree} {text left start size : List ℕ} {nodes : ℕ} (o : OwnLeaves s text left start size nodes) (C : List Label) (order : List ℕ)
+    (numbered : Numbered s C order) (x : Label) (r : ℕ) (h : r < length C) where
+  label-is : leafLabel text start size (getD order r 0) ≡ getD C r []
+  label-is = own-part o (getD order r 0) (getD C r []) (numbered r h)
 
-    pub lack-next : holds s x ≡ true → holds t x ≡ true
-        → lackOf (lacking s t (drop k K) k) ≡ lackOf (lacking s t (drop (k + 1) K) (k + 1))
-    unfolding lacking
-    lack-next p q = rw (add-one k, here, p, q) refl
+  pub rank-here : sameLabel (leafLabel text start size (getD order r 0)) x ≡ true → FoundRank C x r
+  rank-here e = record {
+    at = λ l. sym label-is ∙ same-eq (leafLabel text start size (getD order r 0)) x e;
+    missing = λ l. absurd (omega arith);
+  }
 
-  pub lack-end : count ≤ k → lackOf (lacking s t (drop k K) k) ≡ Nothing
-  unfolding lacking lackOf
-  lack-end h =
-      let few : length K ≤ k = omega (arith, own .count-is) in
-      rw (drop-of-length-le K few) refl
+  pub not-here : sameLabel (leafLabel text start size (getD order r 0)) x ≡ false → getD C r [] ≡ x → ⊥
+  not-here e d = clash {b = sameLabel (leafLabel text start size (getD order r 0)) x}
+      (eq-same (leafLabel text start size (getD order r 0)) x (label-is ∙ d)) e
 
--- what is told of the list is its rows 6 and 7
-pub lack-answer : (s t : Tree) (K : List Label) (n : ℕ) → answerOf (lackOf (lacking s t K n)) ≡ lacking s t K n
-unfolding lacking lackOf answerOf
-lack-answer s t [] n = refl
-lack-answer s t (x ∷ K) n = go (holds s x) (holds t x) (lack-answer s t K (suc n))
+pub rank-missing : (C : List Label) (x : Label) (r : ℕ) → length C ≤ r → ((q : ℕ) → q < length C → getD C q [] ≡ x → ⊥) → FoundRank C x r
+rank-missing C x r l none = record {
+  at = λ h. absurd (omega arith);
+  missing = λ h. refute (isIn x C) (λ m. let n = number-of C x m in none (n .at) (n .below) (n .is));
+}
+
+-- labels marked one after the other
+
+different-at : (K : List Label) → distinct K ≡ true → (i j : ℕ) → i < length K → j < length K → getD K i [] ≡ getD K j [] → i ≡ j
+different-at K d i j hi hj e = sym (rank-at K i d hi) ∙ ap (rankOf K) e ∙ rank-at K j d hj
+
+zero-at : (r : ℕ) → _≡_ {A = ℕ} (getD (replicate 81 0) r 0) 0
+zero-at r = go (bool-cases (ltb r 81))
   where
-    go : (a b : Bool) → answerOf (lackOf (lacking s t K (suc n))) ≡ lacking s t K (suc n)
-        → answerOf (lackOf (cond a (cond b (lacking s t K (suc n)) (some (secondLacks n))) (some (firstLacks n))))
-        ≡ cond a (cond b (lacking s t K (suc n)) (some (secondLacks n))) (some (firstLacks n))
-    go true true ih = ih
-    go true false ih = refl
-    go false b ih = refl
+    go : (ltb r 81 ≡ true) ⊎ (ltb r 81 ≡ false) → _≡_ {A = ℕ} (getD (replicate 81 0) r 0) 0
+    go (inl e) = getD-replicate {A = ℕ} 81 r 0 0 (ltb-true r 81 e)
+    go (inr e) = List·getD-eq-default {A = ℕ} (replicate 81 0) 0 {n = r} (omega (arith, ltb-false r 81 e, length-replicate {A = ℕ} 81 0))
 
--- where neither tree lacks a label, all are common
-pub lack-none : (s t : Tree) (K : List Label) (n : ℕ) → Nothing ≡ lackOf (lacking s t K n) → Common s t (setOf K)
-unfolding lacking lackOf
-lack-none s t [] n h x m = in-nil x m
-lack-none s t (y ∷ K) n h x m = go (holds s y) refl (holds t y) refl h (lack-none s t K (suc n)) (in-cases x y K m)
+pub marks-none : (C K : List Label) → Marks 0 C K (replicate 81 0)
+marks-none C K = record {
+  size = length-replicate {A = ℕ} 81 0;
+  inside = λ k h. absurd (omega arith);
+  held = λ r k h l e. absurd (omega arith);
+  other = λ r h n. zero-at r;
+}
+
+pub marks-next : (k : ℕ) (C K : List Label) (number : List ℕ) (r x : ℕ) → increasing C ≡ true → distinct K ≡ true → length C ≤ 80
+    → k < length K → k < 80 → r < length C → getD C r [] ≡ getD K k [] → x ≡ (k + 1) % 256 → Marks k C K number
+    → Marks (k + 1) C K (set number r x)
+marks-next k C K number r x inc dk few hk small hr e v m = record {
+  size = length-set number r x ∙ m .size;
+  inside = λ j h. inside′ j h (bool-cases (eqb j k));
+  held = λ q j hq hj d. held′ q j hq hj d (bool-cases (eqb q r)) (bool-cases (eqb j k));
+  other = λ q hq n. other′ q hq n (bool-cases (eqb q r));
+}
   where
-    go : (a : Bool) → holds s y ≡ a → (b : Bool) → holds t y ≡ b
-        → Nothing ≡ lackOf (cond a (cond b (lacking s t K (suc n)) (some (secondLacks n))) (some (firstLacks n)))
-        → (Nothing ≡ lackOf (lacking s t K (suc n)) → Common s t (setOf K)) → (x ≡ y) ⊎ (isIn x K ≡ true)
-        → (holds s x ≡ true) × (holds t x ≡ true)
-    go true p true q e ih (inl d) = (ap (holds s) d ∙ p, ap (holds t) d ∙ q)
-    go true p true q e ih (inr k) = ih e x k
-    go true p false q e ih k = let z : _≡_ {A = ℕ} 0 1 = cc in absurd (omega arith)
-    go false p b q e ih k = let z : _≡_ {A = ℕ} 0 1 = cc in absurd (omega arith)
+    inside′ : (j : ℕ) → j < k + 1 → (eqb j k ≡ true) ⊎ (eqb j k ≡ false) → isIn (getD K j []) C ≡ true
+    inside′ j h (inl d) = rw (eqb-true j k d, ← e) (at-in C r hr)
+    inside′ j h (inr d) = m .inside j (omega (arith, eqb-false j k d))
 
--- weights before any label is forced
+    held′ : (q j : ℕ) → q < length C → j < k + 1 → getD C q [] ≡ getD K j [] → (eqb q r ≡ true) ⊎ (eqb q r ≡ false)
+        → (eqb j k ≡ true) ⊎ (eqb j k ≡ false) → getD (set number r x) q 0 ≡ suc j
+    held′ q j hq hj d (inl a) b =
+        let qr = eqb-true q r a in
+        let jk : j ≡ k = different-at K dk j k (omega arith) hk (sym d ∙ ap (λ (i : ℕ). getD C i []) qr ∙ e) in
+        rw (qr, jk) (getD-set-same number r x 0 (omega (arith, m .size)) ∙ omega arith)
+    held′ q j hq hj d (inr a) (inl b) =
+        absurd (inc-differ C inc q r hq hr (eqb-false q r a) (d ∙ ap (λ (i : ℕ). getD K i []) (eqb-true j k b) ∙ sym e))
+    held′ q j hq hj d (inr a) (inr b) =
+        getD-set-other number r q x 0 (eqb-false q r a) ∙ m .held q j hq (omega (arith, eqb-false j k b)) d
 
-pub start-none : replicate 81 0 ≡ startWeights 0
-unfolding startWeights
-start-none = refl
+    other′ : (q : ℕ) → q < length C → ((j : ℕ) → j < k + 1 → getD C q [] ≡ getD K j [] → ⊥) → (eqb q r ≡ true) ⊎ (eqb q r ≡ false)
+        → getD (set number r x) q 0 ≡ 0
+    other′ q hq n (inl a) = absurd (n k (omega arith) (ap (λ (i : ℕ). getD C i []) (eqb-true q r a) ∙ e))
+    other′ q hq n (inr a) = getD-set-other number r q x 0 (eqb-false q r a) ∙ m .other q hq (λ j h. n j (omega arith))
 
-pub start-next : (weight : List ℕ) (r : ℕ) → weight ≡ startWeights r → set weight r 1 ≡ startWeights (r + 1)
-unfolding startWeights
-start-next weight r e = rw (add-one r, e) refl
+-- all labels are marked
+pub marked-all : (C K : List Label) (number : List ℕ) → Marks (length K) C K number → Marked C K number
+marked-all C K number m = record {
+  size = m .size;
+  held = λ r k hr hk e. m .held r k hr hk e;
+  other = λ r hr none. m .other r hr (λ k h e. clash {b = isIn (getD C r []) K} (rw e (at-in K k h)) none);
+}
 
-length-start : (m : ℕ) → length (startWeights m) ≡ 81
-unfolding startWeights
-length-start zero = length-replicate {A = ℕ} 81 0
-length-start (suc m) = length-set (startWeights m) m 1 ∙ length-start m
+pub marked-common : (s t : Tree) (K : List Label) (number : List ℕ) → Marks (length K) (common s t) K number → Common s t (setOf K)
+marked-common s t K number m x h =
+    let k = number-of K x h in
+    in-common s t x (rw (k .is) at (m .inside (k .at) (k .below)))
 
-start-high : (m r : ℕ) → m ≤ r → r < 81 → getD (startWeights m) r 0 ≡ 0
-unfolding startWeights
-start-high zero r h l = getD-replicate 81 r 0 0 l
-start-high (suc m) r h l = getD-set-other (startWeights m) m r 1 0 (omega arith) ∙ start-high m r (omega arith) l
+-- the ranks that are marked
 
-start-low : (m r : ℕ) → m ≤ 81 → r < m → getD (startWeights m) r 0 ≡ 1
-unfolding startWeights
-start-low zero r h l = absurd (omega arith)
-start-low (suc m) r h l = go (bool-cases (eqb r m)) (start-low m r (omega arith))
+ranks-snoc : (number : List ℕ) (r n : ℕ)
+    → ranksFrom number r (suc n) ≡ ranksFrom number r n ++ cond (eqb (getD number (r + n) 0) 0) [] ((r + n) ∷ [])
+unfolding ranksFrom
+ranks-snoc number r zero =
+    let e : r + 0 ≡ r = omega arith in
+    rw e refl
+ranks-snoc number r (suc n) = go (eqb (getD number r 0) 0) (ranks-snoc number (suc r) n)
   where
-    go : (eqb r m ≡ true) ⊎ (eqb r m ≡ false) → (r < m → getD (startWeights m) r 0 ≡ 1) → getD (set (startWeights m) m 1) r 0 ≡ 1
-    go (inl e) ih = rw (eqb-true r m e) (getD-set-same (startWeights m) m 1 0 (omega (arith, length-start m)))
-    go (inr e) ih =
-        getD-set-other (startWeights m) m r 1 0 (eqb-false r m e) ∙ ih (omega (arith, eqb-false r m e))
+    e : suc r + n ≡ r + suc n
+    e = omega arith
 
-pub weighs-start : (C : List Label) (m : ℕ) → m ≡ length C → m ≤ 80 → Weighs C [] (startWeights m)
-unfolding forcing isIn
-weighs-start C m e few =
-    record {
-      size = length-start m;
-      each = λ r h. start-low m r (omega arith) (omega arith);
-      nothing = start-high m 80 few (omega arith);
-      few = omega arith;
-    }
+    go : (b : Bool) → ranksFrom number (suc r) (suc n) ≡ ranksFrom number (suc r) n ++ cond (eqb (getD number (suc r + n) 0) 0) [] ((suc r + n) ∷ [])
+        → cond b (ranksFrom number (suc r) (suc n)) (r ∷ ranksFrom number (suc r) (suc n))
+        ≡ cond b (ranksFrom number (suc r) n) (r ∷ ranksFrom number (suc r) n) ++ cond (eqb (getD number (r + suc n) 0) 0) [] ((r + suc n) ∷ [])
+    go true ih = ih ∙ (rw e refl)
+    go false ih = ap (_∷_ r) (ih ∙ (rw e refl))
 
--- forcing looks at membership only
-
-forcing-head : (x : Label) (F : List Label) → forcing (x ∷ F) x ≡ forcedUnit
-unfolding forcing
-forcing-head x F = rw (in-head x F) refl
-
-forcing-other : (x y : Label) (F : List Label) → (x ≡ y → ⊥) → forcing (y ∷ F) x ≡ forcing F x
-unfolding forcing
-forcing-other x y F n = rw (in-other x y F n) refl
-
-pub forcing-sorted : (K : List Label) (x : Label) → forcing (sorted K) x ≡ forcing K x
-unfolding forcing
-forcing-sorted K x = rw (in-sorted x K) refl
-
--- one more label is forced
-pub weighs-force : (C F : List Label) (weight : List ℕ) → increasing C ≡ true → Weighs C F weight → (r : ℕ) → r < length C
-    → Weighs C (getD C r [] ∷ F) (set weight r forcedUnit)
-weighs-force C F weight inc w r h =
-    record {
-      size = length-set weight r forcedUnit ∙ w .size;
-      each = λ j l. each j l (bool-cases (eqb j r));
-      nothing = getD-set-other weight r 80 forcedUnit 0 (omega (arith, w .few)) ∙ w .nothing;
-      few = w .few;
-    }
+ranks-few : (number : List ℕ) (r n : ℕ) → length (ranksFrom number r n) ≤ n
+unfolding ranksFrom
+ranks-few number r zero = omega arith
+ranks-few number r (suc n) = go (eqb (getD number r 0) 0) (ranks-few number (suc r) n)
   where
-    each : (j : ℕ) → j < length C → (eqb j r ≡ true) ⊎ (eqb j r ≡ false)
-        → getD (set weight r forcedUnit) j 0 ≡ forcing (getD C r [] ∷ F) (getD C j [])
-    each j l (inl e) =
-        rw (eqb-true j r e) (getD-set-same weight r forcedUnit 0 (omega (arith, w .size, w .few)) ∙ sym (forcing-head (getD C r []) F))
-    each j l (inr e) =
-        getD-set-other weight r j forcedUnit 0 (eqb-false j r e) ∙ w .each j l
-        ∙ sym (forcing-other (getD C j []) (getD C r []) F (inc-differ C inc j r l h (eqb-false j r e)))
+    go : (b : Bool) → length (ranksFrom number (suc r) n) ≤ n → length (cond b (ranksFrom number (suc r) n) (r ∷ ranksFrom number (suc r) n)) ≤ suc n
+    go true h = omega arith
+    go false h = omega arith
 
-pub weighs-sorted : (C K : List Label) (weight : List ℕ) → Weighs C K weight → Weighs C (sorted K) weight
-weighs-sorted C K weight w =
-    record {
-      size = w .size;
-      each = λ r h. w .each r h ∙ sym (forcing-sorted K (getD C r []));
-      nothing = w .nothing;
-      few = w .few;
-    }
+pub record RanksTo (number : List ℕ) (r n : ℕ) (ranks : List ℕ) : Type 0 where
+  pub size : length ranks ≡ 80
+  pub low : n ≤ r
+  pub count : n ≡ length (ranksFrom number 0 r)
+  pub entries : Entries (ranksFrom number 0 r) ranks
 
--- label k of the list is forced after those that follow it
-module _ {s : Tree} (t : Tree) {text left start size : List ℕ} {nodes : ℕ} (o : OwnLeaves s text left start size nodes)
-    {rank : List ℕ} (ranked : Ranked s (common s t) rank) where
-  rank-is : (x : Label) → holds s x ≡ true → (r : ℕ) → r < length (common s t) → getD (common s t) r [] ≡ x
-      → rankOrNone rank (foundLeaf text left start size x nodes) ≡ r
-  unfolding rankOrNone
-  rank-is x p r h e =
-      let l = search-found o x p in
-      rw (lt-ltb (foundLeaf text left start size x nodes) 159 (own-low o (foundLeaf text left start size x nodes) (omega (arith, l .below, o .nodes-is))))
-      (ranked .held (foundLeaf text left start size x nodes) r (l .below) h (rw e (l .is)))
+pub ranks-none : (number : List ℕ) → RanksTo number 0 0 (replicate 80 0)
+unfolding ranksFrom
+ranks-none number = record {
+  size = length-replicate {A = ℕ} 80 0;
+  low = omega arith;
+  count = refl;
+  entries = record { each = λ i h. absurd (omega arith) };
+}
 
-  weighs-next : (K : List Label) → Common s t (setOf K) → (k : ℕ) → k < length K → (weight : List ℕ)
-      → Weighs (common s t) (drop (suc k) K) weight
-      → Weighs (common s t) (drop k K) (forcedAt (rankOrNone rank (foundLeaf text left start size (getD K k []) nodes)) weight)
-  unfolding forcedAt
-  weighs-next K c k h weight w =
-      let x = getD K k [] in
-      let both = c x (at-in K k h) in
-      let a = number-of (common s t) x (common-in s t x (both .0) (both .1)) in
-      rw (rank-is x (both .0) (a .at) (a .below) (a .is), lt-ltb (a .at) 80 (omega (arith, a .below, w .few)), drop-cons K k [] h)
-      (subst (λ (y : Label). Weighs (common s t) (y ∷ drop (suc k) K) (set weight (a .at) forcedUnit)) (a .is)
-      (weighs-force (common s t) (drop (suc k) K) weight (common-inc s t (o .valid .different)) w (a .at) (a .below)))
+pub ranks-next : (number : List ℕ) (r n k : ℕ) (old new : List ℕ) → r < 80 → RanksTo number r n old → Added n (getD number r 0) r old k new
+    → RanksTo number (r + 1) k new
+ranks-next number r n k old new small t a = go (eqb (getD number r 0) 0) refl (a .count) (a .stored)
+  where
+    z : 0 + r ≡ r
+    z = omega arith
 
-  -- the same, in the terms of the code
-  pub weighs-step : {K : List Label} {list starts sizes : List ℕ} {count : ℕ} → OwnList K list starts sizes count
-      → Common s t (setOf K) → (k : ℕ) → 0 < k → k ≤ count → (weight new : List ℕ) (x : Label) (u : ℕ)
-      → x ≡ partOf (getD starts (k - 1) 0) (getD sizes (k - 1) 0) list → u ≡ foundLeaf text left start size x nodes
-      → new ≡ forcedAt (rankOrNone rank u) weight → Weighs (common s t) (drop k K) weight → Weighs (common s t) (drop (k - 1) K) new
-  weighs-step {K} own c k p h weight new x u shown found stored w =
-      let label : x ≡ getD K (k - 1) [] = shown ∙ list-part own (k - 1) (omega arith) in
-      let next : suc (k - 1) ≡ k = omega arith in
-      rw (stored, found, label)
-      (weighs-next K c (k - 1) (omega (arith, own .count-is)) weight (rw next w))
+    more : (b : Bool) → eqb (getD number r 0) 0 ≡ b → ranksFrom number 0 (r + 1) ≡ ranksFrom number 0 r ++ cond b [] (r ∷ [])
+    more b e = ap (ranksFrom number 0) (add-one r) ∙ ranks-snoc number 0 r ∙ (rw (z, e) refl)
+
+    go : (b : Bool) → eqb (getD number r 0) 0 ≡ b → k ≡ cond b n (n + 1) → new ≡ cond b old (set old n r) → RanksTo number (r + 1) k new
+    go true e kc nc =
+        let same : ranksFrom number 0 (r + 1) ≡ ranksFrom number 0 r = more true e ∙ append-nil (ranksFrom number 0 r) in
+        rw (kc, nc) (record {
+          size = t .size;
+          low = omega (arith, t .low);
+          count = t .count ∙ ap (length {A = ℕ}) (sym same);
+          entries = rw same (t .entries);
+        })
+    go false e kc nc =
+        let grown = more false e in
+        let len : length (ranksFrom number 0 (r + 1)) ≡ n + 1 = ap (length {A = ℕ}) grown ∙ length-append (ranksFrom number 0 r) (r ∷ []) ∙ omega (arith, t .count) in
+        rw (kc, nc) (record {
+          size = length-set old n r ∙ t .size;
+          low = omega (arith, t .low);
+          count = sym len;
+          entries = record { each = λ i h. rw grown (at i (omega (arith, len)) (bool-cases (eqb i n))) };
+        })
+      where
+        at : (i : ℕ) → i < n + 1 → (eqb i n ≡ true) ⊎ (eqb i n ≡ false) → getD (set old n r) i 0 ≡ getD (ranksFrom number 0 r ++ (r ∷ [])) i 0
+        at i h (inl d) =
+            rw (eqb-true i n d)
+            (getD-set-same old n r 0 (omega (arith, t .size, t .low)) ∙ sym (getD-at (ranksFrom number 0 r) r [] 0 n (sym (t .count))))
+        at i h (inr d) =
+            let ne = eqb-false i n d in
+            let l : i < length (ranksFrom number 0 r) = omega (arith, ne, t .count) in
+            getD-set-other old n i r 0 ne ∙ t .entries .each i l ∙ sym (List·getD-append (ranksFrom number 0 r) (r ∷ []) 0 i l)
+
+-- their labels are the required ones
+labels-kept : (K : List Label) (number : List ℕ) (f : ℕ → Label) (cs : List Label) (r : ℕ)
+    → ((i : ℕ) → i < length cs → f (r + i) ≡ getD cs i [])
+    → ((i : ℕ) → i < length cs → eqb (getD number (r + i) 0) 0 ≡ not (isIn (getD cs i []) K))
+    → map f (ranksFrom number r (length cs)) ≡ keep (setOf K) cs
+unfolding ranksFrom keep
+labels-kept K number f [] r is marked = refl
+labels-kept K number f (c ∷ cs) r is marked =
+    go (isIn c K) (ap (λ (i : ℕ). eqb (getD number i 0) 0) (sym z) ∙ marked 0 (omega arith)) (ap f (sym z) ∙ is 0 (omega arith))
+    (labels-kept K number f cs (suc r) (λ i h. ap f (shift i) ∙ is (suc i) (omega arith))
+    (λ i h. ap (λ (j : ℕ). eqb (getD number j 0) 0) (shift i) ∙ marked (suc i) (omega arith)))
+  where
+    z : r + 0 ≡ r
+    z = omega arith
+
+    shift : (i : ℕ) → suc r + i ≡ r + suc i
+    shift i = omega arith
+
+    go : (b : Bool) → eqb (getD number r 0) 0 ≡ not b → f r ≡ c → map f (ranksFrom number (suc r) (length cs)) ≡ keep (setOf K) cs
+        → map f (cond (eqb (getD number r 0) 0) (ranksFrom number (suc r) (length cs)) (r ∷ ranksFrom number (suc r) (length cs)))
+        ≡ cond b (c ∷ keep (setOf K) cs) (keep (setOf K) cs)
+    go true e d ih = rw (e, ih, d) refl
+    go false e d ih = rw (e, ih) refl
+
+at-map : (f : ℕ → Label) (xs : List ℕ) (i : ℕ) → i < length xs → getD (map f xs) i [] ≡ f (getD xs i 0)
+at-map f [] i h = absurd (omega arith)
+at-map f (x ∷ xs) zero h = refl
+at-map f (x ∷ xs) (suc i) h = at-map f xs i (omega arith)
+
+ranks-low : (number : List ℕ) (r n i : ℕ) → i < length (ranksFrom number r n) → getD (ranksFrom number r n) i 0 < r + n
+unfolding ranksFrom
+ranks-low number r zero i h = absurd (omega arith)
+ranks-low number r (suc n) i h = go (eqb (getD number r 0) 0) i h (ranks-low number (suc r) n)
+  where
+    go : (b : Bool) (i : ℕ) → i < length (cond b (ranksFrom number (suc r) n) (r ∷ ranksFrom number (suc r) n))
+        → ((j : ℕ) → j < length (ranksFrom number (suc r) n) → getD (ranksFrom number (suc r) n) j 0 < suc r + n)
+        → getD (cond b (ranksFrom number (suc r) n) (r ∷ ranksFrom number (suc r) n)) i 0 < r + suc n
+    go true i h f = omega (arith, f i h)
+    go false zero h f = omega arith
+    go false (suc i) h f = omega (arith, f i (omega arith))
+
+module _ (s t : Tree) (K : List Label) (number : List ℕ) (ds : distinct (leaves s) ≡ true) (dk : distinct K ≡ true) (held : Common s t (setOf K))
+    (marked : Marked (common s t) K number) where
+  abbrev C : List Label
+  C = common s t
+
+  abbrev R : List ℕ
+  R = ranksFrom number 0 (length (common s t))
+
+  labels-sorted : map (λ (q : ℕ). getD (common s t) q []) R ≡ sorted K
+  labels-sorted =
+      labels-kept K number (λ (q : ℕ). getD C q []) C 0 (λ i h. let z : 0 + i ≡ i = omega arith in rw z refl)
+      (λ i h. let z : 0 + i ≡ i = omega arith in rw z (test i h (bool-cases (isIn (getD C i []) K))))
+      ∙ keep-cong (setOf K) (setOf (sorted K)) C (λ x m. sym (in-sorted x K))
+      ∙ keep-set s t (sorted K) ds (sorted-inc K dk) (λ x m. held x (sym (in-sorted x K) ∙ m))
+    where
+      test : (i : ℕ) → i < length C → (isIn (getD C i []) K ≡ true) ⊎ (isIn (getD C i []) K ≡ false)
+          → eqb (getD number i 0) 0 ≡ not (isIn (getD C i []) K)
+      test i h (inl m) =
+          let k = number-of K (getD C i []) m in
+          rw (m, marked .held i (k .at) h (k .below) (sym (k .is))) (ne-eqb (suc (k .at)) 0 (omega arith))
+      test i h (inr m) = rw (m, marked .other i h m) refl
+
+  pub ranks-count : length R ≡ length K
+  ranks-count = sym (length-map R (λ (q : ℕ). getD C q [])) ∙ ap length labels-sorted ∙ length-sorted K
+
+  -- the rank of label i of the required ones, in label order
+  pub rank-label : (i : ℕ) → i < length K → getD C (getD R i 0) [] ≡ getD (sorted K) i []
+  rank-label i h = sym (at-map (λ (q : ℕ). getD C q []) R i (omega (arith, ranks-count))) ∙ ap (λ (l : List Label). getD l i []) labels-sorted
+
+  pub rank-low : (i : ℕ) → i < length K → getD R i 0 < length C
+  rank-low i h = omega (arith, ranks-low number 0 (length C) i (omega (arith, ranks-count)))
+
+-- no label up to rank r is x
+pub past-next : (C : List Label) (x : Label) (r : ℕ) → ((q : ℕ) → q < r → getD C q [] ≡ x → ⊥) → (getD C r [] ≡ x → ⊥)
+    → (q : ℕ) → q < r + 1 → getD C q [] ≡ x → ⊥
+past-next C x r before here q h e = go (bool-cases (eqb q r))
+  where
+    go : (eqb q r ≡ true) ⊎ (eqb q r ≡ false) → ⊥
+    go (inl d) = here (ap (λ (i : ℕ). getD C i []) (sym (eqb-true q r d)) ∙ e)
+    go (inr d) = before q (omega (arith, eqb-false q r d)) e
+
+-- leaves by these ranks
+
+pub record LeavesTo (n : ℕ) (ranks order leaf : List ℕ) : Type 0 where
+  pub size : length leaf ≡ 80
+  pub each : (i : ℕ) → i < n → getD leaf i 0 ≡ getD order (getD ranks i 0) 0
+
+pub leaves-none : (ranks order : List ℕ) → LeavesTo 0 ranks order (replicate 80 0)
+leaves-none ranks order = record { size = length-replicate {A = ℕ} 80 0; each = λ i h. absurd (omega arith) }
+
+pub leaves-next : (n : ℕ) (ranks order leaf : List ℕ) (u : ℕ) → n < 80 → u ≡ getD order (getD ranks n 0) 0 → LeavesTo n ranks order leaf
+    → LeavesTo (n + 1) ranks order (set leaf n u)
+leaves-next n ranks order leaf u small e t = record {
+  size = length-set leaf n u ∙ t .size;
+  each = λ i h. go i h (bool-cases (eqb i n));
+}
+  where
+    go : (i : ℕ) → i < n + 1 → (eqb i n ≡ true) ⊎ (eqb i n ≡ false) → getD (set leaf n u) i 0 ≡ getD order (getD ranks i 0) 0
+    go i h (inl d) = rw (eqb-true i n d) (getD-set-same leaf n u 0 (omega (arith, t .size)) ∙ e)
+    go i h (inr d) = let ne = eqb-false i n d in getD-set-other leaf n i u 0 ne ∙ t .each i (omega (arith, ne))

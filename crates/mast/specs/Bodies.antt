@@ -14,9 +14,6 @@ use Rattle.lists.specs.declared.ListAnswer.{ListAnswer}
 use Rattle.lists.specs.declared.ListAnswer.the-variants.{Labels, Refused as ListRefused}
 use Rattle.lists.specs.declared.LabelPlaces.{LabelPlaces}
 use Rattle.lists.specs.ReadList.{placesOf}
-use Rattle.agreement.specs.Closer.{Common}
-use Rattle.agreement.specs.Sets.{setOf}
-use Rattle.agreement.specs.Answer.{answer, disagree}
 use Rattle.mast.specs.declared.LargestAnswer.{LargestAnswer}
 use Rattle.mast.specs.declared.LargestAnswer.the-variants.{Found, Refused}
 use Rattle.mast.specs.Given.{Reads}
@@ -47,24 +44,8 @@ pub record Bounded (first second : List ℕ) (most : ℕ) : Type 0 where
   pub few : most ≤ leafLimit
   pub is : (s t : Tree) → readTree first ≡ good s → readTree second ≡ good t → most ≡ mostCommon s t
 
--- both trees hold every label of the list
-pub record HeldBodies (first second list : List ℕ) (tree1 tree2 : TreeArrays) (places : LabelPlaces) : Type 0 where
-  pub bodies : Bodies first second list tree1 tree2 places
-  pub held : Common (bodies .s) (bodies .t) (setOf (bodies .K))
-
 -- with the common labels by their leaves
 pub record OrderedBodies (first second list : List ℕ) (tree1 tree2 : TreeArrays) (places : LabelPlaces) (order1 order2 : List ℕ) (m : ℕ)
     : Type 0 where
-  pub given : HeldBodies first second list tree1 tree2 places
-  pub order : Ordered (given .bodies .s) (given .bodies .t) order1 order2 m
-
--- three labels of the list clash
-pub record ClashingBodies (first second list : List ℕ) : Type 0 where
-  pub s : Tree
-  pub t : Tree
-  pub K : List Label
-  pub reads : Reads first second list s t K
-  pub a : Label
-  pub b : Label
-  pub c : Label
-  pub clash : answer s t K ≡ disagree a b c
+  pub bodies : Bodies first second list tree1 tree2 places
+  pub order : Ordered (bodies .s) (bodies .t) order1 order2 m

@@ -1,10 +1,9 @@
--- What the parts of the engine hand to each other: arrays lent apart, common labels by rank, and weights by rank.
+-- What the parts of the engine hand to each other: arrays lent apart, and common labels by rank.
 -- Intermediate: nothing public rests on this text.
-use Prim.Native.Nat.{ℕ, suc, _<_, _≤_}
+use Prim.Native.Nat.{ℕ, _<_, _≤_}
 use mathlib.Core.Path.{_≡_}
-use mathlib.Core.Bool.{true, false, cond}
-use mathlib.Core.List.{List, [], _∷_}
-use lib.Dec.{eqb}
+use mathlib.Core.Bool.{true, false}
+use mathlib.Core.List.{List, []}
 use lib.ListN.{length, getD}
 use Rattle.trees.specs.Label.{Label, isIn, distinct, goodLabels}
 use Rattle.trees.specs.Tree.{Tree, leaf, Valid}
@@ -13,7 +12,7 @@ use Rattle.trees.specs.Arrays.{arraysOf, nodesOf}
 use Rattle.trees.specs.Postorder.{postorder, subtree}
 use Rattle.lists.specs.ReadList.{joined, placesOf, listLimit}
 use Rattle.agreement.specs.Sets.{common}
-use Rattle.agreement.specs.Weights.{forcing, forcedUnit}
+use Rattle.leaves.specs.Numbered.{Numbered}
 
 -- the text and the arrays of tree t that say where its leaves are
 pub record OwnLeaves (t : Tree) (text left start size : List ℕ) (nodes : ℕ) : Type 0 where
@@ -34,15 +33,6 @@ pub record OwnList (K : List Label) (text start size : List ℕ) (count : ℕ) :
   pub size-is : size ≡ placesOf K .size
   pub count-is : count ≡ length K
 
--- node u of tree t is the leaf x
-pub record LeafIs (t : Tree) (u : ℕ) (x : Label) : Type 0 where
-  pub below : u < nodesOf t
-  pub is : subtree (postorder t) u ≡ leaf x
-
--- the leaves of t by the rank of their labels in C
-abbrev pub Numbered : Tree → List Label → List ℕ → Type 0
-Numbered t C order = (r : ℕ) → r < length C → LeafIs t (getD order r 0) (getD C r [])
-
 -- the common labels in label order, by their leaves in both trees
 pub record Ordered (s t : Tree) (order1 order2 : List ℕ) (m : ℕ) : Type 0 where
   pub count : m ≡ length (common s t)
@@ -54,17 +44,3 @@ pub record Ranked (t : Tree) (C : List Label) (rank : List ℕ) : Type 0 where
   pub low : (u : ℕ) → u < nodesOf t → getD rank u 0 ≤ 80
   pub held : (u r : ℕ) → u < nodesOf t → r < length C → subtree (postorder t) u ≡ leaf (getD C r []) → getD rank u 0 ≡ r
   pub other : (u : ℕ) (x : Label) → u < nodesOf t → subtree (postorder t) u ≡ leaf x → isIn x C ≡ false → getD rank u 0 ≡ 80
-
--- the weights by rank when the labels of F are forced
-pub record Weighs (C F : List Label) (weight : List ℕ) : Type 0 where
-  pub size : length weight ≡ 81
-  pub each : (r : ℕ) → r < length C → getD weight r 0 ≡ forcing F (getD C r [])
-  pub nothing : getD weight 80 0 ≡ 0
-  pub few : length C ≤ 80
-
--- the labels of C from rank r on that are forced by their weights
-unfoldable pub forcedFrom : List ℕ → ℕ → List Label → List Label
-forcedFrom weight r [] = []
-forcedFrom weight r (c ∷ cs) =
-    cond (eqb (getD weight r 0) forcedUnit) (c ∷ forcedFrom weight (suc r) cs)
-    (forcedFrom weight (suc r) cs)

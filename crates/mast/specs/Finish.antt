@@ -17,7 +17,7 @@ use Rattle.agreement.specs.Restrict.{restrict}
 use Rattle.agreement.specs.Places.{keptText}
 use Rattle.mast.specs.declared.LargestAnswer.{LargestAnswer}
 use Rattle.mast.specs.declared.LargestResult.{LargestResult}
-use Rattle.mast.specs.Engine.{Numbered}
+use Rattle.leaves.specs.Numbered.{Numbered}
 use Rattle.mast.specs.Largest.{Solution, fitted}
 
 -- the first m entries are node numbers: what keeps indices in range

@@ -1,10 +1,12 @@
+pub mod Asked
 pub mod Bodies
-pub mod Choice
+pub mod Columns
 pub mod Engine
 pub mod Finish
 pub mod Given
 pub mod Largest
-pub mod Marks
 pub mod Ranks
 pub mod Required
+pub mod Solving
 pub mod Table
+pub mod Weighing

@@ -10,7 +10,7 @@ use Rattle.trees.specs.Tree.{Tree, leaves}
 use Rattle.trees.specs.Postorder.{postorder, leafLabels}
 use Rattle.agreement.specs.Closer.{holds}
 use Rattle.agreement.specs.Sets.{sorted, keep}
-use Rattle.mast.specs.Engine.{Numbered}
+use Rattle.leaves.specs.Numbered.{Numbered}
 
 -- p is the place before the first label of C that is greater than x, or the end
 pub record Place (x : Label) (C : List Label) (p : ℕ) : Type 0 where

@@ -1,38 +1,38 @@
--- Lacking labels as the code tells them, and weights as the code stores them.
--- Intermediate: nothing public rests on this text.
-use Prim.Native.Nat.{ℕ, zero, suc}
-use mathlib.Core.Bool.{cond}
-use mathlib.Core.List.{List}
-use mathlib.Core.Option.{Option, some, none}
-use lib.Dec.{ltb}
-use lib.ListN.{getD, set, replicate}
-use Rattle.agreement.specs.Answer.{Answer, firstLacks, secondLacks, disagree, largest}
-use Rattle.agreement.specs.Weights.{forcedUnit}
-use Rattle.mast.specs.declared.required.Lack.{Lack}
-use Rattle.mast.specs.declared.required.Lack.the-variants.{Nothing, First, Second}
+-- The required list by rank. Intermediate: nothing public rests on this text.
+use Prim.Native.Nat.{ℕ, zero, suc, _+_, _<_, _≤_}
+use mathlib.Core.Path.{_≡_}
+use mathlib.Core.Bool.{true, false, cond}
+use mathlib.Core.List.{List, [], _∷_}
+use lib.Dec.{eqb}
+use lib.ListN.{length, getD, set}
+use Rattle.trees.specs.Label.{Label, isIn}
 
--- rows 6 and 7 of an answer
-unfoldable pub lackOf : Option Answer → Lack
-lackOf none = Nothing
-lackOf (some (firstLacks n)) = First n
-lackOf (some (secondLacks n)) = Second n
-lackOf (some (disagree a b c)) = Nothing
-lackOf (some (largest X)) = Nothing
+-- r is the rank of x in C, or C has not x
+pub record FoundRank (C : List Label) (x : Label) (r : ℕ) : Type 0 where
+  pub at : r < length C → getD C r [] ≡ x
+  pub missing : length C ≤ r → isIn x C ≡ false
 
-unfoldable pub answerOf : Lack → Option Answer
-answerOf Nothing = none
-answerOf (First n) = some (firstLacks n)
-answerOf (Second n) = some (secondLacks n)
+-- the first n labels of K are in C and marked there by their numbers, counted from 1; label n, if there is one, is not in C
+pub record Marks (n : ℕ) (C K : List Label) (number : List ℕ) : Type 0 where
+  pub size : length number ≡ 81
+  pub inside : (k : ℕ) → k < n → isIn (getD K k []) C ≡ true
+  pub held : (r k : ℕ) → r < length C → k < n → getD C r [] ≡ getD K k [] → getD number r 0 ≡ suc k
+  pub other : (r : ℕ) → r < length C → ((k : ℕ) → k < n → getD C r [] ≡ getD K k [] → ⊥) → getD number r 0 ≡ 0
 
--- 1 at each of the first m ranks
-unfoldable pub startWeights : ℕ → List ℕ
-startWeights zero = replicate 81 0
-startWeights (suc m) = set (startWeights m) m 1
+pub record MarkedTo (n count : ℕ) (C K : List Label) (number : List ℕ) : Type 0 where
+  pub marks : Marks n C K number
+  pub stopped : n < count → isIn (getD K n []) C ≡ false
 
--- a forced label at rank r, where r is a rank
-unfoldable pub forcedAt : ℕ → List ℕ → List ℕ
-forcedAt r weight = cond (ltb r 80) (set weight r forcedUnit) weight
+-- of n ranks from r on those that are marked
+unfoldable pub ranksFrom : List ℕ → ℕ → ℕ → List ℕ
+ranksFrom number r zero = []
+ranksFrom number r (suc n) = cond (eqb (getD number r 0) 0) (ranksFrom number (suc r) n) (r ∷ ranksFrom number (suc r) n)
 
--- the rank of node u, 80 where there is no such node
-unfoldable pub rankOrNone : List ℕ → ℕ → ℕ
-rankOrNone rank u = cond (ltb u 159) (getD rank u 0) 80
+-- the array begins with the list
+pub record Entries (xs array : List ℕ) : Type 0 where
+  pub each : (i : ℕ) → i < length xs → getD array i 0 ≡ getD xs i 0
+
+-- one rank is stored behind n others exactly if it is marked
+pub record Added (n number r : ℕ) (old : List ℕ) (k : ℕ) (new : List ℕ) : Type 0 where
+  pub count : k ≡ cond (eqb number 0) n (n + 1)
+  pub stored : new ≡ cond (eqb number 0) old (set old n r)

@@ -1,17 +1,17 @@
-// The end of the engine's work: the labels that are forced are the set, told by their places in the first tree's text and by the
+// The end of the engine's work: the labels that are chosen are the set, told by their places in the first tree's text and by the
 // text of its restriction.
 //
-// Labels go by rank, and a forced label weighs 128. Names that end in 1 are of the first tree.
+// Labels go by rank. Names that end in 1 are of the first tree.
 ghost use mathlib.Core.Path.{_≡_};
 ghost use mathlib.Core.Bool.{true, false, cond};
 ghost use mathlib.Core.List.{List, []};
 ghost use Prim.Native.Nat.{_<_, _≤_};
-ghost use lib.Dec.{eqb};
 ghost use lib.ListN.{length, set};
 ghost use Rattle.trees.specs.Label.{Label};
 ghost use Rattle.trees.specs.Tree.{Tree, Valid};
 ghost use Rattle.trees.specs.Arrays.{arraysOf};
-ghost use Rattle.mast.specs.Engine.{Numbered, forcedFrom};
+ghost use Rattle.leaves.specs.Numbered.{Numbered};
+ghost use Rattle.mast.specs.Weighing.{chosenFrom};
 ghost use Rattle.lists.specs.ReadList.{placesOf};
 ghost use Rattle.mast.specs.Largest.{setPlaces, largestOf, outputOf};
 ghost use Rattle.mast.specs.Finish.{InRange, placesFrom, Stored, Flagged, ByRank, fittedSet, resultFrom};
@@ -24,9 +24,9 @@ use trees::Refusal;
 use trees::TreeArrays;
 use writer::WriteAnswer;
 
-// Stores a label's place behind n others if the label is forced, and says how many there are then.
+// Stores a label's place behind n others if the label is chosen, and says how many there are then.
 fn add_place(
-    weight: u16,
+    chosen: bool,
     at: usize,
     len: usize,
     start: &mut [usize; 80],
@@ -34,10 +34,10 @@ fn add_place(
     n: usize,
 ) -> usize
     requires { ⌜ n < 80 ⌝ }
-    ensures { λ r. ⌜ Stored (eqb weight 128) at len (placesFrom n (now (start .entry)) (now (size .entry)))
+    ensures { λ r. ⌜ Stored chosen at len (placesFrom n (now (start .entry)) (now (size .entry)))
         (placesFrom r (now (start .exit)) (now (size .exit))) ⌝ }
 {
-    if weight != 128 {
+    if !chosen {
         return n;
     }
     start[n] = at;
@@ -49,14 +49,14 @@ fn add_place(
 fn set_places(
     order1: &[usize; 80],
     m: usize,
-    weight: &[u16; 81],
+    chosen: &[bool; 80],
     start1: &[usize; 159],
     size1: &[usize; 159],
 ) -> LabelPlaces
     requires { ⌜ (m ≤ 80) × InRange (now order1) m ⌝ }
     ensures { λ r. ⌜ ((s : Tree) (C : List Label) → Valid s → now (start1 .entry) ≡ arraysOf s .start
         → now (size1 .entry) ≡ arraysOf s .size → m ≡ length C → Numbered s C (now (order1 .entry))
-        → r ≡ setPlaces s (forcedFrom (now (weight .entry)) 0 C)) ⌝ }
+        → r ≡ setPlaces s (chosenFrom (now (chosen .entry)) 0 C)) ⌝ }
 {
     let mut start = [0usize; 80];
     let mut size = [0usize; 80];
@@ -64,32 +64,32 @@ fn set_places(
     let mut r: usize = 0;
     while r < m {
         let u = order1[r];
-        count = add_place(weight[r], start1[u], size1[u], &mut start, &mut size, count);
+        count = add_place(chosen[r], start1[u], size1[u], &mut start, &mut size, count);
         r += 1;
     }
     LabelPlaces { count, start, size }
 }
 
-// Flags leaf u if its label is forced.
-fn flag(weight: u16, u: usize, kept: &mut [bool; 159])
+// Flags leaf u if its label is chosen.
+fn flag(chosen: bool, u: usize, kept: &mut [bool; 159])
     requires { ⌜ u < 159 ⌝ }
-    ensures { λ _. ⌜ now (kept .exit) ≡ cond (eqb weight 128) (set (now (kept .entry)) u true) (now (kept .entry)) ⌝ }
+    ensures { λ _. ⌜ now (kept .exit) ≡ cond chosen (set (now (kept .entry)) u true) (now (kept .entry)) ⌝ }
 {
-    if weight == 128 {
+    if chosen {
         kept[u] = true;
     }
 }
 
 // Flags of the first tree's leaves whose labels are in the set.
-fn kept_leaves(order1: &[usize; 80], m: usize, weight: &[u16; 81]) -> [bool; 159]
+fn kept_leaves(order1: &[usize; 80], m: usize, chosen: &[bool; 80]) -> [bool; 159]
     requires { ⌜ (m ≤ 80) × InRange (now order1) m ⌝ }
     ensures { λ r. ⌜ ((s : Tree) (C : List Label) → Valid s → m ≡ length C → Numbered s C (now (order1 .entry))
-        → Flagged s (forcedFrom (now (weight .entry)) 0 C) r) ⌝ }
+        → Flagged s (chosenFrom (now (chosen .entry)) 0 C) r) ⌝ }
 {
     let mut kept = [false; 159];
     let mut r: usize = 0;
     while r < m {
-        flag(weight[r], order1[r], &mut kept);
+        flag(chosen[r], order1[r], &mut kept);
         r += 1;
     }
     kept
@@ -109,23 +109,23 @@ pub(crate) fn without_set(answer: LargestAnswer) -> LargestResult
     }
 }
 
-// The answer with the set of the forced labels, whose tree's text goes into `out`; or number 9, and `out` keeps every byte.
+// The answer with the set of the chosen labels, whose tree's text goes into `out`; or number 9, and `out` keeps every byte.
 pub(crate) fn solution(
     tree: TreeArrays,
     text: &[u8],
     order1: &[usize; 80],
     m: usize,
-    weight: &[u16; 81],
+    chosen: &[bool; 80],
     out: &mut [u8],
 ) -> LargestResult
     requires { ⌜ (m ≤ 80) × InRange (now order1) m ⌝ }
     ensures answer { λ r. ⌜ ((s : Tree) (C : List Label) → ByRank s C tree (now (text .entry)) (now (order1 .entry)) m
-        → r ≡ largestOf (fittedSet s (forcedFrom (now (weight .entry)) 0 C) (length (now (out .entry))))) ⌝ }
+        → r ≡ largestOf (fittedSet s (chosenFrom (now (chosen .entry)) 0 C) (length (now (out .entry))))) ⌝ }
     ensures output { λ _. ⌜ ((s : Tree) (C : List Label) → ByRank s C tree (now (text .entry)) (now (order1 .entry)) m
         → now (out .exit)
-        ≡ outputOf (fittedSet s (forcedFrom (now (weight .entry)) 0 C) (length (now (out .entry)))) (now (out .entry))) ⌝ }
+        ≡ outputOf (fittedSet s (chosenFrom (now (chosen .entry)) 0 C) (length (now (out .entry)))) (now (out .entry))) ⌝ }
 {
-    let kept = kept_leaves(order1, m, weight);
+    let kept = kept_leaves(order1, m, chosen);
     let written = writer::write_tree(restriction::restrict_tree(tree, kept), text, out);
     let WriteAnswer::Written(bytes) = written else {
         return without_set(LargestAnswer::Refused(Refusal {
@@ -136,7 +136,7 @@ pub(crate) fn solution(
     };
     let start1 = tree.start;
     let size1 = tree.size;
-    let set = set_places(order1, m, weight, &start1, &size1);
+    let set = set_places(order1, m, chosen, &start1, &size1);
     LargestResult {
         answer: LargestAnswer::Found(set.count, bytes),
         set,

@@ -10,7 +10,8 @@ ghost use Rattle.trees.specs.Label.{Label};
 ghost use Rattle.trees.specs.Tree.{Tree, Valid};
 ghost use Rattle.trees.specs.Stored.{partOf};
 ghost use Rattle.agreement.specs.Sets.{increasing};
-ghost use Rattle.mast.specs.Engine.{OwnLeaves, Numbered, Ordered, Ranked};
+ghost use Rattle.leaves.specs.Numbered.{Numbered};
+ghost use Rattle.mast.specs.Engine.{OwnLeaves, Ordered, Ranked};
 ghost use Rattle.mast.specs.Ranks.{Place, Opened, mostCommon, Collected};
 
 // The label of leaf u. The test is for safety alone: a tree has no node past 158.

@@ -1,136 +1,191 @@
-// The required list: the first of its labels that a tree lacks, and weights that force its labels.
+// The required list by rank: its labels are looked up among the common labels, so that the first one that is not common is known,
+// and later the three that clash.
 //
 // Names that end in 1 are of the first tree, in 2 of the second.
 ghost use mathlib.Core.Path.{_≡_};
+ghost use mathlib.Core.Bool.{true};
 ghost use mathlib.Core.List.{List};
-ghost use Prim.Native.Nat.{_<_, _≤_};
-ghost use lib.ListN.{length};
+ghost use Prim.Native.Nat.{ℕ, _-_, _<_, _≤_};
+ghost use lib.ListN.{length, getD};
 ghost use Rattle.trees.specs.Label.{Label};
 ghost use Rattle.trees.specs.Tree.{Tree};
-ghost use Rattle.agreement.specs.Closer.{holds, Common};
-ghost use Rattle.agreement.specs.Sets.{common, sorted, setOf};
-ghost use Rattle.agreement.specs.Answer.{lacking as lackingOf};
-ghost use Rattle.mast.specs.Engine.{OwnLeaves, OwnList, Ranked, Weighs};
-ghost use Rattle.mast.specs.Required.{lackOf, startWeights, forcedAt, rankOrNone};
+ghost use Rattle.agreement.specs.Closer.{holds};
+ghost use Rattle.agreement.specs.Sets.{increasing};
+ghost use Rattle.leaves.specs.Numbered.{Numbered};
+ghost use Rattle.mast.specs.Engine.{OwnLeaves, OwnList};
+ghost use Rattle.mast.specs.Required.{FoundRank, MarkedTo, ranksFrom, Entries, Added};
+ghost use Rattle.mast.specs.Asked.{Clashes, SomeClash, placesOfThree};
+use crate::columns::narrow;
+use crate::fill::wide;
+use lists::LabelPlaces;
+use trees::TreeArrays;
+use triples::Three;
 
-// The number in the list of a label that the first tree lacks, or that only the second lacks.
-pub(crate) enum Lack {
-    Nothing,
-    First(usize),
-    Second(usize),
+// The rank of a label among the m common ones, or m.
+fn rank_in(
+    text1: &[u8],
+    start1: &[usize; 159],
+    size1: &[usize; 159],
+    order1: &[usize; 80],
+    m: usize,
+    label: &[u8],
+) -> usize
+    requires { ⌜ m ≤ 80 ⌝ }
+    ensures { λ r. ⌜ r ≤ m ⌝ }
+    ensures { λ r. ⌜ ((s : Tree) (left : List ℕ) (nodes : ℕ) (C : List Label)
+        → OwnLeaves s (now (text1 .entry)) left (now (start1 .entry)) (now (size1 .entry)) nodes
+        → m ≡ length C → Numbered s C (now (order1 .entry)) → FoundRank C (now (label .entry)) r) ⌝ }
+{
+    let mut r: usize = 0;
+    while r < m {
+        if trees::same_label(trees::leaf_label(text1, start1, size1, order1[r]), label) {
+            return r;
+        }
+        r += 1;
+    }
+    r
+}
+
+// The number in the list, counted from 1, of each common label that is required, by rank. Returns the number, counted from 0, of the
+// first label of the list that is not common, or how many there are.
+pub(crate) fn mark_required(
+    text1: &[u8],
+    tree1: TreeArrays,
+    order1: &[usize; 80],
+    m: usize,
+    list: &[u8],
+    places: LabelPlaces,
+    number: &mut [u8; 81],
+) -> usize
+    requires { ⌜ (m ≤ 80) × (places .count ≤ 80) ⌝ }
+    ensures { λ n. ⌜ n ≤ places .count ⌝ }
+    ensures { λ n. ⌜ ((s : Tree) (C K : List Label)
+        → OwnLeaves s (now (text1 .entry)) (tree1 .left) (tree1 .start) (tree1 .size) (tree1 .nodes)
+        → OwnList K (now (list .entry)) (places .start) (places .size) (places .count)
+        → increasing C ≡ true → m ≡ length C → Numbered s C (now (order1 .entry)) → MarkedTo n (places .count) C K (now (number .exit))) ⌝ }
+{
+    let start1 = tree1.start;
+    let size1 = tree1.size;
+    let starts = places.start;
+    let sizes = places.size;
+    *number = [0; 81];
+    let mut k: usize = 0;
+    while k < places.count {
+        let r = rank_in(
+            text1,
+            &start1,
+            &size1,
+            order1,
+            m,
+            trees::part(list, starts[k], sizes[k]),
+        );
+        if r == m {
+            return k;
+        }
+        number[r] = narrow(k + 1);
+        k += 1;
+    }
+    k
 }
 
 // The tree has a leaf with this label.
-fn holds_label(
-    text: &[u8],
-    left: &[usize; 159],
-    start: &[usize; 159],
-    size: &[usize; 159],
-    nodes: usize,
-    label: &[u8],
-) -> bool
-    ensures { λ r. ⌜ ((t : Tree)
-        → OwnLeaves t (now (text .entry)) (now (left .entry)) (now (start .entry)) (now (size .entry)) nodes
+pub(crate) fn holds_label(text: &[u8], tree: TreeArrays, label: &[u8]) -> bool
+    ensures { λ r. ⌜ ((t : Tree) → OwnLeaves t (now (text .entry)) (tree .left) (tree .start) (tree .size) (tree .nodes)
         → r ≡ holds t (now (label .entry))) ⌝ }
 {
-    leaves::find_leaf(text, left, start, size, nodes, label) < nodes
+    let left = tree.left;
+    let start = tree.start;
+    let size = tree.size;
+    let nodes = tree.nodes;
+    leaves::find_leaf(text, &left, &start, &size, nodes, label) < nodes
 }
 
-// The first label of the list that either tree lacks.
-pub(crate) fn lacking(
-    text1: &[u8],
-    left1: &[usize; 159],
-    start1: &[usize; 159],
-    size1: &[usize; 159],
-    nodes1: usize,
-    text2: &[u8],
-    left2: &[usize; 159],
-    start2: &[usize; 159],
-    size2: &[usize; 159],
-    nodes2: usize,
-    list: &[u8],
-    starts: &[usize; 80],
-    sizes: &[usize; 80],
-    count: usize,
-) -> Lack
-    requires { ⌜ count ≤ 80 ⌝ }
-    ensures { λ r. ⌜ ((s t : Tree) (K : List Label)
-        → OwnLeaves s (now (text1 .entry)) (now (left1 .entry)) (now (start1 .entry)) (now (size1 .entry)) nodes1
-        → OwnLeaves t (now (text2 .entry)) (now (left2 .entry)) (now (start2 .entry)) (now (size2 .entry)) nodes2
-        → OwnList K (now (list .entry)) (now (starts .entry)) (now (sizes .entry)) count
-        → r ≡ lackOf (lackingOf s t K 0)) ⌝ }
+// Stores rank r behind n others if it is that of a required label, and says how many there are then.
+fn add_rank(ranks: &mut [usize; 80], n: usize, number: u8, r: usize) -> usize
+    requires { ⌜ n < 80 ⌝ }
+    ensures { λ k. ⌜ Added n number r (now (ranks .entry)) k (now (ranks .exit)) ⌝ }
 {
-    let mut k: usize = 0;
-    while k < count {
-        let label = trees::part(list, starts[k], sizes[k]);
-        if !holds_label(text1, left1, start1, size1, nodes1, label) {
-            return Lack::First(k);
-        }
-        if !holds_label(text2, left2, start2, size2, nodes2, label) {
-            return Lack::Second(k);
-        }
-        k += 1;
+    if number == 0 {
+        return n;
     }
-    Lack::Nothing
+    ranks[n] = r;
+    n + 1
 }
 
-// 1 for each of the first m ranks, 0 from there on.
-fn start_weights(m: usize, weight: &mut [u16; 81])
+// The ranks of the required labels, in label order.
+fn required_ranks(number: &[u8; 81], m: usize) -> [usize; 80]
     requires { ⌜ m ≤ 80 ⌝ }
-    ensures { λ _. ⌜ now (weight .exit) ≡ startWeights m ⌝ }
+    ensures { λ ranks. ⌜ Entries (ranksFrom (now (number .entry)) 0 m) ranks ⌝ }
 {
-    *weight = [0; 81];
+    let mut ranks = [0usize; 80];
+    let mut n: usize = 0;
     let mut r: usize = 0;
     while r < m {
-        weight[r] = 1;
+        n = add_rank(&mut ranks, n, number[r], r);
         r += 1;
     }
+    ranks
 }
 
-// The weight of a forced label at the rank of node u, where u is a common leaf. The tests are for safety alone: a required
-// label is common when this is called.
-fn force(rank: &[usize; 159], u: usize, weight: &mut [u16; 81])
-    ensures { λ _. ⌜ now (weight .exit) ≡ forcedAt (rankOrNone (now (rank .entry)) u) (now (weight .entry)) ⌝ }
+// The leaves with these ranks, by their numbers in a tree.
+fn leaves_at(ranks: &[usize; 80], order: &[usize; 80], count: usize) -> [usize; 80]
+    requires { ⌜ count ≤ 80 ⌝ }
+    ensures { λ leaf. ⌜ ((i : ℕ) → i < count → getD leaf i 0 ≡ getD (now (order .entry)) (getD (now (ranks .entry)) i 0) 0) ⌝ }
 {
-    if u < 159 {
-        let r = rank[u];
-        if r < 80 {
-            weight[r] = 128;
-        }
+    let mut leaf = [0usize; 80];
+    let mut i: usize = 0;
+    while i < count {
+        leaf[i] = trees::entry(order, ranks[i]);
+        i += 1;
     }
+    leaf
 }
 
-// The weights of the m common labels by rank when the labels of the list are forced; all of them are common.
-pub(crate) fn required_weights(
-    text1: &[u8],
-    left1: &[usize; 159],
-    start1: &[usize; 159],
-    size1: &[usize; 159],
-    nodes1: usize,
-    rank1: &[usize; 159],
-    m: usize,
-    list: &[u8],
-    starts: &[usize; 80],
-    sizes: &[usize; 80],
-    count: usize,
-    weight: &mut [u16; 81],
-)
-    requires { ⌜ (m ≤ 80) × (count ≤ 80) ⌝ }
-    ensures { λ _. ⌜ ((s t : Tree) (K : List Label)
-        → OwnLeaves s (now (text1 .entry)) (now (left1 .entry)) (now (start1 .entry)) (now (size1 .entry)) nodes1
-        → OwnList K (now (list .entry)) (now (starts .entry)) (now (sizes .entry)) count
-        → Ranked s (common s t) (now (rank1 .entry)) → m ≡ length (common s t) → Common s t (setOf K)
-        → Weighs (common s t) (sorted K) (now (weight .exit))) ⌝ }
+// Where label i of the required ones in label order stands in the list.
+fn place_at(starts: &[usize; 80], number: &[u8; 81], ranks: &[usize; 80], i: usize) -> usize
+    requires { ⌜ (i < 80) × (getD (now ranks) i 0 < 81) × (0 < getD (now number) (getD (now ranks) i 0) 0)
+        × (getD (now number) (getD (now ranks) i 0) 0 ≤ 80) ⌝ }
+    ensures { λ r. ⌜ r ≡ getD (now (starts .entry)) (getD (now (number .entry)) (getD (now (ranks .entry)) i 0) 0 - 1) 0 ⌝ }
 {
-    start_weights(m, weight);
-    let mut k: usize = count;
-    while 0 < k {
-        k -= 1;
-        let label = trees::part(list, starts[k], sizes[k]);
-        force(
-            rank1,
-            leaves::find_leaf(text1, left1, start1, size1, nodes1, label),
-            weight,
-        );
+    let r = ranks[i];
+    let n = wide(number[r]);
+    starts[n - 1]
+}
+
+// Number 8: where the first three required labels that clash stand in the list.
+pub(crate) fn clash_places(
+    tree1: TreeArrays,
+    tree2: TreeArrays,
+    order1: &[usize; 80],
+    order2: &[usize; 80],
+    m: usize,
+    number: &[u8; 81],
+    places: LabelPlaces,
+) -> Three
+    requires { ⌜ SomeClash tree1 tree2 (now order1) (now order2) m (now number) places ⌝ }
+    ensures { λ r. ⌜ ((s t : Tree) (K : List Label) (a b c : Label)
+        → Clashes s t K a b c tree1 tree2 (now (order1 .entry)) (now (order2 .entry)) m (now (number .entry)) places
+        → r ≡ placesOfThree K a b c) ⌝ }
+{
+    let count = places.count;
+    let starts = places.start;
+    let left1 = tree1.left;
+    let left2 = tree2.left;
+    let ranks = required_ranks(number, m);
+    let leaf1 = leaves_at(&ranks, order1, count);
+    let leaf2 = leaves_at(&ranks, order2, count);
+    let three = triples::first_clash(
+        &left1,
+        tree1.nodes,
+        &leaf1,
+        &left2,
+        tree2.nodes,
+        &leaf2,
+        count,
+    );
+    Three {
+        first: place_at(&starts, number, &ranks, three.first),
+        second: place_at(&starts, number, &ranks, three.second),
+        third: place_at(&starts, number, &ranks, three.third),
     }
 }

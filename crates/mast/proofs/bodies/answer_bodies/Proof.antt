@@ -1,75 +1,92 @@
--- The first label that a tree lacks decides; without one both trees hold the list. Assumes nothing.
-use mathlib.Core.Path.{_∙_, sym, refl}
+use mathlib.Core.Path.{_∙_, sym, ap}
 use native.Mathlib.Omega.{arith}
+use Rattle.agreement.specs.Sets.{common}
+use Rattle.agreement.proofs.SetLaws.{common-inc}
+use Rattle.mast.specs.Largest.{Solution, largestOf, outputOf}
+use Rattle.mast.proofs.BodyLaws.{first-few, list-few, first-leaves, own-list, first-valid, first-missing, all-asked, solve-reads, lack-output}
 use borrow.Author.Needs.{needs}
-use Rattle.mast.proofs.BodyLaws.{all-held, six-told, seven-told, own-list, turned-result, turned-output}
 use Rattle.mast.proofs.bodies.answer_bodies.Statement.{statement}
 use Rattle.mast.proofs.bodies.answer_bodies.Tie as tie
+use Rattle.mast.proofs.bodies.answer_bodies.Reads as reads
+use Rattle.mast.proofs.bodies.answer_bodies.Lts as lts
+use Rattle.mast.proofs.bodies.answer_held.Reads as answer-held-reads
+use Rattle.mast.proofs.bodies.lacks.Reads as lacks-reads
+use Rattle.mast.proofs.bodies.order_in.Reads as order-in-reads
+use Rattle.mast.proofs.required.mark_required.Reads as mark-required-reads
 
-lack-in-requires : tie.Need-lack-in-requires
-lack-in-requires c κs = search needs
+-- src/bodies.rt:204:9
+order-in-requires : tie.Need-order-in-requires
+order-in-requires c κs =
+    let p = c .before .before .before .before .before .before .pre in
+    (first-few _ _ _ _ _ _ (p .0), p .1 .few)
 
-enum-told : tie.Need-enum-told
-enum-told c = search needs
+-- src/bodies.rt:206:9
+mark-required-requires : tie.Need-mark-required-requires
+mark-required-requires c κs =
+    let p = c .before .before .before .before .before .before .before .before .before .pre in
+    (c .before .before .order-in .ensures .0, list-few _ _ _ _ _ _ (p .0))
 
-answer-held-requires : tie.Need-answer-held-requires
-answer-held-requires c κs =
-    let start = c .before .before .before .before .before .before .before .before in
-    let b = start .pre .0 in
-    (all-held _ _ _ _ _ _ b 0 (sym (c .before .enum-told .given .1) ∙ c .before .before .before .lack-in .ensures (b .s) (b .t) (b .K) (b .reads)), start .pre .1)
-
-enum-known-lack : tie.Need-enum-known-lack
-enum-known-lack c = search needs
-
+-- src/bodies.rt:208:9
 lacks-requires : tie.Need-lacks-requires
 lacks-requires c κs =
-    let start = c .before .before .before .before .before .before .before .before in
-    let b = start .pre .0 in
-    let q = six-told _ _ _ _ _ _ b 0 _ (sym (c .before .lack .given .1) ∙ c .before .before .before .lack-in .ensures (b .s) (b .t) (b .K) (b .reads)) in
-    omega (arith, q .low, own-list _ _ _ _ _ _ b .few)
+    let p = c .before .before .before .before .before .before .before .before .before .before .before .before .pre in
+    omega (arith, c .if1 .taken, list-few _ _ _ _ _ _ (p .0))
 
-enum-known-lack-2 : tie.Need-enum-known-lack-2
-enum-known-lack-2 c = search needs
+-- src/bodies.rt:208:9
+returns : tie.Need-returns
+returns c =
+    let p = c .before .before .before .before .before .before .before .before .before .before .before .before .before .pre in
+    let o = c .before .before .before .before .before .before .order-in .ensures .1 _ _ (p .0) (p .1) in
+    let b = o .bodies in
+    let k = c .before .before .before .mark-required .ensures .1 (b .s) (common (b .s) (b .t)) (b .K) (first-leaves _ _ _ _ _ _ b) (own-list _ _ _ _ _ _ b)
+    (common-inc (b .s) (b .t) (first-valid _ _ _ _ _ _ b .different)) (o .order .count) (o .order .first) in
+    let f = first-missing _ _ _ _ _ _ _ _ _ o (c .before .before .before .before .before .before .order-in .ensures .0) _ _ k (c .before .if1 .taken) in
+    let e = solve-reads _ _ _ _ (b .s) (b .t) (b .K) (b .reads) in (
+      c .lacks .ensures (b .s) (b .t) (b .K) _ f ∙ ap largestOf (sym e),
+      lack-output (b .s) (b .t) (b .K) _ _ _ _ _ f _ _ ∙ ap (λ (x : Solution). outputOf x (c .before .before .before .before .before .before .before .before .before .before .before .before .before .args .out .now)) (sym e),
+    )
 
-lacks-requires-2 : tie.Need-lacks-requires-2
-lacks-requires-2 c κs =
-    let start = c .before .before .before .before .before .before .before .before in
-    let b = start .pre .0 in
-    let q = seven-told _ _ _ _ _ _ b 0 _ (sym (c .before .lack2 .given .1) ∙ c .before .before .before .lack-in .ensures (b .s) (b .t) (b .K) (b .reads)) in
-    omega (arith, q .low, own-list _ _ _ _ _ _ b .few)
+-- src/bodies.rt:210:5
+answer-held-requires : tie.Need-answer-held-requires
+answer-held-requires c κs =
+    let p = c .before .before .before .before .before .before .before .before .before .before .before .before .before .before .before .before .pre in
+    let o = c .before .before .before .before .before .before .before .before .before .order-in .ensures .1 _ _ (p .0) (p .1) in
+    let b = o .bodies in
+    let k = c .before .before .before .before .before .before .mark-required .ensures .1 (b .s) (common (b .s) (b .t)) (b .K) (first-leaves _ _ _ _ _ _ b) (own-list _ _ _ _ _ _ b)
+    (common-inc (b .s) (b .t) (first-valid _ _ _ _ _ _ b .different)) (o .order .count) (o .order .first) in
+    record {
+      s = b .s;
+      t = b .t;
+      K = b .K;
+      of = all-asked _ _ _ _ _ _ _ _ _ o (c .before .before .before .before .before .before .before .before .before .order-in .ensures .0) _ _ k (c .before .before .before .before .if1 .left) (c .before .before .before .before .before .before .mark-required .ensures .0);
+    }
 
+-- src/bodies.rt:185:1
 same-length : tie.Need-same-length
 same-length c = search needs
 
-returns : tie.Need-returns
-returns c = search needs
-
+-- src/bodies.rt:185:1
 returns-2 : tie.Need-returns-2
 returns-2 c =
-    let start = c .before .before .before .before .before .before .before .before .before in
-    let b = start .pre .0 in
-    let q = six-told _ _ _ _ _ _ b _ _ (sym (c .before .before .lack .given .1) ∙ c .before .before .before .before .lack-in .ensures (b .s) (b .t) (b .K) (b .reads)) in
-    (c .lacks .ensures ∙ turned-result _ _ _ (q .solution) refl, turned-output _ _ _ (q .solution))
-
-returns-3 : tie.Need-returns-3
-returns-3 c =
-    let start = c .before .before .before .before .before .before .before .before .before in
-    let b = start .pre .0 in
-    let q = seven-told _ _ _ _ _ _ b _ _ (sym (c .before .before .lack2 .given .1) ∙ c .before .before .before .before .lack-in .ensures (b .s) (b .t) (b .K) (b .reads)) in
-    (c .lacks2 .ensures ∙ turned-result _ _ _ (q .solution) refl, turned-output _ _ _ (q .solution))
+    let p = c .before .before .before .before .before .before .before .before .before .before .before .before .before .before .before .before .before .before .before .pre in
+    let o = c .before .before .before .before .before .before .before .before .before .before .before .before .order-in .ensures .1 _ _ (p .0) (p .1) in
+    let b = o .bodies in
+    let k = c .before .before .before .before .before .before .before .before .before .mark-required .ensures .1 (b .s) (common (b .s) (b .t)) (b .K) (first-leaves _ _ _ _ _ _ b) (own-list _ _ _ _ _ _ b)
+    (common-inc (b .s) (b .t) (first-valid _ _ _ _ _ _ b .different)) (o .order .count) (o .order .first) in
+    let a = all-asked _ _ _ _ _ _ _ _ _ o (c .before .before .before .before .before .before .before .before .before .before .before .before .order-in .ensures .0) _ _ k (c .before .before .before .before .before .before .before .if1 .left) (c .before .before .before .before .before .before .before .before .before .mark-required .ensures .0) in
+    let e = solve-reads _ _ _ _ (b .s) (b .t) (b .K) (b .reads) in (
+      c .before .before .answer-held .ensures .0 (b .s) (b .t) (b .K) a ∙ ap largestOf (sym e),
+      c .before .before .answer-held .ensures .1 (b .s) (b .t) (b .K) a ∙ ap (λ (x : Solution). outputOf x (c .before .before .before .before .before .before .before .before .before .before .before .before .before .before .before .before .before .before .before .args .out .now)) (sym e),
+    )
 
 pub answer-bodies-spec : {M : Type 1} → statement M
 answer-bodies-spec =
     tie.close
     (tie.spec
-    lack-in-requires
-    enum-told
-    answer-held-requires
-    enum-known-lack
+    order-in-requires
+    mark-required-requires
     lacks-requires
-    enum-known-lack-2
-    lacks-requires-2
-    same-length
     returns
-    returns-2
-    returns-3)
+    answer-held-requires
+    same-length
+    returns-2)

@@ -12,9 +12,9 @@ returns c = (
   c .common-order .ensures .0,
   λ list places h b.
       record {
-        given = h;
-        order = c .common-order .ensures .1 (h .bodies .s) (h .bodies .t) (first-leaves _ _ _ _ _ _ (h .bodies)) (second-leaves _ _ _ _ _ _ (h .bodies))
-            (b .is _ _ (h .bodies .reads .first-is) (h .bodies .reads .second-is));
+        bodies = h;
+        order = c .common-order .ensures .1 (h .s) (h .t) (first-leaves _ _ _ _ _ _ h) (second-leaves _ _ _ _ _ _ h)
+            (b .is _ _ (h .reads .first-is) (h .reads .second-is));
       },
 )
 

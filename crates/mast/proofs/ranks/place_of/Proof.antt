@@ -7,7 +7,8 @@ use mathlib.Core.List.{List, []}
 use lib.ListN.{length, getD}
 use Rattle.trees.specs.Label.{Label, labelLess}
 use Rattle.trees.specs.Tree.{Tree}
-use Rattle.mast.specs.Engine.{OwnLeaves, Numbered}
+use Rattle.leaves.specs.Numbered.{Numbered}
+use Rattle.mast.specs.Engine.{OwnLeaves}
 use native.Mathlib.Omega.{arith}
 use borrow.Author.Needs.{needs}
 use Rattle.mast.proofs.ranks.place_of.Statement.{statement}

@@ -1,0 +1,87 @@
+use mathlib.Core.Path.{_≡_, refl, sym, _∙_, ap, ap₂}
+use native.Mathlib.Omega.{arith}
+use borrow.Author.Tests.{eq-eqb, ne-eqb}
+use Rattle.mast.specs.Table.{leafCellAt}
+use borrow.Author.Needs.{needs}
+use Rattle.mast.proofs.fill.leaf_cell.Statement.{statement}
+use Rattle.mast.proofs.fill.leaf_cell.Tie as tie
+use Rattle.mast.proofs.fill.leaf_cell.Reads as reads
+use Rattle.mast.proofs.fill.leaf_cell.Lts as lts
+use Rattle.mast.proofs.fill.cell.Reads as cell-reads
+use Rattle.mast.proofs.fill.column.Reads as column-reads
+use Rattle.mast.proofs.fill.heavier_cell.Reads as heavier-cell-reads
+
+-- src/fill.rt:152:9
+column-requires : tie.Need-column-requires
+column-requires c κs = search needs
+
+-- src/fill.rt:154:13
+column-requires-2 : tie.Need-column-requires-2
+column-requires-2 c κs = search needs
+
+-- src/fill.rt:156:36
+add-cell : tie.Need-add-cell
+add-cell c = search needs
+
+-- src/fill.rt:156:13
+cell-requires : tie.Need-cell-requires
+cell-requires c κs = search needs
+
+-- src/fill.rt:156:13
+returns : tie.Need-returns
+unfolding leafCellAt
+returns c =
+    rw (
+      eq-eqb _ _ (sym (c .before .before .before .before .column .ensures) ∙ c .before .before .before .if1 .taken),
+      eq-eqb _ _ (sym (c .before .before .column2 .ensures) ∙ c .before .if2 .taken),
+    )
+    (c .cell .ensures)
+
+-- src/fill.rt:158:9
+returns-2 : tie.Need-returns-2
+unfolding leafCellAt
+returns-2 c =
+    rw (
+      eq-eqb _ _ (sym (c .before .before .before .column .ensures) ∙ c .before .before .if1 .taken),
+      ← c .before .column2 .ensures,
+      ne-eqb _ _ (c .if2 .left),
+    )
+    refl
+
+-- src/fill.rt:160:9
+column-requires-3 : tie.Need-column-requires-3
+column-requires-3 c κs = search needs
+
+-- src/fill.rt:161:29
+add-heavier-cell : tie.Need-add-heavier-cell
+add-heavier-cell c = search needs
+
+-- src/fill.rt:161:36
+add-heavier-cell-2 : tie.Need-add-heavier-cell-2
+add-heavier-cell-2 c = search needs
+
+-- src/fill.rt:161:5
+heavier-cell-requires : tie.Need-heavier-cell-requires
+heavier-cell-requires c κs = search needs
+
+-- src/fill.rt:140:1
+returns-3 : tie.Need-returns-3
+unfolding leafCellAt
+returns-3 c =
+    rw (← c .before .before .before .column .ensures, ← c .before .column3 .ensures, ne-eqb _ _ (c .before .before .if1 .left)) (c .heavier-cell .ensures)
+
+pub leaf-cell-spec : {M : Type 1} → statement M
+leaf-cell-spec =
+    tie.close
+    (tie.spec
+    column-requires
+    column-requires-2
+    add-cell
+    cell-requires
+    returns
+    returns-2
+    column-requires-3
+    add-heavier-cell
+    add-heavier-cell-2
+    heavier-cell-requires
+    returns-3)

@@ -1,0 +1,147 @@
+use Prim.Native.Nat.{ℕ, _-_, _<_, _≤_, _+_}
+use mathlib.Core.Path.{_≡_, sym, _∙_, ap, subst}
+use mathlib.Core.Bool.{true, false}
+use mathlib.Core.List.{List, []}
+use lib.ListN.{length, getD}
+use native.Mathlib.Omega.{arith}
+use borrow.Author.Needs.{needs}
+use Rattle.trees.specs.Label.{Label, isIn}
+use Rattle.trees.specs.Tree.{Tree}
+use Rattle.agreement.specs.Sets.{increasing}
+use Rattle.leaves.specs.Numbered.{Numbered}
+use Rattle.mast.specs.Engine.{OwnLeaves, OwnList}
+use Rattle.mast.specs.Required.{FoundRank, Marks}
+use Rattle.mast.proofs.RequiredLaws.{list-part, marks-none, marks-next}
+use Rattle.mast.proofs.required.mark_required.Statement.{statement}
+use Rattle.mast.proofs.required.mark_required.Tie as tie
+use Rattle.mast.proofs.required.mark_required.Reads as reads
+use Rattle.mast.proofs.required.mark_required.Lts as lts
+use Rattle.mast.proofs.columns.narrow.Reads as narrow-reads
+use Rattle.mast.proofs.required.rank_in.Reads as rank-in-reads
+use Rattle.trees.proofs.part.Reads as part-reads
+
+abbrev Inv-loop : tie.InvT-loop
+Inv-loop text1 order1 m list places number₀ start1 size1 starts sizes k₀ number k =
+    (k ≤ places .count) × ((s : Tree) (left : List ℕ) (nodes : ℕ) (C K : List Label) → OwnLeaves s text1 left start1 size1 nodes
+    → OwnList K list starts sizes (places .count) → increasing C ≡ true → m ≡ length C → Numbered s C order1 → Marks k C K number)
+
+abbrev μ-loop : tie.MeasureT-loop
+μ-loop text1 order1 m list places number₀ start1 size1 starts sizes k₀ number k =
+    places .count - k
+
+-- src/required.rt:71:5
+loop-holds : tie.Need-loop-holds Inv-loop μ-loop
+loop-holds c =
+    (omega arith, λ s left nodes C K o l i e n. marks-none C K)
+
+-- src/required.rt:72:78
+mul-part : tie.Need-mul-part Inv-loop μ-loop
+mul-part c =
+    omega arith
+
+-- src/required.rt:72:78
+array-read-part : tie.Need-array-read-part Inv-loop μ-loop
+array-read-part c =
+    omega arith
+
+-- src/required.rt:72:89
+mul-part-2 : tie.Need-mul-part-2 Inv-loop μ-loop
+mul-part-2 c =
+    omega arith
+
+-- src/required.rt:72:89
+array-read-part-2 : tie.Need-array-read-part-2 Inv-loop μ-loop
+array-read-part-2 c =
+    omega arith
+
+-- src/required.rt:72:60
+part-requires : tie.Need-part-requires Inv-loop μ-loop
+part-requires c κs =
+    search needs
+
+-- src/required.rt:72:13
+rank-in-requires : tie.Need-rank-in-requires Inv-loop μ-loop
+rank-in-requires c κs =
+    c .before .before .before .before .before .before .before .before .before .before .before .before .before .pre .0
+
+-- src/required.rt:74:13
+returns : tie.Need-returns Inv-loop μ-loop
+returns c = (
+  omega arith,
+  λ s C K o l i e n.
+      let h : c .before .before .before .before .before .before .before .loop .k < c .before .before .before .before .before .before .before .before .before .before .before .before .before .before .before .args .places .count = c .before .before .before .before .before .if1 .taken in
+      let x = c .before .before .part .ensures ∙ list-part l (c .before .before .before .before .before .before .before .loop .k) h in
+      record {
+        marks = c .before .before .before .before .before .before .before .loop .inv .1 s _ _ C K o l i e n;
+        stopped = λ q.
+            let f = c .before .rank-in .ensures .1 s _ _ C o e n in
+            subst (λ (y : Label). isIn y C ≡ false) x (f .missing (omega (arith, c .if2 .taken)));
+      },
+)
+
+-- src/required.rt:76:28
+add-narrow : tie.Need-add-narrow Inv-loop μ-loop
+add-narrow c =
+    omega arith
+
+-- src/required.rt:76:21
+narrow-requires : tie.Need-narrow-requires Inv-loop μ-loop
+narrow-requires c κs =
+    search needs
+
+-- src/required.rt:76:9
+element-write-number : tie.Need-element-write-number Inv-loop μ-loop
+element-write-number c =
+    omega (arith, c .before .before .rank-in .ensures .0, c .before .if2 .left, c .before .before .before .before .before .before .before .before .before .before .before .before .before .before .before .before .pre .0)
+
+-- src/required.rt:77:9
+add-k : tie.Need-add-k Inv-loop μ-loop
+add-k c =
+    omega arith
+
+-- src/required.rt:71:5
+loop-less : tie.Need-loop-less Inv-loop μ-loop
+loop-less c =
+    omega arith
+
+-- src/required.rt:71:5
+loop-again : tie.Need-loop-again Inv-loop μ-loop
+loop-again c = (
+  omega arith,
+  λ s left nodes C K o l i e n.
+      let h : c .before .before .before .before .before .before .before .before .loop .k < c .before .before .before .before .before .before .before .before .before .before .before .before .before .before .before .before .args .places .count = c .before .before .before .before .before .before .if1 .taken in
+      let x = c .before .before .before .part .ensures ∙ list-part l (c .before .before .before .before .before .before .before .before .loop .k) h in
+      let low : c .before .before .rank-in .result < length C = omega (arith, c .before .before .rank-in .ensures .0, c .before .if2 .left) in
+      let f = c .before .before .rank-in .ensures .1 s left nodes C o e n in
+      marks-next (c .before .before .before .before .before .before .before .before .loop .k) C K (c .before .before .before .before .before .before .before .before .loop .number) (c .before .before .rank-in .result) _ i (l .different) (omega (arith, c .before .before .before .before .before .before .before .before .before .before .before .before .before .before .before .before .pre .0))
+      (omega (arith, l .count-is)) (omega (arith, c .before .before .before .before .before .before .before .before .before .before .before .before .before .before .before .before .pre .1)) low (f .at low ∙ x) (c .narrow .ensures) (c .before .before .before .before .before .before .before .before .loop .inv .1 s left nodes C K o l i e n),
+)
+
+-- src/required.rt:49:1
+returns-2 : tie.Need-returns-2 Inv-loop μ-loop
+returns-2 c = (
+  omega arith,
+  λ s C K o l i e n. record { marks = c .before .before .loop .inv .1 s _ _ C K o l i e n; stopped = λ q. absurd (omega (arith, c .if1 .left)) },
+)
+
+pub mark-required-spec : {M : Type 1} → statement M
+mark-required-spec =
+    tie.close
+    (tie.spec
+    Inv-loop
+    μ-loop
+    loop-holds
+    mul-part
+    array-read-part
+    mul-part-2
+    array-read-part-2
+    part-requires
+    rank-in-requires
+    returns
+    add-narrow
+    narrow-requires
+    element-write-number
+    add-k
+    loop-less
+    loop-again
+    returns-2)
