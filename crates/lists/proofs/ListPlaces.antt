@@ -5,10 +5,10 @@ use native.Mathlib.Omega.{arith}
 use mathlib.Core.Path.{_≡_, refl, ap, ap₂, sym, _∙_}
 use mathlib.Core.Bool.{_||_}
 use mathlib.Core.List.{List, [], _∷_, _++_, append-assoc}
-use lib.ListN.{length, set, replicate, length-append}
-use lib.Seq.{set-at}
+use lib.ListN.{length, set, length-append}
 use Rattle.trees.specs.Bytes.{commaByte}
 use Rattle.trees.specs.Label.{Label, isIn}
+use Rattle.trees.proofs.PaddedLaws.{padded-store}
 use Rattle.trees.proofs.AmongLaws.{amongParts, part-same}
 use Rattle.lists.specs.ReadList.{listLimit, padded, sizesOf, startsOf}
 
@@ -46,9 +46,7 @@ length-sizes (x ∷ xs) = ap suc (length-sizes xs)
 
 -- a store just past the entries lengthens them
 pub store : (l : List ℕ) (v n : ℕ) → length l ≡ n → n < listLimit → set (padded l) n v ≡ padded (l ++ (v ∷ []))
-store l v n e h =
-    let one : listLimit - length l ≡ suc (listLimit - length (l ++ (v ∷ []))) = simp length-append (omega arith) in
-    rw one (set-at l 0 (replicate (listLimit - length (l ++ (v ∷ []))) 0) v n e ∙ sym (append-assoc l (v ∷ []) (replicate (listLimit - length (l ++ (v ∷ []))) 0)))
+store l v n e h = rw (← e) (padded-store listLimit l (omega arith) v)
 
 -- a label looked for among the places of complete labels is one of them
 pub among-seen : (text : List ℕ) (x : Label) (ys : List Label) (before rest : List ℕ) (p : ℕ)

@@ -1,10 +1,10 @@
 -- Reading a list of labels from left to right: "The required list is empty, or labels joined by `,` with nothing else, at most
 -- 80, all different." Scope paper, "Tree text" and rows 1 to 5 of "Why a job is turned down".
-use Prim.Native.Nat.{ℕ, _+_, _-_}
+use Prim.Native.Nat.{ℕ, _+_}
 use mathlib.Core.Bool.{Bool, cond}
 use mathlib.Core.List.{List, [], _∷_, _++_}
 use lib.Dec.{eqb}
-use lib.ListN.{length, replicate}
+use lib.ListN.{length}
 use Rattle.trees.specs.declared.Kind.{Kind}
 use Rattle.trees.specs.declared.Kind.the-variants.{Label as LabelByte, Open, Close, Comma, Semicolon, Other}
 use Rattle.trees.specs.declared.Reason.{Reason}
@@ -12,6 +12,7 @@ use Rattle.trees.specs.declared.Reason.the-variants.{BadByte, EndsTooSoon, Labe
 use Rattle.trees.specs.declared.Body.{Body}
 use Rattle.trees.specs.Bytes.{kindOf}
 use Rattle.trees.specs.Label.{Label, labelLimit}
+use Rattle.trees.specs.Arrays.{paddedTo}
 use Rattle.trees.specs.Reading.{Reading, good, refused, repeats}
 use Rattle.lists.specs.declared.ListAnswer.the-variants.{Labels, Refused}
 use Rattle.lists.specs.declared.LabelPlaces.{LabelPlaces}
@@ -91,7 +92,7 @@ sizesOf [] = []
 sizesOf (x ∷ xs) = length x ∷ sizesOf xs
 
 abbrev pub padded : List ℕ → List ℕ
-padded xs = xs ++ replicate (listLimit - length xs) 0
+padded = paddedTo listLimit
 
 unfoldable pub placesOf : List Label → LabelPlaces
 unfolding startsOf sizesOf

@@ -135,7 +135,14 @@ module _ {text : List ℕ} {x : Label} {s : List Opened} {seen : List Label} {st
       (i + 1) rest (labelEnd text st a (length (textIn s)) (length x) i k)
   unfolding labelEnd nodesOf
   moves-end k h n e =
-      rw (repeats-ended seen x (b ∷ rest) (F .mode .1) (F .mode .3) (run-none b rest n), seen-before F, e) (go (bool-cases (isIn x seen)))
+      rw (repeats-ended seen x (b ∷ rest) (F .mode .1) (F .mode .3) (run-none b rest n), e)
+      (subst
+      (λ (r : Bool). Leads text
+      (cond (isIn x seen) (refused Repeated (length (textIn s))) (after (stepAfter (leaf x) s (st .opens) (seen ++ (x ∷ [])) k) i rest))
+      (i + 1) rest
+      (cond r (halt Repeated (length (textIn s)))
+      (afterOf (leafScan st) (leafArrays st a (length (textIn s)) (length x)) (st .nodes) i k)))
+      (sym (seen-before F)) (go (bool-cases (isIn x seen))))
     where
       u : nodesIn s + nodesOf (leaf x) - 1 ≡ st .nodes
       u = omega (arith, F .counts .nodes)

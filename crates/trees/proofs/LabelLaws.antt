@@ -10,7 +10,7 @@ use lib.Dec.{eqb, ltb}
 use lib.ListN.{length, getD, drop, drop-of-length-le}
 use lib.Seq.{drop-cons}
 use native.Mathlib.Numerals.{add-one}
-use borrow.Author.Tests.{ltb-true, ltb-false, eqb-true, lt-ltb, le-ltb, eq-eqb, ne-eqb}
+use borrow.Author.Tests.{ltb-true, ltb-false, eqb-true, lt-ltb, le-ltb, eq-eqb}
 use Rattle.trees.specs.Label.{Label, sameLabel, labelLess, orderOf}
 use Rattle.trees.specs.declared.Order.the-variants.{Less, Equal, Greater}
 use Rattle.trees.proofs.Bools.{bool-cases, clash, and-left, and-right, and-intro, or-cases, or-inl, or-inr}
@@ -199,23 +199,21 @@ module _ (a b : Label) (i : ℕ) (so-far : orderOf (drop i a) (drop i b) ≡ ord
   pub byte-same : i < length a → i < length b → getD a i 0 ≡ getD b i 0 → orderOf (drop (i + 1) a) (drop (i + 1) b) ≡ orderOf a b
   byte-same h k e = rw (add-one i) (sym (here h k ∙ heads-same (getD a i 0) (getD b i 0) (drop (suc i) a) (drop (suc i) b) e))
 
--- labels of other lengths are other labels
+-- labels of other lengths, or with another byte at some place, are other labels
 pub lengths-differ : (x y : Label) → (length x ≡ length y → ⊥) → sameLabel x y ≡ false
 lengths-differ x y h = ne-same x y (λ (e : x ≡ y). h (ap length e))
 
--- two labels of one length that are the same exactly if their rests from place i on are
+pub bytes-differ : (x y : Label) (i : ℕ) → (getD x i 0 ≡ getD y i 0 → ⊥) → sameLabel x y ≡ false
+bytes-differ x y i h = ne-same x y (λ (e : x ≡ y). h (ap (λ (l : Label). getD l i 0) e))
+
+-- two labels that are the same exactly if their rests from place i on are
 module _ (a b : Label) (i : ℕ) (so-far : sameLabel (drop i a) (drop i b) ≡ sameLabel a b) where
   pub all-same : length a ≤ i → length b ≤ i → true ≡ sameLabel a b
   unfolding sameLabel
   all-same h k = rw (← so-far, drop-of-length-le a h, drop-of-length-le b k) refl
 
-  at-byte : i < length a → i < length b → sameLabel a b ≡ (eqb (getD a i 0) (getD b i 0) && sameLabel (drop (suc i) a) (drop (suc i) b))
-  unfolding sameLabel
-  at-byte h k = sym so-far ∙ rw (drop-cons a i 0 h, drop-cons b i 0 k) refl
-
-  pub byte-differs : i < length a → i < length b → (getD a i 0 ≡ getD b i 0 → ⊥) → false ≡ sameLabel a b
-  byte-differs h k n = sym (at-byte h k ∙ rw (ne-eqb (getD a i 0) (getD b i 0) n) refl)
-
   pub byte-agrees : i < length a → i < length b → getD a i 0 ≡ getD b i 0
       → sameLabel (drop (i + 1) a) (drop (i + 1) b) ≡ sameLabel a b
-  byte-agrees h k e = rw (add-one i) (sym (at-byte h k ∙ rw (eq-eqb (getD a i 0) (getD b i 0) e) refl))
+  unfolding sameLabel
+  byte-agrees h k e =
+      rw (add-one i) (sym (sym so-far ∙ rw (drop-cons a i 0 h, drop-cons b i 0 k, eq-eqb (getD a i 0) (getD b i 0) e) refl))

@@ -6,6 +6,7 @@ pub mod FaultLaws
 pub mod LabelLaws
 pub mod ListLaws
 pub mod NormalLaws
+pub mod PaddedLaws
 pub mod PlaceLaws
 pub mod PostorderLaws
 pub mod Promises

@@ -40,8 +40,12 @@ unfoldable pub sizes : Tree → List ℕ
 sizes (leaf x) = length x ∷ []
 sizes (node a b) = sizes a ++ (sizes b ++ (0 ∷ []))
 
+-- 0 after the entries, n entries in all
+abbrev pub paddedTo : ℕ → List ℕ → List ℕ
+paddedTo n xs = xs ++ replicate (n - length xs) 0
+
 abbrev pub padded : List ℕ → List ℕ
-padded xs = xs ++ replicate (nodeLimit - length xs) 0
+padded = paddedTo nodeLimit
 
 -- the arrays of a tree whose text is read from its first byte
 unfoldable pub arraysOf : Tree → TreeArrays

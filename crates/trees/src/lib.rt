@@ -443,15 +443,22 @@ pub fn least(a: usize, b: usize) -> usize
     if a < b { a } else { b }
 }
 
-// Labels are the same, byte for byte: the lengths first, since labels of one tree often differ there.
+// Labels are the same, byte for byte. What differs most often is looked at first: the lengths, the last bytes, then the rest.
 pub fn same_label(a: &[u8], b: &[u8]) -> bool
     ensures { λ r. ⌜ r ≡ sameLabel (now (a .entry)) (now (b .entry)) ⌝ }
 {
-    if a.len() != b.len() {
+    let n = a.len();
+    if n != b.len() {
+        return false;
+    }
+    if n == 0 {
+        return true;
+    }
+    if a[n - 1] != b[n - 1] {
         return false;
     }
     let mut i: usize = 0;
-    while i < a.len() {
+    while i < n {
         if a[i] != b[i] {
             return false;
         }
