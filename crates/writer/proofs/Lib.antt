@@ -2,4 +2,5 @@ pub mod NodeLaws
 pub mod PassLaws
 pub mod StepLaws
 pub mod WriteLaws
+pub mod StackLaws
 pub mod Promises

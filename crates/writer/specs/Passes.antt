@@ -1,15 +1,15 @@
 -- The passes over tree arrays as the code makes them; intermediate: nothing public rests on this text.
-use Prim.Native.Nat.{ℕ, zero, suc, _+_, _-_, _<_, min}
+use Prim.Native.Nat.{ℕ, zero, suc, _+_, _*_, _-_, _<_, min}
 use mathlib.Core.Path.{_≡_}
-use mathlib.Core.Bool.{Bool, cond}
-use mathlib.Core.List.{List}
-use lib.Dec.{eqb}
-use lib.ListN.{getD, set, take, drop, replicate}
+use mathlib.Core.Bool.{Bool, true, false, cond, not}
+use mathlib.Core.List.{List, [], _∷_, _++_}
+use lib.Dec.{eqb, ltb}
+use lib.ListN.{length, getD, set, take, drop, replicate}
 use Rattle.trees.specs.declared.TreeArrays.{TreeArrays}
 use Rattle.trees.specs.Label.{Label, labelLess}
-use Rattle.trees.specs.Tree.{Tree, normal, smallest}
+use Rattle.trees.specs.Tree.{Tree, leaves, normal, smallest}
 use Rattle.trees.specs.Text.{written}
-use Rattle.trees.specs.Arrays.{treeAt}
+use Rattle.trees.specs.Arrays.{treeAt, isLeaf}
 
 abbrev pub arraysFrom : ℕ → List ℕ → List ℕ → List ℕ → List ℕ → TreeArrays
 arraysFrom n l r s z = record { nodes = n; left = l; right = r; start = s; size = z }
@@ -44,6 +44,12 @@ leastAt text l r s z t u =
     cond (eqb (getD l u 0) u) u
     (cond (goesFirst text s z t (getD l u 0) (getD r u 0)) (getD t (getD l u 0) 0) (getD t (getD r u 0) 0))
 
+-- the child of node u that is written first, u itself where it is a leaf
+unfoldable pub firstAt : List ℕ → List ℕ → List ℕ → List ℕ → List ℕ → List ℕ → ℕ → ℕ
+unfolding goesFirst
+firstAt text l r s z t u =
+    cond (eqb (getD l u 0) u) u (cond (goesFirst text s z t (getD l u 0) (getD r u 0)) (getD l u 0) (getD r u 0))
+
 -- the tree below node u
 unfoldable pub below : TreeArrays → List ℕ → ℕ → Tree
 below a text u = treeAt (suc u) a text u
@@ -56,3 +62,64 @@ nodeText a text u = written (normal (below a text u))
 -- t names the leaf with the smallest label below each of the first n nodes
 abbrev pub Leasts : TreeArrays → List ℕ → List ℕ → ℕ → Type 0
 Leasts a text t n = (u : ℕ) → u < n → labelIn text (a .start) (a .size) (getD t u 0) ≡ smallest (below a text u)
+
+-- node u is a leaf, or has child f written first and child s after it
+pub data Child (a : TreeArrays) (text : List ℕ) (u f s : ℕ) : Type 0 where
+  own : f ≡ u → isLeaf a u ≡ true → Child a text u f s
+  pair : f < u → s < u
+      → nodeText a text u ≡ 40 ∷ (nodeText a text f ++ (44 ∷ (nodeText a text s ++ (41 ∷ []))))
+      → length (leaves (below a text u)) ≡ length (leaves (below a text f)) + length (leaves (below a text s))
+      → Child a text u f s
+
+-- the child that is not f
+abbrev pub otherOf : List ℕ → List ℕ → ℕ → ℕ → ℕ
+otherOf l r f u = cond (eqb f (getD l u 0)) (getD r u 0) (getD l u 0)
+
+abbrev pub Children : TreeArrays → List ℕ → List ℕ → ℕ → Type 0
+Children a text first n =
+    (u : ℕ) → u < n → Child a text u (getD first u 0) (otherOf (a .left) (a .right) (getD first u 0) u)
+
+-- things to write: a node by its number, 159 for `,` and 160 for `)`
+unfoldable pub markOf : ℕ → ℕ
+markOf k = cond (eqb k 159) 44 41
+
+-- what a thing writes in all
+unfoldable pub thingText : TreeArrays → List ℕ → ℕ → List ℕ
+unfolding nodeText markOf
+thingText a text k = cond (ltb k 159) (nodeText a text k) (markOf k ∷ [])
+
+-- and itself
+unfoldable pub ownText : List ℕ → List ℕ → List ℕ → List ℕ → ℕ → List ℕ
+unfolding markOf
+ownText text s z first k =
+    cond (ltb k 159) (cond (eqb (getD first k 0) k) (labelIn text s z k) (40 ∷ [])) (markOf k ∷ [])
+
+-- a thing after which others come
+unfoldable pub goesOn : List ℕ → ℕ → Bool
+goesOn first k = cond (ltb k 159) (not (eqb (getD first k 0) k)) false
+
+unfoldable pub depthAfter : List ℕ → ℕ → ℕ → ℕ
+unfolding goesOn
+depthAfter first k d = cond (goesOn first k) (d + 4) d
+
+unfoldable pub stackAfter : List ℕ → List ℕ → List ℕ → ℕ → List ℕ → ℕ → List ℕ
+unfolding goesOn
+stackAfter l r first k stack d =
+    cond (goesOn first k)
+    (set (set (set (set stack d 160) (d + 1) (otherOf l r (getD first k 0) k)) (d + 2) 159) (d + 3) (getD first k 0))
+    stack
+
+-- what the stack's first d things write, the last of them first, and in how many steps
+unfoldable pub stackText : TreeArrays → List ℕ → List ℕ → ℕ → List ℕ
+unfolding thingText
+stackText a text stack zero = []
+stackText a text stack (suc d) = thingText a text (getD stack d 0) ++ stackText a text stack d
+
+unfoldable pub thingSteps : TreeArrays → List ℕ → ℕ → ℕ
+unfolding below
+thingSteps a text k = cond (ltb k 159) (4 * length (leaves (below a text k)) - 3) 1
+
+unfoldable pub stackSteps : TreeArrays → List ℕ → List ℕ → ℕ → ℕ
+unfolding thingSteps
+stackSteps a text stack zero = 0
+stackSteps a text stack (suc d) = thingSteps a text (getD stack d 0) + stackSteps a text stack d

@@ -5,14 +5,16 @@ use trees::Body;
 use trees::Reason;
 use trees::Refusal;
 use trees::TreeArrays;
-ghost use Prim.Native.Nat.{_+_, _<_, _≤_, min};
+ghost use Prim.Native.Nat.{ℕ, _+_, _-_, _<_, _≤_, min};
 ghost use mathlib.Core.Path.{_≡_};
 ghost use mathlib.Core.Bool.{true, cond};
 ghost use lib.ListN.{length, getD, take, drop};
 ghost use lib.Seq.{sets};
+ghost use Rattle.trees.specs.Tree.{leaves};
 ghost use Rattle.trees.specs.Arrays.{goodNode, goodNodes, treeOf};
 ghost use Rattle.writer.specs.Write.{writeAnswer, outputAfter};
-ghost use Rattle.writer.specs.Passes.{arraysFrom, pass, sumAt, rootSum, goesFirst, leastAt, nodeText, Leasts};
+ghost use Rattle.writer.specs.Passes.{arraysFrom, pass, sumAt, rootSum, goesFirst, leastAt, firstAt, below, nodeText, Children};
+ghost use Rattle.writer.specs.Passes.{markOf, ownText, depthAfter, stackAfter};
 
 // How many bytes were written, or why none was: the output is too short, or the arrays stand for no tree of at most
 // 80 leaves.
@@ -243,6 +245,53 @@ fn least_pass(
     }
 }
 
+// The child of node u that is written first, u itself where it is a leaf.
+fn first_at(
+    text: &[u8],
+    left: &[usize],
+    right: &[usize],
+    start: &[usize],
+    size: &[usize],
+    least: &[usize],
+    u: usize,
+) -> usize
+    ensures { λ r.
+        ⌜ r ≡ firstAt (now (text .entry)) (now (left .entry)) (now (right .entry)) (now (start .entry)) (now (size .entry))
+        (now (least .entry)) u ⌝ }
+{
+    let l = entry(left, u);
+    if l == u {
+        return u;
+    }
+    let r = entry(right, u);
+    let first = goes_first(text, start, size, least, l, r);
+    pick(first, l, r)
+}
+
+// The child of each node that is written first.
+fn first_pass(
+    text: &[u8],
+    left: &[usize],
+    right: &[usize],
+    start: &[usize],
+    size: &[usize],
+    least: &[usize],
+    nodes: usize,
+    first: &mut [usize],
+)
+    requires { ⌜ nodes ≤ length (now first) ⌝ }
+    ensures { λ _.
+        ⌜ ((u : ℕ) → u < nodes → getD (now (first .exit)) u 0
+        ≡ firstAt (now (text .entry)) (now (left .entry)) (now (right .entry)) (now (start .entry)) (now (size .entry))
+        (now (least .entry)) u) ⌝ }
+{
+    let mut u: usize = 0;
+    while u < nodes {
+        first[u] = first_at(text, left, right, start, size, least, u);
+        u += 1;
+    }
+}
+
 // Stores the bytes of `x` from `at` on, and says where the next byte goes.
 fn put_bytes(x: &[u8], out: &mut [u8], at: usize) -> usize
     requires { ⌜ at + length (now x) ≤ length (now out) ⌝ }
@@ -257,47 +306,114 @@ fn put_bytes(x: &[u8], out: &mut [u8], at: usize) -> usize
     at + i
 }
 
-// Writes node u from `at` on, and says where the next byte goes.
-fn put_node(
+// What stands on the stack of things to write: a node by its number, or one of these.
+const COMMA: usize = 159;
+
+const CLOSE: usize = 160;
+
+// The byte of a thing to write that is no node.
+fn mark(k: usize) -> u8
+    ensures { λ r. ⌜ r ≡ markOf k ⌝ }
+{
+    if k == COMMA { b',' } else { b')' }
+}
+
+// Stores what thing k writes itself: its byte, a leaf's label, an inner node's `(`. Says where the next byte goes.
+fn put_own(
+    text: &[u8],
+    start: &[usize],
+    size: &[usize],
+    first: &[usize],
+    k: usize,
+    out: &mut [u8],
+    at: usize,
+) -> usize
+    requires { ⌜ at + length (ownText (now text) (now start) (now size) (now first) k) ≤ length (now out) ⌝ }
+    ensures next { λ r.
+        ⌜ r ≡ at + length (ownText (now (text .entry)) (now (start .entry)) (now (size .entry)) (now (first .entry)) k) ⌝ }
+    ensures stored { λ _.
+        ⌜ now (out .exit) ≡ sets (now (out .entry)) at
+        (ownText (now (text .entry)) (now (start .entry)) (now (size .entry)) (now (first .entry)) k) ⌝ }
+{
+    if COMMA <= k {
+        out[at] = mark(k);
+        return at + 1;
+    }
+    if entry(first, k) == k {
+        let label = part(text, entry(start, k), entry(size, k));
+        return put_bytes(label, out, at);
+    }
+    out[at] = b'(';
+    at + 1
+}
+
+// Puts what is to be written after an inner node's `(` onto the stack, the first last, and says how much is there then.
+fn push(
+    left: &[usize],
+    right: &[usize],
+    first: &[usize],
+    k: usize,
+    stack: &mut [usize],
+    depth: usize,
+) -> usize
+    requires { ⌜ depth + 4 ≤ length (now stack) ⌝ }
+    ensures depth { λ r. ⌜ r ≡ depthAfter (now (first .entry)) k depth ⌝ }
+    ensures stored { λ _.
+        ⌜ now (stack .exit) ≡ stackAfter (now (left .entry)) (now (right .entry)) (now (first .entry)) k (now (stack .entry)) depth ⌝ }
+{
+    if COMMA <= k {
+        return depth;
+    }
+    let f = entry(first, k);
+    if f == k {
+        return depth;
+    }
+    let l = entry(left, k);
+    let r = entry(right, k);
+    let other = pick(f == l, r, l);
+    stack[depth] = CLOSE;
+    stack[depth + 1] = other;
+    stack[depth + 2] = COMMA;
+    stack[depth + 3] = f;
+    depth + 4
+}
+
+// Writes the tree of the last node, and says where the next byte goes. What is left to write stands on a stack: a tree of 80
+// leaves takes 4 * 80 - 3 steps, and no step leaves more than there are steps to come.
+fn put_tree(
     text: &[u8],
     nodes: usize,
     left: &[usize],
     right: &[usize],
     start: &[usize],
     size: &[usize],
-    least: &[usize],
+    first: &[usize],
     out: &mut [u8],
-    at: usize,
-    u: usize,
 ) -> usize
-    requires { ⌜ goodNodes (arraysFrom nodes (now left) (now right) (now start) (now size)) (now text) nodes ≡ true ⌝ }
-    requires { ⌜ Leasts (arraysFrom nodes (now left) (now right) (now start) (now size)) (now text) (now least) nodes ⌝ }
-    requires { ⌜ u < nodes ⌝ }
-    requires { ⌜ at + length (nodeText (arraysFrom nodes (now left) (now right) (now start) (now size)) (now text) u)
+    requires { ⌜ (0 < nodes) × (nodes ≤ 159) ⌝ }
+    requires { ⌜ Children (arraysFrom nodes (now left) (now right) (now start) (now size)) (now text) (now first) nodes ⌝ }
+    requires { ⌜ length (leaves (below (arraysFrom nodes (now left) (now right) (now start) (now size)) (now text) (nodes - 1))) ≤ 80 ⌝ }
+    requires { ⌜ length (nodeText (arraysFrom nodes (now left) (now right) (now start) (now size)) (now text) (nodes - 1))
         ≤ length (now out) ⌝ }
     ensures next { λ r.
-        ⌜ r ≡ at + length (nodeText (arraysFrom nodes (now (left .entry)) (now (right .entry)) (now (start .entry)) (now (size .entry)))
-        (now (text .entry)) u) ⌝ }
+        ⌜ r ≡ 0 + length (nodeText (arraysFrom nodes (now (left .entry)) (now (right .entry)) (now (start .entry)) (now (size .entry)))
+        (now (text .entry)) (nodes - 1)) ⌝ }
     ensures stored { λ _.
-        ⌜ now (out .exit) ≡ sets (now (out .entry)) at
+        ⌜ now (out .exit) ≡ sets (now (out .entry)) 0
         (nodeText (arraysFrom nodes (now (left .entry)) (now (right .entry)) (now (start .entry)) (now (size .entry)))
-        (now (text .entry)) u) ⌝ }
+        (now (text .entry)) (nodes - 1)) ⌝ }
 {
-    let l = entry(left, u);
-    if l == u {
-        let label = part(text, entry(start, u), entry(size, u));
-        return put_bytes(label, out, at);
+    let mut stack = [0usize; 320];
+    stack[0] = nodes - 1;
+    let mut depth: usize = 1;
+    let mut at: usize = 0;
+    while 0 < depth {
+        depth -= 1;
+        let k = stack[depth];
+        at = put_own(text, start, size, first, k, out, at);
+        depth = push(left, right, first, k, &mut stack, depth);
     }
-    let r = entry(right, u);
-    let first = goes_first(text, start, size, least, l, r);
-    let f = pick(first, l, r);
-    let s = pick(first, r, l);
-    out[at] = b'(';
-    let i = put_node(text, nodes, left, right, start, size, least, out, at + 1, f);
-    out[i] = b',';
-    let j = put_node(text, nodes, left, right, start, size, least, out, i + 1, s);
-    out[j] = b')';
-    j + 1
+    at
 }
 
 // Writes the tree of good arrays that have a node.
@@ -338,8 +454,9 @@ fn write_nodes(
     }
     let mut least = [0usize; 159];
     least_pass(text, left, right, start, size, nodes, &mut least);
-    let root = nodes - 1;
-    let end = put_node(text, nodes, left, right, start, size, &least, out, 0, root);
+    let mut first = [0usize; 159];
+    first_pass(text, left, right, start, size, &least, nodes, &mut first);
+    let end = put_tree(text, nodes, left, right, start, size, &first, out);
     out[end] = b';';
     WriteAnswer::Written(end + 1)
 }

@@ -32,7 +32,9 @@ enum-told c = search needs
 
 returns : tie.Need-returns
 returns c =
-    λ s t xs g. lacked s t xs _ _ _ _ _ _ g _ _ (c .before .before .before .before .before .before .leaf-numbers .ensures) (c .before .before .before .before .before .leaf-numbers2 .ensures) _
+    let c5 = c .before .before .before .before .before in
+    let c6 = c5 .before in
+    λ s t xs g. lacked s t xs _ _ _ _ _ _ g _ _ (c6 .leaf-numbers .ensures) (c5 .leaf-numbers2 .ensures) _
     (c .before .lacking .ensures) (not-agreed _ (c .match .keys2))
 
 label-order-requires : tie.Need-label-order-requires
@@ -49,16 +51,27 @@ first-clash-requires c κs = search needs
 
 told-requires : tie.Need-told-requires
 told-requires c κs =
-    let few = c .before .before .before .before .before .before .before .before .before .before .before .before .before .before .before .before .before .before .before .before .before .before .before .before .before .before .before .before .pre in
-    let all : min (c .before .before .before .before .before .before .before .before .before .before .before .before .before .before .before .before .before .before .before .before .before .before .before .before .before .before .before .before .args .places .count) 80 ≡ c .before .before .before .before .before .before .before .before .before .before .before .before .before .before .before .before .before .before .before .before .before .before .before .before .before .before .before .before .args .places .count = omega arith in
-    (few, c .before .before .before .before .before .before .before .before .before .before .before .before .before .before .before .label-order .ensures .0, subst (λ (n : ℕ). Ranks n (c .before .before .first-clash .result)) all (c .before .before .first-clash .ensures .0))
+    let c15 = c .before .before .before .before .before .before .before .before .before .before .before .before .before .before .before in
+    let c28 = c15 .before .before .before .before .before .before .before .before .before .before .before .before .before in
+    let few = c28 .pre in
+    let all : min (c28 .args .places .count) 80 ≡ c28 .args .places .count = omega arith in
+    (few, c15 .label-order .ensures .0, subst (λ (n : ℕ). Ranks n (c .before .before .first-clash .result)) all (c .before .before .first-clash .ensures .0))
 
 returns-2 : tie.Need-returns-2
 returns-2 c =
+    let c3 = c .before .before .before in
+    let c10 = c3 .before .before .before .before .before .before .before in
+    let c13 = c10 .before .before .before in
+    let c16 = c13 .before .before .before in
+    let c17 = c16 .before in
+    let c19 = c17 .before .before in
+    let c23 = c19 .before .before .before .before in
+    let c24 = c23 .before in
+    let c29 = c24 .before .before .before .before .before in
     λ s t xs g. c .told .ensures
-    ∙ compared-verdict s t xs _ _ _ _ _ _ g _ _ (c .before .before .before .before .before .before .before .before .before .before .before .before .before .before .before .before .before .before .before .before .before .before .before .before .leaf-numbers .ensures) (c .before .before .before .before .before .before .before .before .before .before .before .before .before .before .before .before .before .before .before .before .before .before .before .leaf-numbers2 .ensures) _ (c .before .before .before .before .before .before .before .before .before .before .before .before .before .before .before .before .before .before .before .lacking .ensures)
-    (c .before .before .before .before .before .before .before .before .before .before .before .before .before .before .before .before .before .enum-told .given .1) (c .before .before .before .before .before .before .before .before .before .before .before .before .before .before .before .before .label-order .result) (c .before .before .before .before .before .before .before .before .before .before .before .before .before .ranked .result) (c .before .before .before .before .before .before .before .before .before .before .ranked2 .result) (c .before .before .before .before .before .before .before .before .before .before .before .before .before .before .before .before .label-order .ensures .1)
-    (c .before .before .before .before .before .before .before .before .before .before .before .before .before .ranked .ensures) (c .before .before .before .before .before .before .before .before .before .before .ranked2 .ensures) (c .before .before .before .before .before .before .before .before .before .before .before .before .before .before .before .before .before .before .before .before .before .before .before .before .before .before .before .before .before .pre) (c .before .before .before .first-clash .result) (c .before .before .before .first-clash .ensures .1)
+    ∙ compared-verdict s t xs _ _ _ _ _ _ g _ _ (c24 .leaf-numbers .ensures) (c23 .leaf-numbers2 .ensures) _ (c19 .lacking .ensures)
+    (c17 .enum-told .given .1) (c16 .label-order .result) (c13 .ranked .result) (c10 .ranked2 .result) (c16 .label-order .ensures .1)
+    (c13 .ranked .ensures) (c10 .ranked2 .ensures) (c29 .pre) (c3 .first-clash .result) (c3 .first-clash .ensures .1)
 
 pub compared-spec : {M : Type 1} → statement M
 compared-spec =

@@ -75,30 +75,42 @@ third-requires c κs =
 
 returns : tie.Need-returns Inv-loop μ-loop
 returns c =
-    let n = c .before .before .before .before .before .before .before .before .before .before .before .before .before .before .before .before .before .least .result in
-    let i = c .before .before .before .before .before .before .before .before .before .before .before .before .loop .i in
-    let j = c .before .before .before .before .second .result in
-    let row1 = c .before .before .before .before .before .before .before .before .before .lca-row .result in
-    let row2 = c .before .before .before .before .before .before .before .lca-row2 .result in
-    let a = c .before .before .before .before .before .before .before .before .before .before .before .before .before .before .before .before .before .before .args in
+    let c3 = c .before .before .before in
+    let c4 = c3 .before in
+    let c7 = c4 .before .before .before in
+    let c9 = c7 .before .before in
+    let c11 = c9 .before .before in
+    let c12 = c11 .before in
+    let c13 = c12 .before in
+    let c14 = c13 .before in
+    let c15 = c14 .before in
+    let c16 = c15 .before in
+    let c17 = c16 .before in
+    let c18 = c17 .before in
+    let n = c17 .least .result in
+    let i = c12 .loop .i in
+    let j = c4 .second .result in
+    let row1 = c9 .lca-row .result in
+    let row2 = c7 .lca-row2 .result in
+    let a = c18 .args in
     let own : ℕ → ℕ → Bool = λ p q. apartOf (getD row1 p 0) (getD row1 q 0) (getD row2 p 0) (getD row2 q 0) in
-    let two = c .before .before .before .before .second .ensures own (λ p q _ _ _. refl) in
+    let two = c4 .second .ensures own (λ p q _ _ _. refl) in
     let later = second-later own n i j two in
-    let ranks = ranks-found own n i j (c .third .result) (c .before .before .before .before .before .before .before .before .before .before .before .loop-test .taken) two (c .before .before .before .if1 .taken)
+    let ranks = ranks-found own n i j (c .third .result) (c11 .loop-test .taken) two (c3 .if1 .taken)
     (c .third .ensures own i later (λ p q _ _ _. refl)) in (
-      subst (λ (m : ℕ). Ranks m (record { first = i; second = j; third = c .third .result })) (c .before .before .before .before .before .before .before .before .before .before .before .before .before .before .before .before .before .least .ensures) ranks,
+      subst (λ (m : ℕ). Ranks m (record { first = i; second = j; third = c .third .result })) (c17 .least .ensures) ranks,
       λ s t xs inc len few p q.
           let d = inc-distinct xs inc in
-          let l : n ≡ length xs = omega (arith, c .before .before .before .before .before .before .before .before .before .before .before .before .before .before .before .before .before .least .ensures) in
+          let l : n ≡ length xs = omega (arith, c17 .least .ensures) in
           let tells = rows-tell s t xs d (a .left1 .now) (a .nodes1) (a .leaf1 .now) (a .left2 .now) (a .nodes2) (a .leaf2 .now) p q
-          (c .before .before .before .before .before .before .before .before .before .before .before .before .before .before .lows .result) (c .before .before .before .before .before .before .before .before .before .before .before .before .before .lows2 .result) _ _ (c .before .before .before .before .before .before .before .before .before .before .before .before .before .before .before .before .least2 .ensures) (c .before .before .before .before .before .before .before .before .before .before .before .before .before .before .before .least3 .ensures) (c .before .before .before .before .before .before .before .before .before .before .before .before .before .before .lows .ensures) (c .before .before .before .before .before .before .before .before .before .before .before .before .before .lows2 .ensures)
-          n i row1 row2 l (c .before .before .before .before .before .before .before .before .before .before .before .loop-test .taken) (c .before .before .before .before .before .before .before .before .before .lca-row .ensures) (c .before .before .before .before .before .before .before .lca-row2 .ensures) in
-          let second = c .before .before .before .before .second .ensures (clashAt s t xs i) tells in
+          (c14 .lows .result) (c13 .lows2 .result) _ _ (c16 .least2 .ensures) (c15 .least3 .ensures) (c14 .lows .ensures) (c13 .lows2 .ensures)
+          n i row1 row2 l (c11 .loop-test .taken) (c9 .lca-row .ensures) (c7 .lca-row2 .ensures) in
+          let second = c4 .second .ensures (clashAt s t xs i) tells in
           let first = sym (from-hit (λ k. ltb (secondOf (clashAt s t xs k) n k) n) n i
-          (ap (λ (z : ℕ). ltb z n) (sym second) ∙ lt-ltb j n (c .before .before .before .if1 .taken)))
-          ∙ c .before .before .before .before .before .before .before .before .before .before .before .before .loop .inv .1 s t xs inc l p q in
-          found-is s t xs n (sym l) d i j (c .third .result) first (c .before .before .before .before .before .before .before .before .before .before .before .loop-test .taken) second (c .before .before .before .if1 .taken)
-          (c .third .ensures (clashAt s t xs i) i later tells) (ranks .found (c .before .before .before .before .before .before .before .before .before .before .before .loop-test .taken) .2),
+          (ap (λ (z : ℕ). ltb z n) (sym second) ∙ lt-ltb j n (c3 .if1 .taken)))
+          ∙ c12 .loop .inv .1 s t xs inc l p q in
+          found-is s t xs n (sym l) d i j (c .third .result) first (c11 .loop-test .taken) second (c3 .if1 .taken)
+          (c .third .ensures (clashAt s t xs i) i later tells) (ranks .found (c11 .loop-test .taken) .2),
     )
 
 add-i : tie.Need-add-i Inv-loop μ-loop
@@ -111,28 +123,39 @@ loop-less c =
 
 loop-again : tie.Need-loop-again Inv-loop μ-loop
 loop-again c =
-    let n = c .before .before .before .before .before .before .before .before .before .before .before .before .before .before .least .result in
-    let i = c .before .before .before .before .before .before .before .before .before .loop .i in
-    let a = c .before .before .before .before .before .before .before .before .before .before .before .before .before .before .before .args in (
+    let c4 = c .before .before .before .before in
+    let c6 = c4 .before .before in
+    let c8 = c6 .before .before in
+    let c9 = c8 .before in
+    let c10 = c9 .before in
+    let c11 = c10 .before in
+    let c12 = c11 .before in
+    let c13 = c12 .before in
+    let c14 = c13 .before in
+    let c15 = c14 .before in
+    let n = c14 .least .result in
+    let i = c9 .loop .i in
+    let a = c15 .args in (
       omega arith,
       λ s t xs inc l p q.
           let tells = rows-tell s t xs (inc-distinct xs inc) (a .left1 .now) (a .nodes1) (a .leaf1 .now) (a .left2 .now) (a .nodes2)
-          (a .leaf2 .now) p q (c .before .before .before .before .before .before .before .before .before .before .before .lows .result) (c .before .before .before .before .before .before .before .before .before .before .lows2 .result) _ _ (c .before .before .before .before .before .before .before .before .before .before .before .before .before .least2 .ensures) (c .before .before .before .before .before .before .before .before .before .before .before .before .least3 .ensures) (c .before .before .before .before .before .before .before .before .before .before .before .lows .ensures)
-          (c .before .before .before .before .before .before .before .before .before .before .lows2 .ensures) n i (c .before .before .before .before .before .before .lca-row .result) (c .before .before .before .before .lca-row2 .result) l (c .before .before .before .before .before .before .before .before .loop-test .taken) (c .before .before .before .before .before .before .lca-row .ensures)
-          (c .before .before .before .before .lca-row2 .ensures) in
-          sym (from-miss (λ k. ltb (secondOf (clashAt s t xs k) n k) n) n i (c .before .before .before .before .before .before .before .before .loop-test .taken)
+          (a .leaf2 .now) p q (c11 .lows .result) (c10 .lows2 .result) _ _ (c13 .least2 .ensures) (c12 .least3 .ensures) (c11 .lows .ensures)
+          (c10 .lows2 .ensures) n i (c6 .lca-row .result) (c4 .lca-row2 .result) l (c8 .loop-test .taken) (c6 .lca-row .ensures)
+          (c4 .lca-row2 .ensures) in
+          sym (from-miss (λ k. ltb (secondOf (clashAt s t xs k) n k) n) n i (c8 .loop-test .taken)
           (ap (λ (z : ℕ). ltb z n) (sym (c .before .second .ensures (clashAt s t xs i) tells)) ∙ le-ltb _ n (c .if1 .left)))
-          ∙ c .before .before .before .before .before .before .before .before .before .loop .inv .1 s t xs inc l p q,
+          ∙ c9 .loop .inv .1 s t xs inc l p q,
     )
 
 returns-2 : tie.Need-returns-2 Inv-loop μ-loop
 returns-2 c =
-    let n = c .before .before .before .before .before .before .least .result in
+    let c6 = c .before .before .before .before .before .before in
+    let n = c6 .least .result in
     let i = c .before .loop .i in
     let end : i ≡ n = omega arith in (
-      subst (λ (m : ℕ). Ranks m (record { first = n; second = n; third = n })) (c .before .before .before .before .before .before .least .ensures) (ranks-none n),
+      subst (λ (m : ℕ). Ranks m (record { first = n; second = n; third = n })) (c6 .least .ensures) (ranks-none n),
       λ s t xs inc len few p q.
-          let l : n ≡ length xs = omega (arith, c .before .before .before .before .before .before .least .ensures) in
+          let l : n ≡ length xs = omega (arith, c6 .least .ensures) in
           none-is s t xs n (sym l) (inc-distinct xs inc) n refl
           (sym (c .before .loop .inv .1 s t xs inc l p q) ∙ from-end (λ k. ltb (secondOf (clashAt s t xs k) n k) n) n i (omega arith) ∙ end),
     )

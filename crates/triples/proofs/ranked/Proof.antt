@@ -53,11 +53,13 @@ loop-less c =
 
 loop-again : tie.Need-loop-again Inv-loop μ-loop
 loop-again c =
-    let i = c .before .before .before .loop .inv in
-    let a = c .before .before .before .before .args in (
+    let c3 = c .before .before .before in
+    let c4 = c3 .before in
+    let i = c3 .loop .inv in
+    let a = c4 .args in (
       omega arith,
       simp length-set (i .1),
-      store-next (λ r x. x ≡ getD (a .leaf .now) (getD (a .order .now) r 0) 0) (c .before .before .before .loop .by-rank) (c .before .before .before .loop .i) _ (omega (arith, i .1))
+      store-next (λ r x. x ≡ getD (a .leaf .now) (getD (a .order .now) r 0) 0) (c3 .loop .by-rank) (c3 .loop .i) _ (omega (arith, i .1))
           (i .2) refl,
     )
 

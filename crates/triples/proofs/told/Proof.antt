@@ -36,27 +36,33 @@ element-copy-out-c c =
 
 mul-t12 : tie.Need-mul-t12
 mul-t12 c =
-    omega (arith, c .before .before .before .before .pre .1 (c .before .before .before .before .args .three .first))
+    let c4 = c .before .before .before .before in
+    omega (arith, c4 .pre .1 (c4 .args .three .first))
 
 element-copy-out-t15 : tie.Need-element-copy-out-t15
 element-copy-out-t15 c =
-    omega (arith, c .before .before .before .before .pre .1 (c .before .before .before .before .args .three .first))
+    let c4 = c .before .before .before .before in
+    omega (arith, c4 .pre .1 (c4 .args .three .first))
 
 mul-t22 : tie.Need-mul-t22
 mul-t22 c =
-    omega (arith, c .before .before .before .before .before .pre .1 (c .before .before .before .before .before .args .three .second))
+    let c5 = c .before .before .before .before .before in
+    omega (arith, c5 .pre .1 (c5 .args .three .second))
 
 element-copy-out-t25 : tie.Need-element-copy-out-t25
 element-copy-out-t25 c =
-    omega (arith, c .before .before .before .before .before .pre .1 (c .before .before .before .before .before .args .three .second))
+    let c5 = c .before .before .before .before .before in
+    omega (arith, c5 .pre .1 (c5 .args .three .second))
 
 mul-t26 : tie.Need-mul-t26
 mul-t26 c =
-    omega (arith, c .before .before .before .before .before .before .pre .1 (c .before .before .before .before .before .before .args .three .third))
+    let c6 = c .before .before .before .before .before .before in
+    omega (arith, c6 .pre .1 (c6 .args .three .third))
 
 element-copy-out-t29 : tie.Need-element-copy-out-t29
 element-copy-out-t29 c =
-    omega (arith, c .before .before .before .before .before .before .pre .1 (c .before .before .before .before .before .before .args .three .third))
+    let c6 = c .before .before .before .before .before .before in
+    omega (arith, c6 .pre .1 (c6 .args .three .third))
 
 returns-2 : tie.Need-returns-2
 unfolding toldOf

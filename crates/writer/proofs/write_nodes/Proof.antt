@@ -13,6 +13,7 @@ use Rattle.writer.specs.declared.WriteAnswer.the-variants.{Written, Refu
 use Rattle.writer.specs.Write.{outputTooShort}
 use Rattle.writer.specs.Passes.{arraysFrom, below, nodeText, Leasts}
 use Rattle.writer.proofs.PassLaws.{leasts-found}
+use Rattle.writer.proofs.StackLaws.{children-found}
 use Rattle.writer.proofs.WriteLaws.{found-many, found-few, found-length, stands-tree, text-length}
 use Rattle.writer.proofs.WriteLaws.{done-as, done-none, done-short, done-stored}
 use Rattle.writer.proofs.write_nodes.Statement.{statement}
@@ -57,7 +58,9 @@ fits-at : (c : tie.Else2) → length (normalText (root (fit-start c))) ≤ lengt
 fits-at c = omega (arith, c .if2 .left, long-at (c .before))
 
 abbrev fit-of : tie.After-slice-known2 → tie.Else2
-fit-of c = c .before .before .before .before .before .before .before .before
+fit-of c =
+    let d = c .before .before .before .before .before .before in
+    d .before .before .before .before .before .before
 
 slice-aggregate-root-sum : tie.Need-slice-aggregate-root-sum
 slice-aggregate-root-sum c = search needs
@@ -94,37 +97,46 @@ slice-aggregate-least-pass c = search needs
 least-pass-requires : tie.Need-least-pass-requires
 least-pass-requires c κs = search needs
 
-sub-root : tie.Need-sub-root
-sub-root c = search needs
+slice-aggregate-first-pass : tie.Need-slice-aggregate-first-pass
+slice-aggregate-first-pass c = search needs
 
-slice-aggregate-put-node : tie.Need-slice-aggregate-put-node
-slice-aggregate-put-node c = search needs
+slice-aggregate-first-pass-2 : tie.Need-slice-aggregate-first-pass-2
+slice-aggregate-first-pass-2 c = search needs
 
-put-node-requires : tie.Need-put-node-requires
+first-pass-requires : tie.Need-first-pass-requires
+first-pass-requires c κs = search needs
+
+slice-aggregate-put-tree : tie.Need-slice-aggregate-put-tree
+slice-aggregate-put-tree c = search needs
+
+put-tree-requires : tie.Need-put-tree-requires
 unfolding nodeText
-put-node-requires c κs =
-    let f = c .before .before .before .before .before in
-    let b = fit-start f in (
-      b .pre .1,
+put-tree-requires c κs =
+    let d = c .before .before .before in
+    let p = d .before .before .before .before in
+    let f = p .before .before in
+    let b = fit-start f in
+    let least = subst (λ (t : List ℕ). Leasts (arrays b) (b .args .text .now) t (b .args .nodes)) (sym (p .least-pass .ensures))
+    (leasts-found (arrays b) (b .args .text .now) (b .args .nodes) (b .pre .1) (replicate 159 0) (b .pre .0 .1)) in (
+      b .pre .0,
       (
-        subst (λ (t : List ℕ). Leasts (arrays b) (b .args .text .now) t (b .args .nodes))
-            (sym (c .before .before .before .least-pass .ensures))
-            (leasts-found (arrays b) (b .args .text .now) (b .args .nodes) (b .pre .1) (replicate 159 0) (b .pre .0 .1)),
-        (omega (arith, b .pre .0 .0), omega (arith, fits-at f, text-length (root b))),
+        children-found (arrays b) (b .args .text .now) (b .args .nodes) (b .pre .1) _
+            (d .first-pass .last .1 .1 .1 .1 .1 .1 .1 .0) least (d .first-pass .ensures),
+        (few-at (f .before .before), omega (arith, fits-at f, text-length (root b))),
       ),
     )
 
 slice-write-out : tie.Need-slice-write-out
 unfolding nodeText
 slice-write-out c =
-    let p = c .before .before .put-node in
+    let p = c .before .before .put-tree in
     omega (arith, p .kept .1 .1 .1 .1 .1 .1 .1 .0, p .ensures .0, fits-at (fit-of c), text-length (root (fit-start (fit-of c))))
 
 add-t13 : tie.Need-add-t13
 unfolding nodeText
 add-t13 c =
     let b = fit-start (fit-of c) in
-    omega (arith, c .before .before .put-node .ensures .0, fits-at (fit-of c), text-length (root b), b)
+    omega (arith, c .before .before .put-tree .ensures .0, fits-at (fit-of c), text-length (root b), b)
 
 same-length : tie.Need-same-length
 same-length c = search needs
@@ -132,7 +144,7 @@ same-length c = search needs
 returns-3 : tie.Need-returns-3
 unfolding nodeText
 returns-3 c =
-    let p = c .before .before .put-node in
+    let p = c .before .before .put-tree in
     let b = fit-start (fit-of c) in
     let o = b .args .out .now in
     done-as (stands b) (oneTree (root b)) o (Written (p .result + 1)) (set (p .last .1 .1 .1 .1 .1 .1 .1 .0) (p .result) 59)
@@ -151,9 +163,11 @@ write-nodes-spec =
     returns-2
     slice-aggregate-least-pass
     least-pass-requires
-    sub-root
-    slice-aggregate-put-node
-    put-node-requires
+    slice-aggregate-first-pass
+    slice-aggregate-first-pass-2
+    first-pass-requires
+    slice-aggregate-put-tree
+    put-tree-requires
     slice-write-out
     add-t13
     same-length

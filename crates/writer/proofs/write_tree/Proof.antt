@@ -13,7 +13,7 @@ returns : tie.Need-returns
 returns c =
     let a = c .before .before .before .args in
     done-as (treeOf (a .tree) (a .text .now)) noLeaf (a .out .now) (Written 0) (a .out .now)
-    (stands-empty (a .tree) (a .text .now) (c .if1 .taken)) (done-empty (a .out .now))
+    (stands-empty (a .tree) (a .text .now) (omega arith)) (done-empty (a .out .now))
 
 returns-2 : tie.Need-returns-2
 returns-2 c =

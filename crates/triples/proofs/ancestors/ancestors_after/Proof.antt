@@ -43,15 +43,17 @@ loop-less c =
 
 loop-again : tie.Need-loop-again Inv-loop μ-loop
 loop-again c =
-    let i = c .before .before .before .loop .inv in
-    let w = c .before .before .before .loop .w - 1 in
-    let e : c .before .before .before .loop .w ≡ w + 1 = omega arith in
-    let a = c .before .before .before .before .args in
+    let c3 = c .before .before .before in
+    let c4 = c3 .before in
+    let i = c3 .loop .inv in
+    let w = c3 .loop .w - 1 in
+    let e : c3 .loop .w ≡ w + 1 = omega arith in
+    let a = c4 .args in
     let n = c .before .nearer .ensures ∙ span-down _ _ _ w _ (omega arith) (i .2 ∙ ap (spanFrom (a .low .now) (a .u) (a .nodes)) e) in (
       omega arith,
       simp length-set (i .1),
       n,
-      store-down (λ v x. x ≡ spanFrom (a .low .now) (a .u) (a .nodes) v % 256) (c .before .before .before .loop .at) (a .nodes) w _ (omega (arith, i .1))
+      store-down (λ v x. x ≡ spanFrom (a .low .now) (a .u) (a .nodes) v % 256) (c3 .loop .at) (a .nodes) w _ (omega (arith, i .1))
           (λ v h k. i .3 v (omega arith) k) (c .byte .ensures ∙ ap (λ (z : ℕ). z % 256) n),
     )
 

@@ -44,14 +44,16 @@ loop-less c =
 
 loop-again : tie.Need-loop-again Inv-loop μ-loop
 loop-again c =
-    let i = c .before .before .before .loop .inv in
-    let v = c .before .before .before .loop .v - 1 in
-    let s = c .before .before .before .before .args in
+    let c3 = c .before .before .before in
+    let c4 = c3 .before in
+    let i = c3 .loop .inv in
+    let v = c3 .loop .v - 1 in
+    let s = c4 .args in
     let n = c .before .next-spanning .ensures in (
       omega arith,
       simp length-set (i .1),
-      λ a h. ap (spanFrom (s .low .now) a (s .nodes)) n ∙ span-skip (s .low .now) a v (s .nodes) (c .before .before .before .loop .w) (omega arith) ∙ i .2 a (omega arith),
-      store-down (λ a x. x ≡ spanFrom (s .low .now) a (s .nodes) (s .u) % 256) (c .before .before .before .loop .at) (s .u) v _ (omega (arith, i .1))
+      λ a h. ap (spanFrom (s .low .now) a (s .nodes)) n ∙ span-skip (s .low .now) a v (s .nodes) (c3 .loop .w) (omega arith) ∙ i .2 a (omega arith),
+      store-down (λ a x. x ≡ spanFrom (s .low .now) a (s .nodes) (s .u) % 256) (c3 .loop .at) (s .u) v _ (omega (arith, i .1))
           (λ a h k. i .3 a (omega arith) k) (c .byte .ensures ∙ ap (λ (z : ℕ). z % 256) (n ∙ i .2 v (omega arith))),
     )
 

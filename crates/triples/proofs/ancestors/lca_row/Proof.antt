@@ -55,20 +55,26 @@ loop-less c =
 
 loop-again : tie.Need-loop-again Inv-loop μ-loop
 loop-again c =
-    let v = c .before .before .before .before .before .loop .inv in
-    let s = c .before .before .before .before .before .before .before .before .before .args in
-    let q = c .before .before .before .before .before .loop .q in (
+    let c3 = c .before .before .before in
+    let c5 = c3 .before .before in
+    let c6 = c5 .before in
+    let c7 = c6 .before in
+    let c8 = c7 .before in
+    let c9 = c8 .before in
+    let v = c5 .loop .inv in
+    let s = c9 .args in
+    let q = c5 .loop .q in (
       omega arith,
       simp length-set (v .1),
       store-next
           (λ k x. getD (s .leaf .now) (s .i) 0 < s .nodes → getD (s .leaf .now) k 0 < s .nodes
           → x ≡ lcaNumber (s .low .now) (s .nodes) (getD (s .leaf .now) (s .i) 0) (getD (s .leaf .now) k 0) % 256)
-          (c .before .before .before .before .before .loop .row) q _ (omega (arith, v .1)) (v .2)
+          (c5 .loop .row) q _ (omega (arith, v .1)) (v .2)
           (λ h k.
-          let a = c .before .before .before .before .before .before .before .before .leaf-of .ensures .1 (omega arith) in
-          let b = c .before .before .before .leaf-of2 .ensures .1 (omega arith) in
+          let a = c8 .leaf-of .ensures .1 (omega arith) in
+          let b = c3 .leaf-of2 .ensures .1 (omega arith) in
           c .on-side .ensures
-          ∙ on-side-is (s .low .now) (c .before .before .before .before .before .before .before .ancestors-before .result) (c .before .before .before .before .before .before .ancestors-after .result) (s .nodes) _ _ (c .before .before .before .before .before .before .before .ancestors-before .ensures) (c .before .before .before .before .before .before .ancestors-after .ensures) (omega arith)
+          ∙ on-side-is (s .low .now) (c7 .ancestors-before .result) (c6 .ancestors-after .result) (s .nodes) _ _ (c7 .ancestors-before .ensures) (c6 .ancestors-after .ensures) (omega arith)
           ∙ ap₂ (λ (x y : ℕ). lcaNumber (s .low .now) (s .nodes) x y % 256) a b),
     )
 

@@ -62,19 +62,21 @@ loop-less c =
 
 loop-again : tie.Need-loop-again Inv-loop μ-loop
 loop-again c =
-    let inv = c .before .before .before .before .before .loop .inv in
-    let k = c .before .before .before .before .before .loop .k in
-    let a = c .before .before .before .before .before .before .before .before .args in (
+    let c5 = c .before .before .before .before .before in
+    let c8 = c5 .before .before .before in
+    let inv = c5 .loop .inv in
+    let k = c5 .loop .k in
+    let a = c8 .args in (
       omega arith,
       inv .1,
       inv .2,
       λ clash i h t. inv .3 clash i h t
-          ∙ ap (λ (b : Bool). c .before .before .before .before .before .loop .found || b) (some-step (clash (a .j)) (a .count) k (omega arith))
-          ∙ ap (λ (b : Bool). c .before .before .before .before .before .loop .found || (b || ltb (leafFrom (clash (a .j)) (a .count - (k + 1)) (k + 1)) (a .count)))
+          ∙ ap (λ (b : Bool). c5 .loop .found || b) (some-step (clash (a .j)) (a .count) k (omega arith))
+          ∙ ap (λ (b : Bool). c5 .loop .found || (b || ltb (leafFrom (clash (a .j)) (a .count - (k + 1)) (k + 1)) (a .count)))
           (t (a .j) k h (inv .0) (omega arith)
           ∙ ap₂ (λ (x y : ℕ). apartOf x (getD (a .row1 .now) k 0) y (getD (a .row2 .now) k 0)) (sym (inv .1)) (sym (inv .2))
           ∙ sym (c .before .apart .ensures))
-          ∙ or-assoc (c .before .before .before .before .before .loop .found) (c .before .apart .result)
+          ∙ or-assoc (c5 .loop .found) (c .before .apart .result)
           (ltb (leafFrom (clash (a .j)) (a .count - (k + 1)) (k + 1)) (a .count))
           ∙ ap (λ (b : Bool). b || ltb (leafFrom (clash (a .j)) (a .count - (k + 1)) (k + 1)) (a .count)) (sym (c .either .ensures)),
     )

@@ -34,10 +34,12 @@ any-apart-requires c κs =
 
 returns : tie.Need-returns Inv-loop μ-loop
 returns c =
-    let inv = c .before .before .before .loop .inv in
-    let a = c .before .before .before .before .args in
+    let c3 = c .before .before .before in
+    let c4 = c3 .before in
+    let inv = c3 .loop .inv in
+    let a = c4 .args in
     λ clash t.
-    sym (from-hit (λ k. ltb (thirdOf clash (a .count) k) (a .count)) (a .count) (c .before .before .before .loop .j)
+    sym (from-hit (λ k. ltb (thirdOf clash (a .count) k) (a .count)) (a .count) (c3 .loop .j)
     (sym (c .before .any-apart .ensures clash (a .i) (inv .0) t) ∙ c .if1 .taken))
     ∙ inv .2 clash t
 
@@ -51,12 +53,14 @@ loop-less c =
 
 loop-again : tie.Need-loop-again Inv-loop μ-loop
 loop-again c =
-    let inv = c .before .before .before .loop .inv in
-    let a = c .before .before .before .before .args in (
+    let c3 = c .before .before .before in
+    let c4 = c3 .before in
+    let inv = c3 .loop .inv in
+    let a = c4 .args in (
       omega arith,
       omega arith,
       λ clash t.
-          sym (from-miss (λ k. ltb (thirdOf clash (a .count) k) (a .count)) (a .count) (c .before .before .before .loop .j) (c .before .before .loop-test .taken)
+          sym (from-miss (λ k. ltb (thirdOf clash (a .count) k) (a .count)) (a .count) (c3 .loop .j) (c .before .before .loop-test .taken)
           (sym (c .before .any-apart .ensures clash (a .i) (inv .0) t) ∙ c .if1 .left))
           ∙ inv .2 clash t,
     )

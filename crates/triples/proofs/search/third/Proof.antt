@@ -50,9 +50,11 @@ apart-requires c κs = search needs
 
 returns : tie.Need-returns Inv-loop μ-loop
 returns c =
-    let inv = c .before .before .before .before .before .loop .inv in
-    let k = c .before .before .before .before .before .loop .k in
-    let a = c .before .before .before .before .before .before .before .before .args in
+    let c5 = c .before .before .before .before .before in
+    let c8 = c5 .before .before .before in
+    let inv = c5 .loop .inv in
+    let k = c5 .loop .k in
+    let a = c8 .args in
     λ clash i h t.
     sym (from-hit (clash (a .j)) (a .count) k
     (t (a .j) k h (inv .0) (omega arith)
@@ -70,14 +72,17 @@ loop-less c =
 
 loop-again : tie.Need-loop-again Inv-loop μ-loop
 loop-again c =
-    let inv = c .before .before .before .before .before .loop .inv in
-    let k = c .before .before .before .before .before .loop .k in
-    let a = c .before .before .before .before .before .before .before .before .args in (
+    let c4 = c .before .before .before .before in
+    let c5 = c4 .before in
+    let c8 = c5 .before .before .before in
+    let inv = c5 .loop .inv in
+    let k = c5 .loop .k in
+    let a = c8 .args in (
       omega arith,
       inv .1,
       inv .2,
       λ clash i h t.
-          sym (from-miss (clash (a .j)) (a .count) k (c .before .before .before .before .loop-test .taken)
+          sym (from-miss (clash (a .j)) (a .count) k (c4 .loop-test .taken)
           (t (a .j) k h (inv .0) (omega arith)
           ∙ ap₂ (λ (x y : ℕ). apartOf x (getD (a .row1 .now) k 0) y (getD (a .row2 .now) k 0)) (sym (inv .1)) (sym (inv .2))
           ∙ sym (c .before .apart .ensures) ∙ c .if1 .left))
