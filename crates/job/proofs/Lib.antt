@@ -1,9 +1,7 @@
 pub mod AnswerLaws
 pub mod AreaLaws
 pub mod ClashLaws
-pub mod ContentSteps
-pub mod ContentsLaws
-pub mod DecimalLaws
+pub mod DigitLaws
 pub mod LineLaws
 pub mod PrintLaws
 pub mod Promises

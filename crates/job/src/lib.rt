@@ -13,13 +13,25 @@ ghost use Prim.Native.Nat.{_+_, _≤_};
 ghost use lib.ListN.{drop};
 ghost use Rattle.mast.specs.Largest.{turned, solve};
 ghost use Rattle.job.specs.declared.JobAnswer as JobAnswer;
-ghost use Rattle.job.specs.Printed.{printedOf, printed, recordLines, solveJob, treeRoom};
+ghost use Rattle.trees.specs.Tree.{leafLimit};
+ghost use Rattle.job.specs.Printed.{printedOf, printed, recordLines, solveJob, treeRoom, jobLimit};
 ghost use Rattle.job.specs.Areas.{labelsIn, untilComma};
-ghost use Rattle.job.specs.Answered.{lineAnswer, lineOutput, namedLine, answered, jobOutput, recordAnswer};
+ghost use Rattle.job.specs.Answered.{lineAnswer, lineOutput, namedLine, answered, answerTo, jobOutput, recordAnswer};
 
-mod contents;
 mod decimal;
 mod lines;
+
+// "A job has at most 8,192 bytes"
+const JOB_LIMIT: usize = 8192;
+
+// The longest text that a tree can have: 80 labels of 16 bytes, 79 inner nodes of 3 bytes, and `;`.
+const TREE_ROOM: usize = 80 * 16 + 3 * 79 + 1;
+
+// A refusal's line: words with two numbers of 20 digits, three labels of 16 bytes with their commas, a blank and a line end.
+const LINE_ROOM: usize = 11 + 2 * 20 + 2 + 3 * 17;
+
+// The three lines: their words, a number of 20 digits, 80 labels with their commas, and the tree's text.
+const RECORD_ROOM: usize = 17 + 20 + 80 * 17 + TREE_ROOM;
 
 // How many bytes a line has that now stands in the output, or that the output is too short for it.
 pub enum LineAnswer {
@@ -53,7 +65,7 @@ pub fn refusal_line(refusal: Refusal, out: &mut [u8]) -> LineAnswer
     ensures answer { λ r. ⌜ r ≡ lineAnswer (printedOf (turned refusal)) (length (now (out .entry))) ⌝ }
     ensures output { λ _. ⌜ now (out .exit) ≡ lineOutput (printedOf (turned refusal)) (now (out .entry)) ⌝ }
 {
-    let mut line = [0u8; 128];
+    let mut line = [0u8; LINE_ROOM];
     let n = lines::put_refusal_line(refusal, &mut line);
     lines::hand_over(&line[..n], out)
 }
@@ -63,7 +75,7 @@ pub fn disagreement_line(job: &[u8], named: Named, out: &mut [u8]) -> LineAnswer
     ensures answer { λ r. ⌜ r ≡ lineAnswer (namedLine (now (job .entry)) named) (length (now (out .entry))) ⌝ }
     ensures output { λ _. ⌜ now (out .exit) ≡ lineOutput (namedLine (now (job .entry)) named) (now (out .entry)) ⌝ }
 {
-    let mut line = [0u8; 128];
+    let mut line = [0u8; LINE_ROOM];
     let n = lines::put_disagreement(job, named, &mut line);
     lines::hand_over(&line[..n], out)
 }
@@ -81,8 +93,8 @@ fn refused(reason: Reason, body: Body) -> JobAnswer
 
 // The three lines of a set into `out`.
 fn answer_set(first: &[u8], set: LabelPlaces, tree: &[u8], out: &mut [u8]) -> JobAnswer
-    requires { ⌜ set .count ≤ 80 ⌝ }
-    requires { ⌜ length (now tree) ≤ 1518 ⌝ }
+    requires { ⌜ set .count ≤ leafLimit ⌝ }
+    requires { ⌜ length (now tree) ≤ treeRoom ⌝ }
     ensures answer { λ r.
         ⌜ r ≡ recordAnswer
         (recordLines (labelsIn (now (first .entry)) (set .start) (set .size) (set .count)) (now (tree .entry)))
@@ -92,7 +104,7 @@ fn answer_set(first: &[u8], set: LabelPlaces, tree: &[u8], out: &mut [u8]) -> Jo
         (recordLines (labelsIn (now (first .entry)) (set .start) (set .size) (set .count)) (now (tree .entry)))
         (now (out .entry)) ⌝ }
 {
-    let mut area = [0u8; 3072];
+    let mut area = [0u8; RECORD_ROOM];
     let start = set.start;
     let size = set.size;
     let n = lines::put_record(first, &start, &size, set.count, tree, &mut area);
@@ -119,7 +131,7 @@ fn label_size(list: &[u8], at: usize) -> usize
 
 // A label of the list, which begins at `base` in the job, as a part of the job.
 fn part_at(list: &[u8], base: usize, at: usize) -> Part
-    requires { ⌜ base + at ≤ 16384 ⌝ }
+    requires { ⌜ base + at ≤ jobLimit ⌝ }
     ensures { λ r. ⌜ r ≡ record { start = base + at; size = length (untilComma (drop at (now (list .entry)))) } ⌝ }
 {
     let size = label_size(list, at);
@@ -129,18 +141,18 @@ fn part_at(list: &[u8], base: usize, at: usize) -> Part
     }
 }
 
-// The answer to three bodies, of which the list begins at `base` in the job and ends it.
+// The answer to three bodies, of which the list begins at `base` in the job.
 fn answer_bodies(first: &[u8], second: &[u8], list: &[u8], base: usize, out: &mut [u8]) -> JobAnswer
-    requires { ⌜ base + length (now list) ≤ 8192 ⌝ }
+    requires { ⌜ base + length (now list) ≤ jobLimit ⌝ }
     ensures answer { λ r.
-        ⌜ r ≡ answered (base + length (now (list .entry))) (length (now (out .entry)))
+        ⌜ r ≡ answered base (length (now (out .entry)))
         (solve (now (first .entry)) (now (second .entry)) (now (list .entry)) treeRoom) ⌝ }
     ensures output { λ _.
         ⌜ now (out .exit) ≡ jobOutput
         (solve (now (first .entry)) (now (second .entry)) (now (list .entry)) treeRoom)
         (now (out .entry)) ⌝ }
 {
-    let mut tree = [0u8; 1518];
+    let mut tree = [0u8; TREE_ROOM];
     let result = mast::largest(first, second, list, &mut tree);
     let answer = result.answer;
     match answer {
@@ -159,23 +171,23 @@ fn answer_bodies(first: &[u8], second: &[u8], list: &[u8], base: usize, out: &mu
 
 // The answer to a job: its three lines in `out`, or why there is none; `out` then keeps every byte.
 pub fn answer_job(job: &[u8], out: &mut [u8]) -> JobAnswer
-    ensures answer { λ r.
-        ⌜ r ≡ answered (length (now (job .entry))) (length (now (out .entry))) (solveJob (now (job .entry))) ⌝ }
+    ensures answer { λ r. ⌜ r ≡ answerTo (now (job .entry)) (length (now (out .entry))) ⌝ }
     ensures output { λ _. ⌜ now (out .exit) ≡ jobOutput (solveJob (now (job .entry))) (now (out .entry)) ⌝ }
 {
-    if 8192 < job.len() {
+    if JOB_LIMIT < job.len() {
         return refused(Reason::JobTooLong, Body::J);
     }
     let layout = contents::contents(job);
-    let Layout::Bodies(at, s, t) = layout else {
+    let Layout::Bodies(at, table) = layout else {
         return refused(Reason::Contents, Body::J);
     };
-    let second_at = at + s;
-    let list_at = second_at + t;
+    let second_at = at + table.first;
+    let list_at = second_at + table.second;
+    let end = list_at + table.required;
     answer_bodies(
         &job[at..second_at],
         &job[second_at..list_at],
-        &job[list_at..],
+        &job[list_at..end],
         list_at,
         out,
     )

@@ -11,3 +11,4 @@ pub mod SolutionLaws
 pub mod BodyLaws
 pub mod OutcomeLaws
 pub mod Promises
+pub mod ShownLaws
