@@ -3,6 +3,7 @@ pub mod AreaLaws
 pub mod ClashLaws
 pub mod DigitLaws
 pub mod LineLaws
+pub mod OutcomeLaws
 pub mod PrintLaws
 pub mod Promises
 pub mod RecordLaws

@@ -1,3 +1,4 @@
 pub mod Answered
 pub mod Areas
+pub mod Outcome
 pub mod Printed
