@@ -1,14 +1,13 @@
 -- The parts of the lines, one after another, are the lines. Assumes nothing.
 use Prim.Native.Nat.{ℕ, _+_, _-_, _≤_}
 use mathlib.Core.Path.{_≡_, refl, _∙_, ap}
-use mathlib.Core.Bool.{Bool, true, false, cond}
 use mathlib.Core.List.{List, [], _∷_, _++_, append-assoc}
 use native.Mathlib.Omega.{arith}
 use lib.ListN.{length, take, length-append, length-take}
 use Rattle.contents.proofs.DecimalLaws.{decimal-short}
 use Rattle.job.proofs.AreaLaws.{label-short, item-short}
-use Rattle.trees.specs.declared.Reason.the-variants.{Disagree, TooShort}
-use Rattle.trees.specs.declared.Body.the-variants.{K, O}
+use Rattle.trees.specs.declared.Reason.the-variants.{Disagree}
+use Rattle.trees.specs.declared.Body.the-variants.{K}
 use Rattle.trees.specs.declared.Refusal.{Refusal}
 use Rattle.trees.specs.Refusals.{numberOf, letterOf}
 use Rattle.trees.specs.Label.{Label, labelLimit}
@@ -16,14 +15,11 @@ use Rattle.lists.specs.ReadList.{joined}
 use Rattle.mast.specs.Largest.{turned}
 use Rattle.job.specs.declared.Named.{Named}
 use Rattle.job.specs.declared.LineAnswer.{LineAnswer}
-use Rattle.job.specs.declared.LineAnswer.the-variants as line-answer
-use Rattle.job.specs.declared.JobAnswer.the-variants as job-answer
-use lib.Dec.{leb}
 use Rattle.contents.specs.Decimal.{decimalOf}
 use Rattle.trees.specs.Words.{bytesOf}
 use Rattle.contents.specs.Contents.{line}
 use Rattle.job.specs.Printed.{refusedWords, recordLines, printedOf}
-use Rattle.job.specs.Answered.{lineAnswer, lineOutput, labelIn, namedLine, recordAnswer}
+use Rattle.job.specs.Answered.{lineAnswer, lineOutput, labelIn, namedLine}
 use Rattle.job.specs.Areas.{Put, item, itemRoom, wordsRoom}
 
 words-of : (d p : List ℕ) (l : ℕ)
@@ -95,24 +91,3 @@ named-short text start size {x} e = omega (arith, ap (length {A = ℕ}) e, label
 
 pub item-named : (i : ℕ) (text : List ℕ) (start size : ℕ) {x : Label} → x ≡ labelIn text start size → length (item i x) ≤ itemRoom
 item-named i text start size {x} e = omega (arith, named-short text start size e, item-short i x)
-
--- what the line's answer says of the job's
-pub record-written : (text : List ℕ) (room n : ℕ) → line-answer.Written n ≡ lineAnswer text room → job-answer.Written n ≡ recordAnswer text room
-unfolding lineAnswer recordAnswer
-record-written text room n e = go (leb (length text) room) e
-  where
-    go : (b : Bool) → line-answer.Written n ≡ cond b (line-answer.Written (length text)) line-answer.TooShort
-        → job-answer.Written n ≡ cond b (job-answer.Written (length text)) (job-answer.Refused (record { reason = TooShort; body = O; place = 0 }))
-    go true h = cc
-    go false h = let z : _≡_ {A = ℕ} 0 1 = cc in absurd (omega arith)
-
-pub record-short : (text : List ℕ) (room : ℕ) → line-answer.TooShort ≡ lineAnswer text room
-    → job-answer.Refused (record { reason = TooShort; body = O; place = 0 }) ≡ recordAnswer text room
-unfolding lineAnswer recordAnswer
-record-short text room e = go (leb (length text) room) e
-  where
-    go : (b : Bool) → line-answer.TooShort ≡ cond b (line-answer.Written (length text)) line-answer.TooShort
-        → job-answer.Refused (record { reason = TooShort; body = O; place = 0 })
-        ≡ cond b (job-answer.Written (length text)) (job-answer.Refused (record { reason = TooShort; body = O; place = 0 }))
-    go true h = let z : _≡_ {A = ℕ} 0 1 = cc in absurd (omega arith)
-    go false h = refl

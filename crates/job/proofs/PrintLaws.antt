@@ -47,12 +47,12 @@ module _ (job out : List ℕ) where
   module _ (q : Refusal) (e : answerTo job room ≡ job-answer.Refused q) where
     -- number 9 is the output's
     pub printed-nine : numberOf (q .reason) ≡ 9
-        → (TooShort ≡ lineAnswer (printed job) room) × (jobOutput (solveJob job) out ≡ lineOutput (printed job) out)
+        → (TooShort q ≡ lineAnswer (printed job) room) × (jobOutput (solveJob job) out ≡ lineOutput (printed job) out)
     unfolding answerTo answered printed printedOf jobOutput
     printed-nine n = go (solveJob job) refl e
       where
         go : (x : Solution) → solveJob job ≡ x → told x ≡ job-answer.Refused q
-            → (TooShort ≡ lineAnswer (printedOf x) room) × (jobOutput x out ≡ lineOutput (printedOf x) out)
+            → (TooShort q ≡ lineAnswer (printedOf x) room) × (jobOutput x out ≡ lineOutput (printedOf x) out)
         go (solved s X text) k h = (record-refused (recordLines X text) room q h .0, refl)
         go (clashed xs a b c) k h = let z : _≡_ {A = ℕ} 0 1 = cc in absurd (omega arith)
         go (turned p) k h =

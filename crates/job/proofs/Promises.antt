@@ -3,8 +3,6 @@ use Prim.Native.Nat.{ℕ, _<_}
 use mathlib.Core.Path.{_≡_}
 use mathlib.Core.List.{List}
 use lib.ListN.{length}
-use Rattle.trees.specs.declared.Reason.the-variants.{TooShort}
-use Rattle.trees.specs.declared.Body.the-variants.{O}
 use Rattle.trees.specs.declared.Refusal.{Refusal}
 use Rattle.trees.specs.Refusals.{numberOf}
 use Rattle.trees.specs.Label.{Label}
@@ -13,7 +11,7 @@ use Rattle.mast.specs.Largest.{solved, turned, solve}
 use Rattle.job.specs.declared.JobAnswer.the-variants as job-answer
 use Rattle.job.specs.declared.Named.{Named}
 use Rattle.job.specs.Printed.{treeRoom, solveJob, printed}
-use Rattle.job.specs.Answered.{namedLine, answerTo}
+use Rattle.job.specs.Answered.{outputShort, namedLine, answerTo}
 use Rattle.job.proofs.ClashLaws
 use Rattle.job.proofs.RoomLaws
 
@@ -31,7 +29,7 @@ nine-of-output = RoomLaws.nine-output
 
 pub nine-when-short : (job : List ℕ) (room : ℕ) (s : Tree) (X : List Label) (text : List ℕ) → solveJob job ≡ solved s X text
     → room < length (printed job)
-    → answerTo job room ≡ job-answer.Refused (record { reason = TooShort; body = O; place = 0 })
+    → answerTo job room ≡ job-answer.Refused outputShort
 nine-when-short = RoomLaws.short-output
 
 -- "Number 8 adds a space and its three labels joined by commas.": the line from the answer's places and sizes is the printed one

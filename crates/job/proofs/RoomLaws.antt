@@ -34,7 +34,7 @@ use Rattle.mast.specs.Largest.{Solution, solved, clashed, turned, fitted, solut
 use Rattle.job.specs.declared.JobAnswer.the-variants as job-answer
 use Rattle.contents.specs.Contents.{Bodies, bodiesOf, layoutOf, listPlace}
 use Rattle.job.specs.Printed.{jobLimit, treeRoom, solveBodies, solveJob, recordLines, printedOf, printed}
-use Rattle.job.specs.Answered.{recordAnswer, answered, answerTo}
+use Rattle.job.specs.Answered.{outputShort, lineAnswer, linesAnswer, recordAnswer, answered, answerTo}
 use Rattle.job.proofs.RecordLaws.{record-refused}
 
 -- ---- the text of a restriction
@@ -124,8 +124,8 @@ nine-output job room q e n = go (solveJob job) (job-never-nine job) e
 -- and a set whose lines are longer than the output gets number 9
 pub short-output : (job : List ℕ) (room : ℕ) (s : Tree) (X : List Label) (text : List ℕ) → solveJob job ≡ solved s X text
     → room < length (printed job)
-    → answerTo job room ≡ job-answer.Refused (record { reason = TooShort; body = O; place = 0 })
-unfolding answerTo answered recordAnswer printed printedOf
+    → answerTo job room ≡ job-answer.Refused outputShort
+unfolding answerTo answered recordAnswer lineAnswer linesAnswer printed printedOf
 short-output job room s X text e h =
     let k : room < length (recordLines X text) = subst (λ (x : Solution). room < length (printedOf x)) e h in
     rw (e, lt-leb (length (recordLines X text)) room k) refl

@@ -7,6 +7,7 @@ use lib.Dec.{leb}
 use lib.ListN.{length, drop}
 use Rattle.trees.specs.declared.Reason.the-variants.{TooShort as TooShortReason}
 use Rattle.trees.specs.declared.Body.the-variants.{O}
+use Rattle.trees.specs.declared.Refusal.{Refusal}
 use Rattle.trees.specs.Label.{Label, labelLimit}
 use Rattle.trees.specs.Stored.{partOf}
 use Rattle.contents.specs.Contents.{layoutOf, listPlace}
@@ -24,9 +25,13 @@ use Rattle.job.specs.declared.LineAnswer.the-variants.{Written, TooShort
 abbrev pub fits : List ℕ → ℕ → Bool
 fits text room = leb (length text) room
 
+-- number 9, "O 0"
+abbrev pub outputShort : Refusal
+outputShort = record { reason = TooShortReason; body = O; place = 0 }
+
 -- a text for an output of `room` bytes
 unfoldable pub lineAnswer : List ℕ → ℕ → LineAnswer
-lineAnswer text room = cond (fits text room) (Written (length text)) TooShort
+lineAnswer text room = cond (fits text room) (Written (length text)) (TooShort outputShort)
 
 -- the output holds the text, further bytes unchanged; where it is too short it keeps every byte
 unfoldable pub lineOutput : List ℕ → List ℕ → List ℕ
@@ -44,11 +49,14 @@ namedLine job n =
     (clashed [] (labelIn job (n .first .start) (n .first .size)) (labelIn job (n .second .start) (n .second .size))
     (labelIn job (n .third .start) (n .third .size)))
 
+unfoldable pub linesAnswer : LineAnswer → JobAnswer
+linesAnswer (Written n) = job-answer.Written n
+linesAnswer (TooShort q) = job-answer.Refused q
+
 -- the three lines for an output of `room` bytes: how many bytes they have, or number 9
 unfoldable pub recordAnswer : List ℕ → ℕ → JobAnswer
-recordAnswer lines room =
-    cond (fits lines room) (job-answer.Written (length lines))
-    (job-answer.Refused (record { reason = TooShortReason; body = O; place = 0 }))
+unfolding linesAnswer lineAnswer
+recordAnswer lines room = linesAnswer (lineAnswer lines room)
 
 -- a label of the list, which begins at `base` in the job
 unfoldable pub partOfLabel : ℕ → List Label → Label → Part

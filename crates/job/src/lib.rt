@@ -13,6 +13,7 @@ ghost use Prim.Native.Nat.{_+_, _≤_};
 ghost use lib.ListN.{drop};
 ghost use Rattle.mast.specs.Largest.{turned, solve};
 ghost use Rattle.job.specs.declared.JobAnswer as JobAnswer;
+ghost use Rattle.trees.specs.declared.Body.the-variants.{J};
 ghost use Rattle.trees.specs.Tree.{leafLimit};
 ghost use Rattle.job.specs.Printed.{printedOf, printed, recordLines, solveJob, treeRoom, jobLimit};
 ghost use Rattle.job.specs.Areas.{labelsIn, untilComma};
@@ -33,10 +34,10 @@ const LINE_ROOM: usize = 11 + 2 * 20 + 2 + 3 * 17;
 // The three lines: their words, a number of 20 digits, 80 labels with their commas, and the tree's text.
 const RECORD_ROOM: usize = 17 + 20 + 80 * 17 + TREE_ROOM;
 
-// How many bytes a line has that now stands in the output, or that the output is too short for it.
+// How many bytes the lines have that now stand in the output, or number 9 where it is too short for them.
 pub enum LineAnswer {
     Written(usize),
-    TooShort,
+    TooShort(Refusal),
 }
 
 // A part of the job: where it starts, and its size.
@@ -80,13 +81,13 @@ pub fn disagreement_line(job: &[u8], named: Named, out: &mut [u8]) -> LineAnswer
     lines::hand_over(&line[..n], out)
 }
 
-// The refusals that the job itself gives: its place is J 0, or O 0 of the output.
-fn refused(reason: Reason, body: Body) -> JobAnswer
-    ensures { λ r. ⌜ r ≡ JobAnswer.Refused (record { reason = reason; body = body; place = 0 }) ⌝ }
+// The refusals that the job itself gives: their place is J 0.
+fn refused(reason: Reason) -> JobAnswer
+    ensures { λ r. ⌜ r ≡ JobAnswer.Refused (record { reason = reason; body = J; place = 0 }) ⌝ }
 {
     JobAnswer::Refused(Refusal {
         reason,
-        body,
+        body: Body::J,
         place: 0,
     })
 }
@@ -111,7 +112,7 @@ fn answer_set(first: &[u8], set: LabelPlaces, tree: &[u8], out: &mut [u8]) -> Jo
     let given = lines::hand_over(&area[..n], out);
     match given {
         LineAnswer::Written(k) => JobAnswer::Written(k),
-        LineAnswer::TooShort => refused(Reason::TooShort, Body::O),
+        LineAnswer::TooShort(refusal) => JobAnswer::Refused(refusal),
     }
 }
 
@@ -175,11 +176,11 @@ pub fn answer_job(job: &[u8], out: &mut [u8]) -> JobAnswer
     ensures output { λ _. ⌜ now (out .exit) ≡ jobOutput (solveJob (now (job .entry))) (now (out .entry)) ⌝ }
 {
     if JOB_LIMIT < job.len() {
-        return refused(Reason::JobTooLong, Body::J);
+        return refused(Reason::JobTooLong);
     }
     let layout = contents::contents(job);
     let Layout::Bodies(at, table) = layout else {
-        return refused(Reason::Contents, Body::J);
+        return refused(Reason::Contents);
     };
     let second_at = at + table.first;
     let list_at = second_at + table.second;
@@ -205,7 +206,7 @@ pub fn print_job(job: &[u8], out: &mut [u8]) -> LineAnswer
         JobAnswer::Refused(refusal) => {
             let reason = refusal.reason;
             if trees::number(reason) == 9 {
-                return LineAnswer::TooShort;
+                return LineAnswer::TooShort(refusal);
             }
             refusal_line(refusal, out)
         }

@@ -108,7 +108,11 @@ pub(crate) fn hand_over(text: &[u8], out: &mut [u8]) -> LineAnswer
 {
     let n = text.len();
     if out.len() < n {
-        return LineAnswer::TooShort;
+        return LineAnswer::TooShort(Refusal {
+            reason: Reason::TooShort,
+            body: Body::O,
+            place: 0,
+        });
     }
     let end = put_bytes(text, out, 0);
     LineAnswer::Written(end)
