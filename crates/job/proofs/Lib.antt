@@ -8,5 +8,6 @@ pub mod PrintLaws
 pub mod Promises
 pub mod RecordLaws
 pub mod RoomLaws
+pub mod RowLaws
 pub mod ShownLaws
 pub mod SolvedLaws

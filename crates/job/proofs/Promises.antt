@@ -1,19 +1,43 @@
 -- What jobs promise, in the scope paper's order; each theorem cites one name. Assumes nothing.
 use Prim.Native.Nat.{ℕ, _<_}
 use mathlib.Core.Path.{_≡_}
+use mathlib.Core.Logic.{_↔_}
 use mathlib.Core.List.{List}
 use lib.ListN.{length}
 use Rattle.trees.specs.declared.Refusal.{Refusal}
 use Rattle.trees.specs.Refusals.{numberOf}
 use Rattle.trees.specs.Label.{Label}
 use Rattle.trees.specs.Tree.{Tree}
-use Rattle.mast.specs.Largest.{solved, turned, solve}
+use Rattle.contents.specs.Contents.{layoutOf, listPlace}
+use Rattle.mast.specs.Largest.{Solution, solved, turned, solve}
 use Rattle.job.specs.declared.JobAnswer.the-variants as job-answer
 use Rattle.job.specs.declared.Named.{Named}
-use Rattle.job.specs.Printed.{treeRoom, solveJob, printed}
-use Rattle.job.specs.Answered.{outputShort, namedLine, answerTo}
+use Rattle.job.specs.Printed.{treeRoom, solveJob, printedOf, printed}
+use Rattle.job.specs.Answered.{outputShort, lineAnswer, namedLine, answerTo}
+use Rattle.job.specs.Outcome.{JobOutcome}
+use Rattle.job.specs.Rows.{saidOfLine, saidOfJob, saidOfText, saidOfOutcome}
 use Rattle.job.proofs.ClashLaws
+use Rattle.job.proofs.OutcomeLaws
 use Rattle.job.proofs.RoomLaws
+use Rattle.job.proofs.RowLaws
+
+-- from the bytes of a job to demand 3, one row after another: what is printed is what belongs to the outcome that the papers give the
+-- job. The lines of X and its text exactly if the bodies are read and X is the answer; number 8's line exactly if three required labels
+-- have different closer pairs and these are the first; 6, 7, 10, 11 and the bodies' refusals likewise
+pub job-promise : (job out : List ℕ) → (printed job ≡ out) ↔ ((x : Solution) × JobOutcome job x × (printedOf x ≡ out))
+job-promise = OutcomeLaws.printed-exactly
+
+-- and each job has just one outcome
+pub outcome-promise : (job : List ℕ) (x : Solution) → (solveJob job ≡ x) ↔ JobOutcome job x
+outcome-promise = OutcomeLaws.outcome-exactly
+
+-- "If an answer is an enum, the promises use a definition that gives this paper's number and values for each of its cases."
+pub job-rows-promise : (job : List ℕ) (room : ℕ)
+    → saidOfJob (answerTo job room) ≡ saidOfOutcome (listPlace (layoutOf job)) room (solveJob job)
+job-rows-promise = RowLaws.job-said
+
+pub line-rows-promise : (text : List ℕ) (room : ℕ) → saidOfLine (lineAnswer text room) ≡ saidOfText text room
+line-rows-promise = RowLaws.line-said
 
 -- "An output is too short exactly if it has fewer bytes than the text that belongs in it": the engine's own area for a tree's text never
 -- is, so number 9 says that the caller's output has fewer bytes than the printed lines
@@ -28,11 +52,9 @@ pub nine-of-output : (job : List ℕ) (room : ℕ) (q : Refusal) → answerTo jo
 nine-of-output = RoomLaws.nine-output
 
 pub nine-when-short : (job : List ℕ) (room : ℕ) (s : Tree) (X : List Label) (text : List ℕ) → solveJob job ≡ solved s X text
-    → room < length (printed job)
-    → answerTo job room ≡ job-answer.Refused outputShort
+    → room < length (printed job) → answerTo job room ≡ job-answer.Refused outputShort
 nine-when-short = RoomLaws.short-output
 
 -- "Number 8 adds a space and its three labels joined by commas.": the line from the answer's places and sizes is the printed one
-pub eight-line : (job : List ℕ) (room : ℕ) (n : Named) → answerTo job room ≡ job-answer.Disagree n
-    → namedLine job n ≡ printed job
+pub eight-line : (job : List ℕ) (room : ℕ) (n : Named) → answerTo job room ≡ job-answer.Disagree n → namedLine job n ≡ printed job
 eight-line = ClashLaws.clash-line

@@ -1,20 +1,23 @@
--- The labels of a tree and of a list stand in the text where their places say. Assumes nothing.
-use Prim.Native.Nat.{ℕ, _+_}
+-- The labels of a tree and of a list stand in the text where their places say, and an answer says its row. Assumes nothing.
+use Prim.Native.Nat.{ℕ, zero, suc, _+_, _<_}
 use mathlib.Core.Path.{_≡_, refl, sym, _∙_, ap, subst}
 use mathlib.Core.Bool.{true, false, cond}
 use mathlib.Core.Logic.{_⊎_, inl, inr, ⊎-elim}
 use mathlib.Core.List.{List, [], _∷_, _++_, append-assoc, append-nil}
+use native.Mathlib.Nat.{not-suc-le-zero, le-of-suc-le-suc}
 use native.Mathlib.Omega.{arith}
-use lib.ListN.{length, length-append}
+use lib.ListN.{length, getD, length-append}
 use Rattle.trees.specs.Label.{Label, sameLabel, isIn}
 use Rattle.trees.specs.Tree.{Tree, leaf, node}
 use Rattle.trees.specs.Text.{written, textOf}
 use Rattle.trees.specs.Words.{Within}
 use Rattle.trees.proofs.Bools.{bool-cases, clash}
 use Rattle.trees.proofs.LabelLaws.{same-eq}
-use Rattle.lists.specs.ReadList.{joined}
+use Rattle.lists.specs.ReadList.{joined, startsOf}
 use Rattle.agreement.specs.Closer.{holds}
-use Rattle.agreement.specs.Places.{placeIn, placeOfLabel}
+use Rattle.agreement.specs.Places.{placeIn, placeOfNumber, placeOfLabel}
+use Rattle.mast.specs.Largest.{Solution, solved, clashed, turned, largestOf}
+use Rattle.mast.specs.Rows.{saidOfLargest, saidOfSolution}
 use Rattle.agreement.proofs.HoldsLaws.{holds-leaf, holds-cases}
 
 -- ---- the labels of a tree
@@ -138,3 +141,43 @@ list-listed xs x h =
     let w = listed-at xs x h 0 in
     let e : w .0 ≡ placeOfLabel xs 0 x = omega (arith, w .1) in
     subst (λ (p : ℕ). Listed (joined xs) p x) e (w .2)
+
+-- ---- the label with a number
+
+numbered-at : (xs : List Label) (n : ℕ) → n < length xs → (q : ℕ)
+    → (p : ℕ) × (getD (startsOf xs q) n 0 ≡ q + p) × Within (joined xs) p (getD xs n [])
+unfolding startsOf joined
+numbered-at [] n h q = absurd (not-suc-le-zero h)
+numbered-at (y ∷ []) zero h q = (0, omega arith, record { before = []; after = []; is = sym (append-nil y); place = refl })
+numbered-at (y ∷ []) (suc n) h q = absurd (not-suc-le-zero (le-of-suc-le-suc h))
+numbered-at (y ∷ z ∷ xs) zero h q =
+    (0, omega arith, record { before = []; after = 44 ∷ joined (z ∷ xs); is = refl; place = refl })
+numbered-at (y ∷ z ∷ xs) (suc n) h q =
+    let w = numbered-at (z ∷ xs) n (le-of-suc-le-suc h) (q + length y + 1) in
+    let x : Label = getD (z ∷ xs) n [] in (
+      length y + 1 + w .0,
+      w .1 ∙ omega arith,
+      inner (y ++ (44 ∷ [])) (joined (z ∷ xs)) [] (y ++ (44 ∷ joined (z ∷ xs))) x (w .0) (length y + 1 + w .0)
+          (sym (append-assoc y (44 ∷ []) (joined (z ∷ xs) ++ []) ∙ ap (λ (l : List ℕ). y ++ (44 ∷ l)) (append-nil (joined (z ∷ xs)))))
+          (omega (arith, length-append y (44 ∷ [])))
+          (w .2),
+    )
+
+-- the label with number n stands at its place
+pub number-shown : (xs : List Label) (n : ℕ) → n < length xs → Within (joined xs) (placeOfNumber xs n) (getD xs n [])
+unfolding placeOfNumber
+number-shown xs n h =
+    let w = numbered-at xs n h 0 in
+    let e : w .0 ≡ getD (startsOf xs 0) n 0 = omega (arith, w .1) in
+    subst (λ (p : ℕ). Within (joined xs) p (getD xs n [])) e (w .2)
+
+pub list-shown : (xs : List Label) (x : Label) → isIn x xs ≡ true → Within (joined xs) (placeOfLabel xs 0 x) x
+list-shown xs x h = list-listed xs x h .shown
+
+-- ---- the rows
+
+pub said-exactly : (x : Solution) → saidOfLargest (largestOf x .answer) ≡ saidOfSolution x
+unfolding largestOf saidOfLargest saidOfSolution
+said-exactly (solved s X text) = refl
+said-exactly (clashed xs a b c) = refl
+said-exactly (turned q) = refl

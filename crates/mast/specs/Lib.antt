@@ -8,3 +8,4 @@ pub mod Marks
 pub mod Ranks
 pub mod Required
 pub mod Table
+pub mod Rows
