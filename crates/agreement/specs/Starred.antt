@@ -1,19 +1,13 @@
 -- The starred cases of the scope paper's "Trees to try", as a table of texts and answers.
-use Prim.Native.Nat.{ℕ}
-use Prim.Native.Char.{code}
-use Prim.Native.String.{String, [] as no-text, _∷_ as _then_}
+use Prim.Native.String.{String}
 use mathlib.Core.Option.{Option, some, none}
 use mathlib.Core.List.{List, [], _∷_}
 use Rattle.trees.specs.Label.{Label}
+use Rattle.trees.specs.Words.{bytesOf}
 use Rattle.trees.specs.Reading.{good, refused}
 use Rattle.newick.specs.ReadTree.{readTree}
 use Rattle.lists.specs.ReadList.{readList}
 use Rattle.agreement.specs.Answer.{Answer, disagree, largest, answer}
-
--- the bytes of a text of plain characters
-unfoldable pub bytesOf : String → List ℕ
-bytesOf no-text = []
-bytesOf (c then rest) = code c ∷ bytesOf rest
 
 pub record Row : Type 0 where
   pub first : String

@@ -6,7 +6,7 @@ ghost use mathlib.Core.Path.{_≡_};
 ghost use lib.ListN.{length};
 ghost use Rattle.mast.specs.Largest.{solve, outputOf};
 ghost use Rattle.job.specs.Printed.{solveJob};
-ghost use Rattle.job.specs.Answered.{answered, jobOutput};
+ghost use Rattle.job.specs.Answered.{answerTo, jobOutput};
 ghost use Rattle.cabi.specs.Numbers.{numbersOf, jobNumbers};
 use job::JobAnswer;
 use mast::LargestAnswer;
@@ -81,7 +81,7 @@ pub extern "C" fn agree_largest(
 // The answer to a job; its lines go into `out`. The size is told by the first of them.
 #[no_mangle]
 pub extern "C" fn agree_job(bytes: &[u8], out: &mut [u8]) -> AgreeResult
-    ensures numbers { λ r. ⌜ r ≡ jobNumbers (answered (length (now (bytes .entry))) (length (now (out .entry))) (solveJob (now (bytes .entry)))) ⌝ }
+    ensures numbers { λ r. ⌜ r ≡ jobNumbers (answerTo (now (bytes .entry)) (length (now (out .entry)))) ⌝ }
     ensures output { λ r. ⌜ now (out .exit) ≡ jobOutput (solveJob (now (bytes .entry))) (now (out .entry)) ⌝ }
 {
     let answer = job::answer_job(bytes, out);

@@ -12,47 +12,49 @@ use Rattle.trees.specs.declared.Reason.the-variants.{Contents, JobTooLong}
 use Rattle.trees.specs.declared.Body.the-variants.{J}
 use Rattle.trees.specs.declared.Refusal.{Refusal}
 use Rattle.trees.specs.Label.{Label, isIn}
-use Rattle.trees.specs.Tree.{Tree}
+use Rattle.trees.specs.Tree.{Tree, leafLimit}
 use Rattle.lists.specs.declared.LabelPlaces.{LabelPlaces}
-use Rattle.lists.specs.ReadList.{joined}
 use Rattle.agreement.specs.Places.{placeIn, placeOfLabel}
 use Rattle.mast.specs.declared.LargestAnswer.the-variants.{Found, Disagree, Refused}
 use Rattle.mast.specs.declared.LargestResult.{LargestResult}
 use Rattle.mast.specs.Largest.{Solution, solved, clashed, turned, solve, setPlaces, largestOf, outputOf}
 use Rattle.job.specs.declared.JobAnswer.the-variants as job-answer
 use Rattle.job.specs.declared.Part.{Part}
-use Rattle.job.specs.Contents.{Bodies, bodiesOf}
-use Rattle.job.specs.Printed.{recordLines, solveBodies, solveJob, treeRoom}
+use Rattle.contents.specs.declared.Table.{Table}
+use Rattle.contents.specs.declared.Layout.the-variants as layout
+use Rattle.contents.specs.Contents.{Bodies, layoutOf, bodiesIn, bodiesOf, listPlace}
+use Rattle.contents.proofs.ContentsLaws.{laid-job}
+use Rattle.job.specs.Printed.{recordLines, solveBodies, solveJob, treeRoom, jobLimit}
 use Rattle.job.specs.Answered.{lineOutput, recordAnswer, partOfLabel, answered, jobOutput}
 use Rattle.job.specs.Areas.{labelsIn, untilComma}
 use Rattle.job.proofs.ShownLaws.{labels-are, listed-size, good-bytes}
-use Rattle.job.proofs.SolvedLaws.{ClashedBy, From, solution-from, set-few, set-shown, list-text, eight, label-listed}
+use Rattle.job.proofs.SolvedLaws.{ClashedBy, From, solution-from, set-few, set-shown, eight, label-listed}
 
 -- ---- one kind of answer each
 
-pub answered-turned : (bytes room : ℕ) (x : Solution) (q : Refusal) → x ≡ turned q → job-answer.Refused q ≡ answered bytes room x
+pub answered-turned : (base room : ℕ) (x : Solution) (q : Refusal) → x ≡ turned q → job-answer.Refused q ≡ answered base room x
 unfolding answered
-answered-turned bytes room x q e = rw e refl
+answered-turned base room x q e = rw e refl
 
 pub output-turned : (x : Solution) (q : Refusal) (out : List ℕ) → x ≡ turned q → out ≡ jobOutput x out
 unfolding jobOutput
 output-turned x q out e = rw e refl
 
-pub answered-solved : (bytes room : ℕ) (x : Solution) (s : Tree) (X : List Label) (text : List ℕ) → x ≡ solved s X text
-    → recordAnswer (recordLines X text) room ≡ answered bytes room x
+pub answered-solved : (base room : ℕ) (x : Solution) (s : Tree) (X : List Label) (text : List ℕ) → x ≡ solved s X text
+    → recordAnswer (recordLines X text) room ≡ answered base room x
 unfolding answered
-answered-solved bytes room x s X text e = ap (answered bytes room) (sym e)
+answered-solved base room x s X text e = ap (answered base room) (sym e)
 
 pub output-solved : (x : Solution) (s : Tree) (X : List Label) (text out : List ℕ) → x ≡ solved s X text
     → lineOutput (recordLines X text) out ≡ jobOutput x out
 unfolding jobOutput
 output-solved x s X text out e = ap (λ (y : Solution). jobOutput y out) (sym e)
 
-pub answered-clashed : (bytes room : ℕ) (x : Solution) (xs : List Label) (a b c : Label) → x ≡ clashed xs a b c
-    → job-answer.Disagree (record { first = partOfLabel bytes xs a; second = partOfLabel bytes xs b; third = partOfLabel bytes xs c })
-    ≡ answered bytes room x
+pub answered-clashed : (base room : ℕ) (x : Solution) (xs : List Label) (a b c : Label) → x ≡ clashed xs a b c
+    → job-answer.Disagree (record { first = partOfLabel base xs a; second = partOfLabel base xs b; third = partOfLabel base xs c })
+    ≡ answered base room x
 unfolding answered
-answered-clashed bytes room x xs a b c e = ap (answered bytes room) (sym e)
+answered-clashed base room x xs a b c e = ap (answered base room) (sym e)
 
 pub output-clashed : (x : Solution) (xs : List Label) (a b c : Label) (out : List ℕ) → x ≡ clashed xs a b c → out ≡ jobOutput x out
 unfolding jobOutput
@@ -66,16 +68,16 @@ pub record SetFound (first second list area : List ℕ) (places : LabelPlaces) (
   pub X : List Label
   pub text : List ℕ
   pub solution : solve first second list treeRoom ≡ solved s X text
-  pub short : length text ≤ 1518
+  pub short : length text ≤ treeRoom
   pub front : take k area ≡ text
   pub inside : k ≤ length area
-  pub few : places .count ≤ 80
+  pub few : places .count ≤ leafLimit
   pub labels : labelsIn first (places .start) (places .size) (places .count) ≡ X
 
 -- a label of the list at place i
 pub record Clasher (list : List ℕ) (xs : List Label) (x : Label) (i : ℕ) : Type 0 where
   pub inside : i ≤ length list
-  pub part : (base : ℕ) → _≡_ {A = Part} (record { start = base + i; size = length (untilComma (drop i list)) }) (partOfLabel (base + length list) xs x)
+  pub part : (base : ℕ) → _≡_ {A = Part} (record { start = base + i; size = length (untilComma (drop i list)) }) (partOfLabel base xs x)
 
 pub record EightFound (first second list : List ℕ) (i j k : ℕ) : Type 0 where
   pub xs : List Label
@@ -94,17 +96,16 @@ module _ (first list : List ℕ) (xs : List Label) (a b c : Label) (w : ClashedB
       let l = label-listed first list xs a b c w x h in
       let s = l .0 .shown in
       let p : i ≡ length (s .before) = e ∙ s .place in
-      let t : length list ≡ length (joined xs) = ap (length {A = ℕ}) (list-text first list xs a b c w) in
       record {
         inside = omega (arith, p, ap (length {A = ℕ}) (s .is), length-append (s .before) (x ++ s .after));
         part =
             λ base.
-            ap₂ (λ (m n : ℕ). record { start = m; size = n }) (omega (arith, e, t))
+            ap₂ (λ (m n : ℕ). record { start = m; size = n }) (ap (λ (k : ℕ). base + k) e)
             (ap (λ (k : ℕ). length (untilComma (drop k list))) e
             ∙ listed-size list (placeOfLabel xs 0 x) x (l .0) (good-bytes x (l .1)));
       }
 
-module _ (first second list blank area : List ℕ) (r : LargestResult) (roomy : length blank ≡ 1518)
+module _ (first second list blank area : List ℕ) (r : LargestResult) (roomy : length blank ≡ treeRoom)
     (told : r ≡ largestOf (solve first second list (length blank)))
     (kept : area ≡ outputOf (solve first second list (length blank)) blank) where
   in-room : (x : Solution) → solve first second list (length blank) ≡ x → solve first second list treeRoom ≡ x
@@ -195,37 +196,37 @@ module _ (first second list blank area : List ℕ) (r : LargestResult) (roomy : 
 
 -- ---- the job
 
-pub job-long : (job : List ℕ) → 8192 < length job → solveJob job ≡ turned (record { reason = JobTooLong; body = J; place = 0 })
+pub job-long : (job : List ℕ) → jobLimit < length job → solveJob job ≡ turned (record { reason = JobTooLong; body = J; place = 0 })
 unfolding solveJob
-job-long job h = rw (lt-leb (length job) 8192 h) refl
+job-long job h = rw (lt-leb (length job) jobLimit h) refl
 
-job-bodies : (job : List ℕ) (b : Option Bodies) → length job ≤ 8192 → bodiesOf job ≡ b → solveJob job ≡ solveBodies b
+job-bodies : (job : List ℕ) (b : Option Bodies) → length job ≤ jobLimit → bodiesOf job ≡ b → solveJob job ≡ solveBodies b
 unfolding solveJob
-job-bodies job b h e = rw (le-leb (length job) 8192 h) (ap solveBodies e)
+job-bodies job b h e = rw (le-leb (length job) jobLimit h) (ap solveBodies e)
 
-pub job-broken : (job : List ℕ) → length job ≤ 8192 → bodiesOf job ≡ none
+pub job-broken : (job : List ℕ) → length job ≤ jobLimit → layout.Broken ≡ layoutOf job
     → solveJob job ≡ turned (record { reason = Contents; body = J; place = 0 })
-unfolding solveBodies
-job-broken job h e = job-bodies job none h e
+unfolding solveBodies bodiesOf bodiesIn
+job-broken job h e = job-bodies job none h (ap (bodiesIn job) (sym e))
 
-module _ (job : List ℕ) (at s t : ℕ) (inside : at + s + t ≤ length job) where
-  pub list-part : take (length job - (at + s + t)) (drop (at + s + t) job) ≡ drop (at + s + t) job
-  list-part = take-all (length job - (at + s + t)) (drop (at + s + t) job) (omega (arith, length-drop (at + s + t) job))
+module _ (job : List ℕ) (at : ℕ) (t : Table) (e : layout.Bodies at t ≡ layoutOf job) where
+  pub laid-inside : at + t .first + t .second + t .required ≡ length job
+  laid-inside = laid-job job at t (sym e) .sum
 
-  pub list-end : at + s + t + length (take (length job - (at + s + t)) (drop (at + s + t) job)) ≡ length job
-  list-end = omega (arith, ap (length {A = ℕ}) list-part, length-drop (at + s + t) job)
+  pub list-base : at + t .first + t .second ≡ listPlace (layoutOf job)
+  unfolding listPlace
+  list-base = ap listPlace e
 
-  pub job-solved : length job ≤ 8192
-      → bodiesOf job
-      ≡ some (record { first = take s (drop at job); second = take t (drop (at + s) job); list = drop (at + s + t) job })
-      → solve (take (at + s - at) (drop at job)) (take (at + s + t - (at + s)) (drop (at + s) job))
-      (take (length job - (at + s + t)) (drop (at + s + t) job)) treeRoom
+  pub job-solved : length job ≤ jobLimit
+      → solve (take (at + t .first - at) (drop at job)) (take (at + t .first + t .second - (at + t .first)) (drop (at + t .first) job))
+      (take (at + t .first + t .second + t .required - (at + t .first + t .second)) (drop (at + t .first + t .second) job)) treeRoom
       ≡ solveJob job
-  unfolding solveBodies
-  job-solved h e =
-      let u : at + s - at ≡ s = omega arith in
-      let v : at + s + t - (at + s) ≡ t = omega arith in
-      rw (u, v, list-part) (sym (job-bodies job _ h e))
+  unfolding solveBodies bodiesOf bodiesIn
+  job-solved h =
+      let u : at + t .first - at ≡ t .first = omega arith in
+      let v : at + t .first + t .second - (at + t .first) ≡ t .second = omega arith in
+      let w : at + t .first + t .second + t .required - (at + t .first + t .second) ≡ t .required = omega arith in
+      rw (u, v, w) (sym (job-bodies job _ h (ap (bodiesIn job) (sym e))))
 
 pub named-eq : {p q r u v w : Part} → p ≡ u → q ≡ v → r ≡ w
     → job-answer.Disagree (record { first = p; second = q; third = r }) ≡ job-answer.Disagree (record { first = u; second = v; third = w })
@@ -233,7 +234,7 @@ named-eq e f g = rw (e, f, g) refl
 
 -- the engine's area for the tree text
 abbrev pub blank : List ℕ
-blank = replicate 1518 0
+blank = replicate treeRoom 0
 
-pub blank-room : length blank ≡ 1518
-blank-room = length-replicate {A = ℕ} 1518 0
+pub blank-room : length blank ≡ treeRoom
+blank-room = length-replicate {A = ℕ} treeRoom 0

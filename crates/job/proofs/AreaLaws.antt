@@ -6,16 +6,17 @@ use mathlib.Core.List.{List, [], _∷_, _++_, append-assoc, append-nil}
 use native.Mathlib.Nat.{add-zero, zero-add}
 use native.Mathlib.Numerals.{add-one}
 use native.Mathlib.Omega.{arith}
-use lib.Dec.{leb}
-use lib.ListN.{length, getD, set, take, drop, length-append, length-take, length-drop, length-set, take-append-drop}
+use lib.Dec.{leb, eqb}
+use lib.ListN.{length, getD, set, take, drop, length-append, length-take, length-drop, length-set, take-append-drop, drop-of-length-le}
 use lib.Seq.{take-suc, take-suc-set, drop-set-lt, drop-drop, take-length}
-use borrow.Author.Tests.{le-leb, lt-leb}
-use Rattle.trees.specs.Label.{Label}
+use borrow.Author.Tests.{le-leb, lt-leb, eq-eqb, ne-eqb}
+use Rattle.trees.specs.Label.{Label, labelLimit}
 use Rattle.trees.specs.Stored.{partOf}
 use Rattle.lists.specs.ReadList.{joined}
 use Rattle.job.specs.declared.LineAnswer.the-variants.{Written, TooShort}
-use Rattle.job.specs.Answered.{lineAnswer, lineOutput, labelIn}
-use Rattle.job.specs.Areas.{Put, item, labelsIn}
+use Rattle.job.specs.Answered.{outputShort, lineAnswer, lineOutput, labelIn}
+use Rattle.contents.proofs.RunLaws.{at-place}
+use Rattle.job.specs.Areas.{Put, item, labelsIn, untilComma}
 
 -- ---- one text after another
 
@@ -83,7 +84,7 @@ pub answer-fits : (text : List ℕ) (room n : ℕ) → length text ≤ room → 
 unfolding lineAnswer
 answer-fits text room n h e = rw (le-leb (length text) room h) (ap Written (e ∙ zero-add (length text)))
 
-pub answer-short : (text : List ℕ) (room : ℕ) → room < length text → TooShort ≡ lineAnswer text room
+pub answer-short : (text : List ℕ) (room : ℕ) → room < length text → TooShort outputShort ≡ lineAnswer text room
 unfolding lineAnswer
 answer-short text room h = rw (lt-leb (length text) room h) refl
 
@@ -97,20 +98,20 @@ output-short text out h = rw (lt-leb (length text) (length out) h) refl
 
 -- ---- labels
 
-pub label-whole : (text : List ℕ) (start size : ℕ) → size < 16 → partOf start size text ≡ labelIn text start size
+pub label-whole : (text : List ℕ) (start size : ℕ) → size < labelLimit → partOf start size text ≡ labelIn text start size
 unfolding labelIn
-label-whole text start size h = let e : size ≡ min size 16 = omega arith in ap (λ (k : ℕ). partOf start k text) e
+label-whole text start size h = let e : size ≡ min size labelLimit = omega arith in ap (λ (k : ℕ). partOf start k text) e
 
-pub label-cut : (text : List ℕ) (start size : ℕ) → 16 ≤ size → partOf start 16 text ≡ labelIn text start size
+pub label-cut : (text : List ℕ) (start size : ℕ) → labelLimit ≤ size → partOf start labelLimit text ≡ labelIn text start size
 unfolding labelIn
-label-cut text start size h = let e : 16 ≡ min size 16 = omega arith in ap (λ (k : ℕ). partOf start k text) e
+label-cut text start size h = let e : labelLimit ≡ min size labelLimit = omega arith in ap (λ (k : ℕ). partOf start k text) e
 
-pub label-short : (text : List ℕ) (start size : ℕ) → length (labelIn text start size) ≤ 16
+pub label-short : (text : List ℕ) (start size : ℕ) → length (labelIn text start size) ≤ labelLimit
 unfolding labelIn partOf
-label-short text start size = go (leb (start + min size 16) (length text))
+label-short text start size = go (leb (start + min size labelLimit) (length text))
   where
-    go : (b : Bool) → length (cond b (take (min size 16) (drop start text)) []) ≤ 16
-    go true = omega (arith, length-take (min size 16) (drop start text))
+    go : (b : Bool) → length (cond b (take (min size labelLimit) (drop start text)) []) ≤ labelLimit
+    go true = omega (arith, length-take (min size labelLimit) (drop start text))
     go false = omega arith
 
 pub item-first : (i : ℕ) (x : Label) → i ≡ 0 → x ≡ item i x
@@ -170,3 +171,18 @@ first-none a at text starts sizes = put-to (at + 0) at (add-zero at) (put-none a
 -- a part up to the end is what is left
 pub tail-slice : (l : List ℕ) (i n : ℕ) → length l - i ≤ n → take n (drop i l) ≡ drop i l
 tail-slice l i n h = lib.Seq.take-all n (drop i l) (omega (arith, length-drop i l))
+
+-- ---- the bytes before a comma
+
+pub until-go : (list : List ℕ) (i : ℕ) → i < length list → (getD list i 0 ≡ 44 → ⊥)
+    → length (untilComma (drop i list)) ≡ suc (length (untilComma (drop (i + 1) list)))
+unfolding untilComma
+until-go list i h d = rw (at-place list i h, ne-eqb (getD list i 0) 44 d) refl
+
+pub until-stop : (list : List ℕ) (i : ℕ) → i < length list → getD list i 0 ≡ 44 → length (untilComma (drop i list)) ≡ 0
+unfolding untilComma
+until-stop list i h d = rw (at-place list i h, eq-eqb (getD list i 0) 44 d) refl
+
+pub until-end : (list : List ℕ) (i : ℕ) → length list ≤ i → length (untilComma (drop i list)) ≡ 0
+unfolding untilComma
+until-end list i h = rw (drop-of-length-le list h) refl

@@ -1,13 +1,13 @@
 pub mod AnswerLaws
 pub mod AreaLaws
 pub mod ClashLaws
-pub mod ContentSteps
-pub mod ContentsLaws
-pub mod DecimalLaws
+pub mod DigitLaws
 pub mod LineLaws
+pub mod OutcomeLaws
 pub mod PrintLaws
 pub mod Promises
 pub mod RecordLaws
 pub mod RoomLaws
+pub mod RowLaws
 pub mod ShownLaws
 pub mod SolvedLaws

@@ -1,42 +1,39 @@
 -- The parts of the lines, one after another, are the lines. Assumes nothing.
 use Prim.Native.Nat.{ℕ, _+_, _-_, _≤_}
 use mathlib.Core.Path.{_≡_, refl, _∙_, ap}
-use mathlib.Core.Bool.{Bool, true, false, cond}
 use mathlib.Core.List.{List, [], _∷_, _++_, append-assoc}
 use native.Mathlib.Omega.{arith}
 use lib.ListN.{length, take, length-append, length-take}
-use Rattle.job.proofs.DecimalLaws.{decimal-short}
+use Rattle.contents.proofs.DecimalLaws.{decimal-short}
 use Rattle.job.proofs.AreaLaws.{label-short, item-short}
-use Rattle.trees.specs.declared.Reason.the-variants.{Disagree, TooShort}
-use Rattle.trees.specs.declared.Body.the-variants.{K, O}
+use Rattle.trees.specs.declared.Reason.the-variants.{Disagree}
+use Rattle.trees.specs.declared.Body.the-variants.{K}
 use Rattle.trees.specs.declared.Refusal.{Refusal}
 use Rattle.trees.specs.Refusals.{numberOf, letterOf}
-use Rattle.trees.specs.Label.{Label}
+use Rattle.trees.specs.Label.{Label, labelLimit}
 use Rattle.lists.specs.ReadList.{joined}
 use Rattle.mast.specs.Largest.{turned}
 use Rattle.job.specs.declared.Named.{Named}
 use Rattle.job.specs.declared.LineAnswer.{LineAnswer}
-use Rattle.job.specs.declared.LineAnswer.the-variants as line
-use Rattle.job.specs.declared.JobAnswer.the-variants as job-answer
-use lib.Dec.{leb}
-use Rattle.job.specs.Decimal.{decimalOf}
+use Rattle.contents.specs.Decimal.{decimalOf}
+use Rattle.trees.specs.Words.{bytesOf}
+use Rattle.contents.specs.Contents.{line}
 use Rattle.job.specs.Printed.{refusedWords, recordLines, printedOf}
-use Rattle.job.specs.Answered.{lineAnswer, lineOutput, labelIn, namedLine, recordAnswer}
-use Rattle.job.specs.Areas.{Put, item}
+use Rattle.job.specs.Answered.{lineAnswer, lineOutput, labelIn, namedLine}
+use Rattle.job.specs.Areas.{Put, item, itemRoom, wordsRoom}
 
 words-of : (d p : List ℕ) (l : ℕ)
-    → (114 ∷ 101 ∷ 102 ∷ 117 ∷ 115 ∷ 101 ∷ 100 ∷ 32 ∷ []) ++ d ++ (32 ∷ []) ++ (l ∷ []) ++ (32 ∷ []) ++ p
-    ≡ 114 ∷ 101 ∷ 102 ∷ 117 ∷ 115 ∷ 101 ∷ 100 ∷ 32 ∷ (d ++ (32 ∷ l ∷ 32 ∷ p))
+    → bytesOf "refused " ++ d ++ (32 ∷ []) ++ (l ∷ []) ++ (32 ∷ []) ++ p ≡ bytesOf "refused " ++ (d ++ (32 ∷ l ∷ 32 ∷ p))
+unfolding bytesOf
 words-of d p l = simp append-assoc
 
 pub refusal-parts : (q : Refusal) (n l : ℕ) → n ≡ numberOf (q .reason) → l ≡ letterOf (q .body)
-    → (114 ∷ 101 ∷ 102 ∷ 117 ∷ 115 ∷ 101 ∷ 100 ∷ 32 ∷ []) ++ decimalOf n ++ (32 ∷ []) ++ (l ∷ []) ++ (32 ∷ []) ++ decimalOf (q .place)
-    ≡ refusedWords q
+    → bytesOf "refused " ++ decimalOf n ++ (32 ∷ []) ++ (l ∷ []) ++ (32 ∷ []) ++ decimalOf (q .place) ≡ refusedWords q
 unfolding refusedWords
 refusal-parts q n l e f = rw (e, f) (words-of (decimalOf (numberOf (q .reason))) (decimalOf (q .place)) (letterOf (q .body)))
 
 pub refusal-line-parts : (q : Refusal) → refusedWords q ++ (10 ∷ []) ≡ printedOf (turned q)
-unfolding printedOf
+unfolding printedOf line
 refusal-line-parts q = refl
 
 pub named-parts : (job : List ℕ) (n : Named)
@@ -46,29 +43,26 @@ pub named-parts : (job : List ℕ) (n : Named)
     ++ item 1 (labelIn job (n .third .start) (n .third .size))
     ++ (10 ∷ [])
     ≡ namedLine job n
-unfolding namedLine printedOf joined item
+unfolding namedLine printedOf joined item line
 named-parts job n = simp append-assoc
 
-lines-of : (d j t : List ℕ)
-    → (115 ∷ 105 ∷ 122 ∷ 101 ∷ 32 ∷ []) ++ d ++ (10 ∷ 115 ∷ 101 ∷ 116 ∷ 32 ∷ []) ++ j
-    ++ (10 ∷ 116 ∷ 114 ∷ 101 ∷ 101 ∷ 32 ∷ []) ++ t ++ (10 ∷ [])
-    ≡ (115 ∷ 105 ∷ 122 ∷ 101 ∷ 32 ∷ (d ++ (10 ∷ [])))
-    ++ ((115 ∷ 101 ∷ 116 ∷ 32 ∷ (j ++ (10 ∷ []))) ++ (116 ∷ 114 ∷ 101 ∷ 101 ∷ 32 ∷ (t ++ (10 ∷ []))))
-lines-of d j t = simp append-assoc
+-- words and what follows them, each with its line end: joined from the left, and line by line
+lines-of : (n w d x j y t : List ℕ)
+    → w ++ d ++ (n ++ x) ++ j ++ (n ++ y) ++ t ++ n ≡ ((w ++ d) ++ n) ++ (((x ++ j) ++ n) ++ ((y ++ t) ++ n))
+lines-of n w d x j y t = simp append-assoc
 
 pub record-parts : (X : List Label) (tree : List ℕ) (n : ℕ) → n ≡ length X
-    → (115 ∷ 105 ∷ 122 ∷ 101 ∷ 32 ∷ []) ++ decimalOf n ++ (10 ∷ 115 ∷ 101 ∷ 116 ∷ 32 ∷ []) ++ joined X
-    ++ (10 ∷ 116 ∷ 114 ∷ 101 ∷ 101 ∷ 32 ∷ []) ++ tree ++ (10 ∷ [])
+    → bytesOf "size " ++ decimalOf n ++ (10 ∷ bytesOf "set ") ++ joined X ++ (10 ∷ bytesOf "tree ") ++ tree ++ (10 ∷ [])
     ≡ recordLines X tree
-unfolding recordLines
-record-parts X tree n e = rw e (lines-of (decimalOf (length X)) (joined X) tree)
+unfolding recordLines line
+record-parts X tree n e = rw e (lines-of (10 ∷ []) (bytesOf "size ") (decimalOf (length X)) (bytesOf "set ") (joined X) (bytesOf "tree ") tree)
 
 -- what was put from 0 on is the front of the area
 pub put-front : {a b text : List ℕ} {n : ℕ} → Put a 0 text n b → take n b ≡ text
 put-front p = p .front
 
-pub words-short : (q : Refusal) → length (refusedWords q) ≤ 51
-unfolding refusedWords
+pub words-short : (q : Refusal) → length (refusedWords q) ≤ wordsRoom
+unfolding refusedWords bytesOf
 words-short q =
     omega (
       arith,
@@ -92,29 +86,8 @@ module _ {a b text : List ℕ} {n : ℕ} (p : Put a 0 text n b) where
   front-output o out e = e ∙ ap (λ (t : List ℕ). lineOutput t out) (put-front p)
 
 -- a label that was shown, and the item it makes, are short
-pub named-short : (text : List ℕ) (start size : ℕ) {x : Label} → x ≡ labelIn text start size → length x ≤ 16
+pub named-short : (text : List ℕ) (start size : ℕ) {x : Label} → x ≡ labelIn text start size → length x ≤ labelLimit
 named-short text start size {x} e = omega (arith, ap (length {A = ℕ}) e, label-short text start size)
 
-pub item-named : (i : ℕ) (text : List ℕ) (start size : ℕ) {x : Label} → x ≡ labelIn text start size → length (item i x) ≤ 17
+pub item-named : (i : ℕ) (text : List ℕ) (start size : ℕ) {x : Label} → x ≡ labelIn text start size → length (item i x) ≤ itemRoom
 item-named i text start size {x} e = omega (arith, named-short text start size e, item-short i x)
-
--- what the line's answer says of the job's
-pub record-written : (text : List ℕ) (room n : ℕ) → line.Written n ≡ lineAnswer text room → job-answer.Written n ≡ recordAnswer text room
-unfolding lineAnswer recordAnswer
-record-written text room n e = go (leb (length text) room) e
-  where
-    go : (b : Bool) → line.Written n ≡ cond b (line.Written (length text)) line.TooShort
-        → job-answer.Written n ≡ cond b (job-answer.Written (length text)) (job-answer.Refused (record { reason = TooShort; body = O; place = 0 }))
-    go true h = cc
-    go false h = let z : _≡_ {A = ℕ} 0 1 = cc in absurd (omega arith)
-
-pub record-short : (text : List ℕ) (room : ℕ) → line.TooShort ≡ lineAnswer text room
-    → job-answer.Refused (record { reason = TooShort; body = O; place = 0 }) ≡ recordAnswer text room
-unfolding lineAnswer recordAnswer
-record-short text room e = go (leb (length text) room) e
-  where
-    go : (b : Bool) → line.TooShort ≡ cond b (line.Written (length text)) line.TooShort
-        → job-answer.Refused (record { reason = TooShort; body = O; place = 0 })
-        ≡ cond b (job-answer.Written (length text)) (job-answer.Refused (record { reason = TooShort; body = O; place = 0 }))
-    go true h = let z : _≡_ {A = ℕ} 0 1 = cc in absurd (omega arith)
-    go false h = refl

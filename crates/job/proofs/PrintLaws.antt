@@ -6,13 +6,14 @@ use native.Mathlib.Omega.{arith}
 use lib.ListN.{length}
 use Rattle.trees.specs.declared.Refusal.{Refusal}
 use Rattle.trees.specs.Refusals.{numberOf}
+use Rattle.contents.specs.Contents.{layoutOf, listPlace}
 use Rattle.mast.specs.Largest.{Solution, solved, clashed, turned}
 use Rattle.job.specs.declared.JobAnswer.{JobAnswer}
 use Rattle.job.specs.declared.JobAnswer.the-variants as job-answer
 use Rattle.job.specs.declared.LineAnswer.the-variants.{Written, TooShort}
 use Rattle.job.specs.declared.Named.{Named}
 use Rattle.job.specs.Printed.{recordLines, printedOf, printed, solveJob}
-use Rattle.job.specs.Answered.{lineAnswer, lineOutput, answered, jobOutput}
+use Rattle.job.specs.Answered.{lineAnswer, lineOutput, answered, answerTo, jobOutput}
 use Rattle.job.proofs.RecordLaws.{record-written, record-refused, record-no-clash}
 use Rattle.job.proofs.RoomLaws.{job-fits}
 
@@ -21,11 +22,11 @@ module _ (job out : List ℕ) where
   room = length out
 
   abbrev told : Solution → JobAnswer
-  told x = answered (length job) room x
+  told x = answered (listPlace (layoutOf job)) room x
 
-  pub printed-lines : (n : ℕ) → told (solveJob job) ≡ job-answer.Written n
+  pub printed-lines : (n : ℕ) → answerTo job room ≡ job-answer.Written n
       → (Written n ≡ lineAnswer (printed job) room) × (jobOutput (solveJob job) out ≡ lineOutput (printed job) out)
-  unfolding answered printed printedOf jobOutput
+  unfolding answerTo answered printed printedOf jobOutput
   printed-lines n e = go (solveJob job) e
     where
       go : (x : Solution) → told x ≡ job-answer.Written n
@@ -34,8 +35,8 @@ module _ (job out : List ℕ) where
       go (clashed xs a b c) h = let z : _≡_ {A = ℕ} 0 1 = cc in absurd (omega arith)
       go (turned q) h = let z : _≡_ {A = ℕ} 0 1 = cc in absurd (omega arith)
 
-  pub output-clash : (n : Named) → told (solveJob job) ≡ job-answer.Disagree n → jobOutput (solveJob job) out ≡ out
-  unfolding answered jobOutput
+  pub output-clash : (n : Named) → answerTo job room ≡ job-answer.Disagree n → jobOutput (solveJob job) out ≡ out
+  unfolding answerTo answered jobOutput
   output-clash n e = go (solveJob job) e
     where
       go : (x : Solution) → told x ≡ job-answer.Disagree n → jobOutput x out ≡ out
@@ -43,15 +44,15 @@ module _ (job out : List ℕ) where
       go (clashed xs a b c) h = refl
       go (turned q) h = refl
 
-  module _ (q : Refusal) (e : told (solveJob job) ≡ job-answer.Refused q) where
+  module _ (q : Refusal) (e : answerTo job room ≡ job-answer.Refused q) where
     -- number 9 is the output's
     pub printed-nine : numberOf (q .reason) ≡ 9
-        → (TooShort ≡ lineAnswer (printed job) room) × (jobOutput (solveJob job) out ≡ lineOutput (printed job) out)
-    unfolding answered printed printedOf jobOutput
+        → (TooShort q ≡ lineAnswer (printed job) room) × (jobOutput (solveJob job) out ≡ lineOutput (printed job) out)
+    unfolding answerTo answered printed printedOf jobOutput
     printed-nine n = go (solveJob job) refl e
       where
         go : (x : Solution) → solveJob job ≡ x → told x ≡ job-answer.Refused q
-            → (TooShort ≡ lineAnswer (printedOf x) room) × (jobOutput x out ≡ lineOutput (printedOf x) out)
+            → (TooShort q ≡ lineAnswer (printedOf x) room) × (jobOutput x out ≡ lineOutput (printedOf x) out)
         go (solved s X text) k h = (record-refused (recordLines X text) room q h .0, refl)
         go (clashed xs a b c) k h = let z : _≡_ {A = ℕ} 0 1 = cc in absurd (omega arith)
         go (turned p) k h =
@@ -60,7 +61,7 @@ module _ (job out : List ℕ) where
 
     -- any other is printed
     pub printed-refusal : (numberOf (q .reason) ≡ 9 → ⊥) → (printedOf (turned q) ≡ printed job) × (jobOutput (solveJob job) out ≡ out)
-    unfolding answered printed jobOutput
+    unfolding answerTo answered printed jobOutput
     printed-refusal n = go (solveJob job) e
       where
         go : (x : Solution) → told x ≡ job-answer.Refused q → (printedOf (turned q) ≡ printedOf x) × (jobOutput x out ≡ out)

@@ -1,6 +1,6 @@
 -- What the answer for the three lines of a set says of them: they are written, or number 9, and never number 8. Assumes nothing.
 use Prim.Native.Nat.{ℕ, _<_}
-use mathlib.Core.Path.{_≡_, refl, sym, ap}
+use mathlib.Core.Path.{_≡_, refl, sym, _∙_, ap}
 use mathlib.Core.Bool.{true, false}
 use mathlib.Core.Logic.{_⊎_, inl, inr}
 use mathlib.Core.List.{List}
@@ -8,56 +8,60 @@ use native.Mathlib.Omega.{arith}
 use lib.Dec.{leb}
 use lib.ListN.{length}
 use borrow.Author.Tests.{leb-false}
-use Rattle.trees.specs.declared.Reason.the-variants.{TooShort as TooShortReason}
-use Rattle.trees.specs.declared.Body.the-variants.{O}
 use Rattle.trees.specs.declared.Refusal.{Refusal}
 use Rattle.trees.specs.Refusals.{numberOf}
 use Rattle.trees.proofs.Bools.{bool-cases}
 use Rattle.job.specs.declared.JobAnswer.the-variants as job-answer
+use Rattle.job.specs.declared.LineAnswer.{LineAnswer}
 use Rattle.job.specs.declared.LineAnswer.the-variants.{Written, TooShort}
 use Rattle.job.specs.declared.Named.{Named}
-use Rattle.job.specs.Answered.{lineAnswer, recordAnswer}
+use Rattle.job.specs.Answered.{outputShort, lineAnswer, linesAnswer, recordAnswer}
+
+pub record-told : (lines : List ℕ) (room : ℕ) {l : LineAnswer} → l ≡ lineAnswer lines room → linesAnswer l ≡ recordAnswer lines room
+unfolding recordAnswer
+record-told lines room e = ap linesAnswer e
 
 pub record-written : (lines : List ℕ) (room n : ℕ) → recordAnswer lines room ≡ job-answer.Written n → Written n ≡ lineAnswer lines room
-unfolding recordAnswer lineAnswer
-record-written lines room n e = go (bool-cases (leb (length lines) room))
+unfolding recordAnswer linesAnswer
+record-written lines room n e = go (lineAnswer lines room) e
   where
-    go : (leb (length lines) room ≡ true) ⊎ (leb (length lines) room ≡ false) → Written n ≡ lineAnswer lines room
+    go : (l : LineAnswer) → linesAnswer l ≡ job-answer.Written n → Written n ≡ l
+    go (Written m) h = let k : n ≡ m = cc in ap Written k
+    go (TooShort q) h = let z : _≡_ {A = ℕ} 0 1 = cc in absurd (omega arith)
+
+-- the line's answer carries number 9 only where the output is too short
+line-nine : (lines : List ℕ) (room : ℕ) (q : Refusal) → lineAnswer lines room ≡ TooShort q → (q ≡ outputShort) × (room < length lines)
+unfolding lineAnswer
+line-nine lines room q e = go (bool-cases (leb (length lines) room))
+  where
+    go : (leb (length lines) room ≡ true) ⊎ (leb (length lines) room ≡ false) → (q ≡ outputShort) × (room < length lines)
     go (inl f) =
-        let g : job-answer.Written (length lines) ≡ job-answer.Written n = rw f at e in
-        let k : length lines ≡ n = cc in
-        rw f (ap Written (sym k))
-    go (inr f) =
-        let g : job-answer.Refused (record { reason = TooShortReason; body = O; place = 0 }) ≡ job-answer.Written n = rw f at e in
+        let g : Written (length lines) ≡ TooShort q = rw f at e in
         let z : _≡_ {A = ℕ} 0 1 = cc in
         absurd (omega arith)
+    go (inr f) =
+        let g : TooShort outputShort ≡ TooShort q = rw f at e in
+        let k : q ≡ outputShort = cc in
+        (k, leb-false (length lines) room f)
 
 pub record-refused : (lines : List ℕ) (room : ℕ) (q : Refusal) → recordAnswer lines room ≡ job-answer.Refused q
-    → (TooShort ≡ lineAnswer lines room) × (numberOf (q .reason) ≡ 9) × (room < length lines)
-unfolding recordAnswer lineAnswer numberOf
-record-refused lines room q e = go (bool-cases (leb (length lines) room))
+    → (TooShort q ≡ lineAnswer lines room) × (numberOf (q .reason) ≡ 9) × (room < length lines)
+unfolding recordAnswer linesAnswer numberOf
+record-refused lines room q e = go (lineAnswer lines room) refl e
   where
-    go : (leb (length lines) room ≡ true) ⊎ (leb (length lines) room ≡ false)
-        → (TooShort ≡ lineAnswer lines room) × (numberOf (q .reason) ≡ 9) × (room < length lines)
-    go (inl f) =
-        let g : job-answer.Written (length lines) ≡ job-answer.Refused q = rw f at e in
-        let z : _≡_ {A = ℕ} 0 1 = cc in
-        absurd (omega arith)
-    go (inr f) =
-        let g : job-answer.Refused (record { reason = TooShortReason; body = O; place = 0 }) ≡ job-answer.Refused q = rw f at e in
-        let k : record { reason = TooShortReason; body = O; place = 0 } ≡ q = cc in
-        (rw f refl, ap (λ (r : Refusal). numberOf (r .reason)) (sym k), leb-false (length lines) room f)
+    go : (l : LineAnswer) → lineAnswer lines room ≡ l → linesAnswer l ≡ job-answer.Refused q
+        → (TooShort q ≡ lineAnswer lines room) × (numberOf (q .reason) ≡ 9) × (room < length lines)
+    go (Written n) f h = let z : _≡_ {A = ℕ} 0 1 = cc in absurd (omega arith)
+    go (TooShort p) f h =
+        let k : p ≡ q = cc in
+        let g : lineAnswer lines room ≡ TooShort q = f ∙ ap TooShort k in
+        let w = line-nine lines room q g in
+        (sym g, ap (λ (r : Refusal). numberOf (r .reason)) (w .0), w .1)
 
 pub record-no-clash : (lines : List ℕ) (room : ℕ) (n : Named) → recordAnswer lines room ≡ job-answer.Disagree n → ⊥
-unfolding recordAnswer
-record-no-clash lines room n e = go (bool-cases (leb (length lines) room))
+unfolding recordAnswer linesAnswer
+record-no-clash lines room n e = go (lineAnswer lines room) e
   where
-    go : (leb (length lines) room ≡ true) ⊎ (leb (length lines) room ≡ false) → ⊥
-    go (inl f) =
-        let g : job-answer.Written (length lines) ≡ job-answer.Disagree n = rw f at e in
-        let z : _≡_ {A = ℕ} 0 1 = cc in
-        omega arith
-    go (inr f) =
-        let g : job-answer.Refused (record { reason = TooShortReason; body = O; place = 0 }) ≡ job-answer.Disagree n = rw f at e in
-        let z : _≡_ {A = ℕ} 0 1 = cc in
-        omega arith
+    go : (l : LineAnswer) → linesAnswer l ≡ job-answer.Disagree n → ⊥
+    go (Written m) h = let z : _≡_ {A = ℕ} 0 1 = cc in omega arith
+    go (TooShort q) h = let z : _≡_ {A = ℕ} 0 1 = cc in omega arith

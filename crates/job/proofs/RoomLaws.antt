@@ -32,25 +32,25 @@ use Rattle.agreement.specs.Places.{keptText}
 use Rattle.agreement.proofs.RestrictText.{restrict-valid}
 use Rattle.mast.specs.Largest.{Solution, solved, clashed, turned, fitted, solutionOf, solveList, solveSecond, solveFirst, solve}
 use Rattle.job.specs.declared.JobAnswer.the-variants as job-answer
-use Rattle.job.specs.Contents.{Bodies, bodiesOf}
-use Rattle.job.specs.Printed.{treeRoom, solveBodies, solveJob, recordLines, printedOf, printed}
-use Rattle.job.specs.Answered.{recordAnswer, answered}
+use Rattle.contents.specs.Contents.{Bodies, bodiesOf, layoutOf, listPlace}
+use Rattle.job.specs.Printed.{jobLimit, treeRoom, solveBodies, solveJob, recordLines, printedOf, printed}
+use Rattle.job.specs.Answered.{outputShort, lineAnswer, linesAnswer, recordAnswer, answered, answerTo}
 use Rattle.job.proofs.RecordLaws.{record-refused}
 
 -- ---- the text of a restriction
 
-pub kept-short : (X : Label → Bool) (s : Tree) → Valid s → length (keptText (restrict X s)) ≤ 1518
+pub kept-short : (X : Label → Bool) (s : Tree) → Valid s → length (keptText (restrict X s)) ≤ treeRoom
 unfolding keptText normalText
 kept-short X s v = go (restrict X s) refl
   where
-    go : (o : Option Tree) → restrict X s ≡ o → length (keptText o) ≤ 1518
+    go : (o : Option Tree) → restrict X s ≡ o → length (keptText o) ≤ treeRoom
     go none e = omega arith
     go (some r) e = text-short (normal r) (normal-valid r (restrict-valid X s r v e))
 
 pub text-fits : (s : Tree) (X : List Label) → Valid s
     → fitted s X (keptText (restrict (setOf X) s)) treeRoom ≡ solved s X (keptText (restrict (setOf X) s))
 unfolding fitted
-text-fits s X v = rw (le-leb (length (keptText (restrict (setOf X) s))) 1518 (kept-short (setOf X) s v)) refl
+text-fits s X v = rw (le-leb (length (keptText (restrict (setOf X) s))) treeRoom (kept-short (setOf X) s v)) refl
 
 -- ---- the other refusals
 
@@ -96,7 +96,7 @@ module _ (first second list : List ℕ) where
 
 job-never-nine : (job : List ℕ) → NotNine (solveJob job)
 unfolding solveJob solveBodies numberOf
-job-never-nine job = go (leb (length job) 8192) (bodiesOf job)
+job-never-nine job = go (leb (length job) jobLimit) (bodiesOf job)
   where
     go : (b : Bool) (o : Option Bodies) → NotNine (cond b (solveBodies o) (turned (record { reason = JobTooLong; body = J; place = 0 })))
     go true none = λ h. omega arith
@@ -107,12 +107,12 @@ pub job-fits : (job : List ℕ) (q : Refusal) → solveJob job ≡ turned q → 
 job-fits job q e = subst NotNine e (job-never-nine job)
 
 -- number 9 for a job: the output is shorter than the printed lines
-pub nine-output : (job : List ℕ) (room : ℕ) (q : Refusal) → answered (length job) room (solveJob job) ≡ job-answer.Refused q
+pub nine-output : (job : List ℕ) (room : ℕ) (q : Refusal) → answerTo job room ≡ job-answer.Refused q
     → numberOf (q .reason) ≡ 9 → room < length (printed job)
-unfolding answered printed printedOf
+unfolding answerTo answered printed printedOf
 nine-output job room q e n = go (solveJob job) (job-never-nine job) e
   where
-    go : (x : Solution) → NotNine x → answered (length job) room x ≡ job-answer.Refused q → room < length (printedOf x)
+    go : (x : Solution) → NotNine x → answered (listPlace (layoutOf job)) room x ≡ job-answer.Refused q → room < length (printedOf x)
     go (solved s X text) k h = record-refused (recordLines X text) room q h .2
     go (clashed xs a b c) k h =
         let z : _≡_ {A = ℕ} 0 1 = cc in
@@ -124,8 +124,8 @@ nine-output job room q e n = go (solveJob job) (job-never-nine job) e
 -- and a set whose lines are longer than the output gets number 9
 pub short-output : (job : List ℕ) (room : ℕ) (s : Tree) (X : List Label) (text : List ℕ) → solveJob job ≡ solved s X text
     → room < length (printed job)
-    → answered (length job) room (solveJob job) ≡ job-answer.Refused (record { reason = TooShort; body = O; place = 0 })
-unfolding answered recordAnswer printed printedOf
+    → answerTo job room ≡ job-answer.Refused outputShort
+unfolding answerTo answered recordAnswer lineAnswer linesAnswer printed printedOf
 short-output job room s X text e h =
     let k : room < length (recordLines X text) = subst (λ (x : Solution). room < length (printedOf x)) e h in
     rw (e, lt-leb (length (recordLines X text)) room k) refl

@@ -9,8 +9,8 @@ use lib.ListN.{length}
 use borrow.Author.Tests.{leb-true}
 use Rattle.trees.specs.declared.Reason.the-variants.{TooShort}
 use Rattle.trees.specs.declared.Body.the-variants.{O}
-use Rattle.trees.specs.Label.{Label, isIn, goodLabel}
-use Rattle.trees.specs.Tree.{Tree, leaves, Valid}
+use Rattle.trees.specs.Label.{Label, labelLimit, isIn, goodLabel}
+use Rattle.trees.specs.Tree.{Tree, leafLimit, leaves, Valid}
 use Rattle.trees.specs.Reading.{Reading, good, refused}
 use Rattle.newick.specs.ReadTree.{readTree}
 use Rattle.newick.proofs.Promises.{accepted-text}
@@ -25,7 +25,9 @@ use Rattle.agreement.specs.Demand.{IsAnswer}
 use Rattle.agreement.proofs.Promises.{set-promise, answer-promise}
 use Rattle.agreement.proofs.SetLaws.{within-few}
 use Rattle.mast.specs.Largest.{Solution, solved, clashed, turned, fitted, solutionOf, solveList, solveSecond, solveFirst, solve}
-use Rattle.job.proofs.ShownLaws.{Shown, tree-shown, Listed, list-listed, good-in, good-short}
+use Rattle.trees.specs.Words.{Within}
+use Rattle.mast.proofs.ShownLaws.{tree-shown, Listed, list-listed}
+use Rattle.job.proofs.ShownLaws.{good-in, good-short}
 
 pub record SolvedBy (first list : List ℕ) (room : ℕ) (s : Tree) (X : List Label) (text : List ℕ) : Type 0 where
   pub other : Tree
@@ -83,7 +85,7 @@ module _ (first list : List ℕ) (room : ℕ) (s : Tree) (X : List Label) (text 
   in-tree : (x : Label) → isIn x X ≡ true → holds s x ≡ true
   in-tree x h = set-answer .allowedSet .commonLeaves x h .0
 
-  pub set-few : length X ≤ 80
+  pub set-few : length X ≤ leafLimit
   unfolding holds
   set-few =
       omega (
@@ -92,11 +94,11 @@ module _ (first list : List ℕ) (room : ℕ) (s : Tree) (X : List Label) (text 
         set-valid .few,
       )
 
-  pub set-shown : (x : Label) → isIn x X ≡ true → Shown first (placeIn s 0 x) x × (length x ≤ 16)
+  pub set-shown : (x : Label) → isIn x X ≡ true → Within first (placeIn s 0 x) x × (length x ≤ labelLimit)
   unfolding holds
   set-shown x h =
       let e = accepted-text first s (b .read) .0 in (
-        subst (λ (t : List ℕ). Shown t (placeIn s 0 x) x) (sym e) (tree-shown s x (in-tree x h)),
+        subst (λ (t : List ℕ). Within t (placeIn s 0 x) x) (sym e) (tree-shown s x (in-tree x h)),
         good-short x (good-in (leaves s) x (set-valid .labels) (in-tree x h)),
       )
 

@@ -1,22 +1,23 @@
 -- What the functions over jobs answer, and what the lent output then holds: all of it is told by what a job comes to (`solveJob`)
 -- and by its printed lines (`printedOf`). Scope paper, "Job and printed result" and "Why a job is turned down".
-use Prim.Native.Nat.{ℕ, _+_, _-_, min}
+use Prim.Native.Nat.{ℕ, _+_, min}
 use mathlib.Core.Bool.{Bool, cond}
 use mathlib.Core.List.{List, [], _++_}
 use lib.Dec.{leb}
 use lib.ListN.{length, drop}
 use Rattle.trees.specs.declared.Reason.the-variants.{TooShort as TooShortReason}
 use Rattle.trees.specs.declared.Body.the-variants.{O}
+use Rattle.trees.specs.declared.Refusal.{Refusal}
 use Rattle.trees.specs.Label.{Label, labelLimit}
 use Rattle.trees.specs.Stored.{partOf}
-use Rattle.lists.specs.ReadList.{joined}
+use Rattle.contents.specs.Contents.{layoutOf, listPlace}
 use Rattle.agreement.specs.Places.{placeOfLabel}
 use Rattle.mast.specs.Largest.{Solution, solved, clashed, turned}
 use Rattle.job.specs.declared.JobAnswer.{JobAnswer}
 use Rattle.job.specs.declared.JobAnswer.the-variants as job-answer
 use Rattle.job.specs.declared.Named.{Named}
 use Rattle.job.specs.declared.Part.{Part}
-use Rattle.job.specs.Printed.{printedOf, recordLines}
+use Rattle.job.specs.Printed.{printedOf, recordLines, solveJob}
 use Rattle.job.specs.declared.LineAnswer.{LineAnswer}
 use Rattle.job.specs.declared.LineAnswer.the-variants.{Written, TooShort}
 
@@ -24,9 +25,13 @@ use Rattle.job.specs.declared.LineAnswer.the-variants.{Written, TooShort
 abbrev pub fits : List ℕ → ℕ → Bool
 fits text room = leb (length text) room
 
+-- number 9, "O 0"
+abbrev pub outputShort : Refusal
+outputShort = record { reason = TooShortReason; body = O; place = 0 }
+
 -- a text for an output of `room` bytes
 unfoldable pub lineAnswer : List ℕ → ℕ → LineAnswer
-lineAnswer text room = cond (fits text room) (Written (length text)) TooShort
+lineAnswer text room = cond (fits text room) (Written (length text)) (TooShort outputShort)
 
 -- the output holds the text, further bytes unchanged; where it is too short it keeps every byte
 unfoldable pub lineOutput : List ℕ → List ℕ → List ℕ
@@ -44,24 +49,32 @@ namedLine job n =
     (clashed [] (labelIn job (n .first .start) (n .first .size)) (labelIn job (n .second .start) (n .second .size))
     (labelIn job (n .third .start) (n .third .size)))
 
+unfoldable pub linesAnswer : LineAnswer → JobAnswer
+linesAnswer (Written n) = job-answer.Written n
+linesAnswer (TooShort q) = job-answer.Refused q
+
 -- the three lines for an output of `room` bytes: how many bytes they have, or number 9
 unfoldable pub recordAnswer : List ℕ → ℕ → JobAnswer
-recordAnswer lines room =
-    cond (fits lines room) (job-answer.Written (length lines))
-    (job-answer.Refused (record { reason = TooShortReason; body = O; place = 0 }))
+unfolding linesAnswer lineAnswer
+recordAnswer lines room = linesAnswer (lineAnswer lines room)
 
--- a label of the list, which stands at the end of the job
+-- a label of the list, which begins at `base` in the job
 unfoldable pub partOfLabel : ℕ → List Label → Label → Part
-unfolding placeOfLabel joined
-partOfLabel bytes xs x = record { start = bytes - length (joined xs) + placeOfLabel xs 0 x; size = length x }
+unfolding placeOfLabel
+partOfLabel base xs x = record { start = base + placeOfLabel xs 0 x; size = length x }
 
--- the answer to a job of this many bytes, for an output of `room` bytes
+-- the answer to a job whose list begins at `base`, for an output of `room` bytes
 unfoldable pub answered : ℕ → ℕ → Solution → JobAnswer
 unfolding recordAnswer partOfLabel recordLines
-answered bytes room (solved s X text) = recordAnswer (recordLines X text) room
-answered bytes room (clashed xs a b c) =
-    job-answer.Disagree (record { first = partOfLabel bytes xs a; second = partOfLabel bytes xs b; third = partOfLabel bytes xs c })
-answered bytes room (turned q) = job-answer.Refused q
+answered base room (solved s X text) = recordAnswer (recordLines X text) room
+answered base room (clashed xs a b c) =
+    job-answer.Disagree (record { first = partOfLabel base xs a; second = partOfLabel base xs b; third = partOfLabel base xs c })
+answered base room (turned q) = job-answer.Refused q
+
+-- the answer to a job, for an output of `room` bytes
+unfoldable pub answerTo : List ℕ → ℕ → JobAnswer
+unfolding answered solveJob listPlace layoutOf
+answerTo job room = answered (listPlace (layoutOf job)) room (solveJob job)
 
 -- what the output then holds: the three lines, further bytes unchanged; "On refusal .. an output keeps every byte."
 unfoldable pub jobOutput : Solution → List ℕ → List ℕ

@@ -1,6 +1,5 @@
 pub mod Answered
 pub mod Areas
-pub mod Contents
-pub mod Decimal
+pub mod Outcome
 pub mod Printed
-pub mod Steps
+pub mod Rows

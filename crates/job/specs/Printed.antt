@@ -1,5 +1,5 @@
 -- What is printed for a job. Scope paper, "Job and printed result" and "Why a job is turned down".
-use Prim.Native.Nat.{ℕ}
+use Prim.Native.Nat.{ℕ, _+_, _-_, _*_}
 use mathlib.Core.Bool.{cond}
 use mathlib.Core.List.{List, [], _∷_, _++_}
 use mathlib.Core.Option.{Option, some, none}
@@ -9,15 +9,21 @@ use Rattle.trees.specs.declared.Reason.the-variants.{Disagree, Contents, JobToo
 use Rattle.trees.specs.declared.Body.the-variants.{K, J}
 use Rattle.trees.specs.declared.Refusal.{Refusal}
 use Rattle.trees.specs.Refusals.{numberOf, letterOf}
-use Rattle.trees.specs.Label.{Label}
+use Rattle.trees.specs.Label.{Label, labelLimit}
+use Rattle.trees.specs.Tree.{leafLimit}
+use Rattle.trees.specs.Words.{bytesOf}
 use Rattle.lists.specs.ReadList.{joined}
+use Rattle.contents.specs.Decimal.{decimalOf}
+use Rattle.contents.specs.Contents.{Bodies, bodiesOf, line}
 use Rattle.mast.specs.Largest.{Solution, solved, clashed, turned, solve}
-use Rattle.job.specs.Decimal.{decimalOf}
-use Rattle.job.specs.Contents.{Bodies, bodiesOf, jobLimit}
 
--- the longest text that a tree can have; the library's own area for it
+-- "A job has at most 8,192 bytes"
+abbrev pub jobLimit : ℕ
+jobLimit = 8192
+
+-- the longest text that a tree can have, its labels, `(` `,` `)` of each inner node and `;`; the library's own area for it
 abbrev pub treeRoom : ℕ
-treeRoom = 1518
+treeRoom = leafLimit * labelLimit + 3 * (leafLimit - 1) + 1
 
 unfoldable pub solveBodies : Option Bodies → Solution
 unfolding solve
@@ -32,25 +38,23 @@ solveJob job =
 
 -- "A refusal is one line, `refused`, number, body letter, place"
 unfoldable pub refusedWords : Refusal → List ℕ
-unfolding numberOf letterOf decimalOf
+unfolding bytesOf numberOf letterOf decimalOf
 refusedWords q =
-    114 ∷ 101 ∷ 102 ∷ 117 ∷ 115 ∷ 101 ∷ 100 ∷ 32
-    ∷ (decimalOf (numberOf (q .reason)) ++ (32 ∷ letterOf (q .body) ∷ 32 ∷ decimalOf (q .place)))
+    bytesOf "refused " ++ (decimalOf (numberOf (q .reason)) ++ (32 ∷ letterOf (q .body) ∷ 32 ∷ decimalOf (q .place)))
 
 -- "They are the count of leaves, the set in label order, and the normal text of the common restriction."
 unfoldable pub recordLines : List Label → List ℕ → List ℕ
-unfolding decimalOf joined
+unfolding bytesOf decimalOf joined line
 recordLines X text =
-    (115 ∷ 105 ∷ 122 ∷ 101 ∷ 32 ∷ (decimalOf (length X) ++ (10 ∷ [])))
-    ++ ((115 ∷ 101 ∷ 116 ∷ 32 ∷ (joined X ++ (10 ∷ []))) ++ (116 ∷ 114 ∷ 101 ∷ 101 ∷ 32 ∷ (text ++ (10 ∷ []))))
+    line (bytesOf "size " ++ decimalOf (length X)) ++ (line (bytesOf "set " ++ joined X) ++ line (bytesOf "tree " ++ text))
 
 -- "Number 8 adds a space and its three labels joined by commas."
 unfoldable pub printedOf : Solution → List ℕ
-unfolding refusedWords recordLines joined
+unfolding refusedWords recordLines joined line
 printedOf (solved s X text) = recordLines X text
 printedOf (clashed xs a b c) =
-    refusedWords (record { reason = Disagree; body = K; place = 0 }) ++ (32 ∷ (joined (a ∷ b ∷ c ∷ []) ++ (10 ∷ [])))
-printedOf (turned q) = refusedWords q ++ (10 ∷ [])
+    line (refusedWords (record { reason = Disagree; body = K; place = 0 }) ++ (32 ∷ joined (a ∷ b ∷ c ∷ [])))
+printedOf (turned q) = line (refusedWords q)
 
 unfoldable pub printed : List ℕ → List ℕ
 unfolding printedOf solveJob

@@ -2,7 +2,7 @@
 ghost use mathlib.Core.Path.{_≡_};
 ghost use Prim.Native.Nat.{_+_, _%_, _≤_};
 ghost use lib.ListN.{length};
-ghost use Rattle.job.specs.Decimal.{decimalFrom};
+ghost use Rattle.contents.specs.Decimal.{decimalFrom};
 ghost use Rattle.job.specs.Areas.{Put};
 
 // The byte of the last digit of d.

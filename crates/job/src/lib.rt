@@ -13,18 +13,31 @@ ghost use Prim.Native.Nat.{_+_, _≤_};
 ghost use lib.ListN.{drop};
 ghost use Rattle.mast.specs.Largest.{turned, solve};
 ghost use Rattle.job.specs.declared.JobAnswer as JobAnswer;
-ghost use Rattle.job.specs.Printed.{printedOf, printed, recordLines, solveJob, treeRoom};
+ghost use Rattle.trees.specs.declared.Body.the-variants.{J};
+ghost use Rattle.trees.specs.Tree.{leafLimit};
+ghost use Rattle.job.specs.Printed.{printedOf, printed, recordLines, solveJob, treeRoom, jobLimit};
 ghost use Rattle.job.specs.Areas.{labelsIn, untilComma};
-ghost use Rattle.job.specs.Answered.{lineAnswer, lineOutput, namedLine, answered, jobOutput, recordAnswer};
+ghost use Rattle.job.specs.Answered.{lineAnswer, lineOutput, namedLine, answered, answerTo, jobOutput, recordAnswer};
 
-mod contents;
 mod decimal;
 mod lines;
 
-// How many bytes a line has that now stands in the output, or that the output is too short for it.
+// "A job has at most 8,192 bytes"
+const JOB_LIMIT: usize = 8192;
+
+// The longest text that a tree can have: 80 labels of 16 bytes, 79 inner nodes of 3 bytes, and `;`.
+const TREE_ROOM: usize = 80 * 16 + 3 * 79 + 1;
+
+// A refusal's line: words with two numbers of 20 digits, three labels of 16 bytes with their commas, a blank and a line end.
+const LINE_ROOM: usize = 11 + 2 * 20 + 2 + 3 * 17;
+
+// The three lines: their words, a number of 20 digits, 80 labels with their commas, and the tree's text.
+const RECORD_ROOM: usize = 17 + 20 + 80 * 17 + TREE_ROOM;
+
+// How many bytes the lines have that now stand in the output, or number 9 where it is too short for them.
 pub enum LineAnswer {
     Written(usize),
-    TooShort,
+    TooShort(Refusal),
 }
 
 // A part of the job: where it starts, and its size.
@@ -53,7 +66,7 @@ pub fn refusal_line(refusal: Refusal, out: &mut [u8]) -> LineAnswer
     ensures answer { λ r. ⌜ r ≡ lineAnswer (printedOf (turned refusal)) (length (now (out .entry))) ⌝ }
     ensures output { λ _. ⌜ now (out .exit) ≡ lineOutput (printedOf (turned refusal)) (now (out .entry)) ⌝ }
 {
-    let mut line = [0u8; 128];
+    let mut line = [0u8; LINE_ROOM];
     let n = lines::put_refusal_line(refusal, &mut line);
     lines::hand_over(&line[..n], out)
 }
@@ -63,26 +76,26 @@ pub fn disagreement_line(job: &[u8], named: Named, out: &mut [u8]) -> LineAnswer
     ensures answer { λ r. ⌜ r ≡ lineAnswer (namedLine (now (job .entry)) named) (length (now (out .entry))) ⌝ }
     ensures output { λ _. ⌜ now (out .exit) ≡ lineOutput (namedLine (now (job .entry)) named) (now (out .entry)) ⌝ }
 {
-    let mut line = [0u8; 128];
+    let mut line = [0u8; LINE_ROOM];
     let n = lines::put_disagreement(job, named, &mut line);
     lines::hand_over(&line[..n], out)
 }
 
-// The refusals that the job itself gives: its place is J 0, or O 0 of the output.
-fn refused(reason: Reason, body: Body) -> JobAnswer
-    ensures { λ r. ⌜ r ≡ JobAnswer.Refused (record { reason = reason; body = body; place = 0 }) ⌝ }
+// The refusals that the job itself gives: their place is J 0.
+fn refused(reason: Reason) -> JobAnswer
+    ensures { λ r. ⌜ r ≡ JobAnswer.Refused (record { reason = reason; body = J; place = 0 }) ⌝ }
 {
     JobAnswer::Refused(Refusal {
         reason,
-        body,
+        body: Body::J,
         place: 0,
     })
 }
 
 // The three lines of a set into `out`.
 fn answer_set(first: &[u8], set: LabelPlaces, tree: &[u8], out: &mut [u8]) -> JobAnswer
-    requires { ⌜ set .count ≤ 80 ⌝ }
-    requires { ⌜ length (now tree) ≤ 1518 ⌝ }
+    requires { ⌜ set .count ≤ leafLimit ⌝ }
+    requires { ⌜ length (now tree) ≤ treeRoom ⌝ }
     ensures answer { λ r.
         ⌜ r ≡ recordAnswer
         (recordLines (labelsIn (now (first .entry)) (set .start) (set .size) (set .count)) (now (tree .entry)))
@@ -92,14 +105,14 @@ fn answer_set(first: &[u8], set: LabelPlaces, tree: &[u8], out: &mut [u8]) -> Jo
         (recordLines (labelsIn (now (first .entry)) (set .start) (set .size) (set .count)) (now (tree .entry)))
         (now (out .entry)) ⌝ }
 {
-    let mut area = [0u8; 3072];
+    let mut area = [0u8; RECORD_ROOM];
     let start = set.start;
     let size = set.size;
     let n = lines::put_record(first, &start, &size, set.count, tree, &mut area);
     let given = lines::hand_over(&area[..n], out);
     match given {
         LineAnswer::Written(k) => JobAnswer::Written(k),
-        LineAnswer::TooShort => refused(Reason::TooShort, Body::O),
+        LineAnswer::TooShort(refusal) => JobAnswer::Refused(refusal),
     }
 }
 
@@ -119,7 +132,7 @@ fn label_size(list: &[u8], at: usize) -> usize
 
 // A label of the list, which begins at `base` in the job, as a part of the job.
 fn part_at(list: &[u8], base: usize, at: usize) -> Part
-    requires { ⌜ base + at ≤ 16384 ⌝ }
+    requires { ⌜ base + at ≤ jobLimit ⌝ }
     ensures { λ r. ⌜ r ≡ record { start = base + at; size = length (untilComma (drop at (now (list .entry)))) } ⌝ }
 {
     let size = label_size(list, at);
@@ -129,18 +142,18 @@ fn part_at(list: &[u8], base: usize, at: usize) -> Part
     }
 }
 
-// The answer to three bodies, of which the list begins at `base` in the job and ends it.
+// The answer to three bodies, of which the list begins at `base` in the job.
 fn answer_bodies(first: &[u8], second: &[u8], list: &[u8], base: usize, out: &mut [u8]) -> JobAnswer
-    requires { ⌜ base + length (now list) ≤ 8192 ⌝ }
+    requires { ⌜ base + length (now list) ≤ jobLimit ⌝ }
     ensures answer { λ r.
-        ⌜ r ≡ answered (base + length (now (list .entry))) (length (now (out .entry)))
+        ⌜ r ≡ answered base (length (now (out .entry)))
         (solve (now (first .entry)) (now (second .entry)) (now (list .entry)) treeRoom) ⌝ }
     ensures output { λ _.
         ⌜ now (out .exit) ≡ jobOutput
         (solve (now (first .entry)) (now (second .entry)) (now (list .entry)) treeRoom)
         (now (out .entry)) ⌝ }
 {
-    let mut tree = [0u8; 1518];
+    let mut tree = [0u8; TREE_ROOM];
     let result = mast::largest(first, second, list, &mut tree);
     let answer = result.answer;
     match answer {
@@ -159,23 +172,23 @@ fn answer_bodies(first: &[u8], second: &[u8], list: &[u8], base: usize, out: &mu
 
 // The answer to a job: its three lines in `out`, or why there is none; `out` then keeps every byte.
 pub fn answer_job(job: &[u8], out: &mut [u8]) -> JobAnswer
-    ensures answer { λ r.
-        ⌜ r ≡ answered (length (now (job .entry))) (length (now (out .entry))) (solveJob (now (job .entry))) ⌝ }
+    ensures answer { λ r. ⌜ r ≡ answerTo (now (job .entry)) (length (now (out .entry))) ⌝ }
     ensures output { λ _. ⌜ now (out .exit) ≡ jobOutput (solveJob (now (job .entry))) (now (out .entry)) ⌝ }
 {
-    if 8192 < job.len() {
-        return refused(Reason::JobTooLong, Body::J);
+    if JOB_LIMIT < job.len() {
+        return refused(Reason::JobTooLong);
     }
     let layout = contents::contents(job);
-    let Layout::Bodies(at, s, t) = layout else {
-        return refused(Reason::Contents, Body::J);
+    let Layout::Bodies(at, table) = layout else {
+        return refused(Reason::Contents);
     };
-    let second_at = at + s;
-    let list_at = second_at + t;
+    let second_at = at + table.first;
+    let list_at = second_at + table.second;
+    let end = list_at + table.required;
     answer_bodies(
         &job[at..second_at],
         &job[second_at..list_at],
-        &job[list_at..],
+        &job[list_at..end],
         list_at,
         out,
     )
@@ -193,7 +206,7 @@ pub fn print_job(job: &[u8], out: &mut [u8]) -> LineAnswer
         JobAnswer::Refused(refusal) => {
             let reason = refusal.reason;
             if trees::number(reason) == 9 {
-                return LineAnswer::TooShort;
+                return LineAnswer::TooShort(refusal);
             }
             refusal_line(refusal, out)
         }

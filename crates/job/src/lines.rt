@@ -9,12 +9,19 @@ ghost use mathlib.Core.Path.{_≡_};
 ghost use mathlib.Core.List.{[], _∷_};
 ghost use Prim.Native.Nat.{_+_, _*_, _≤_};
 ghost use lib.ListN.{length};
-ghost use Rattle.job.specs.Decimal.{decimalOf};
+ghost use Rattle.contents.specs.Decimal.{decimalOf, digitRoom};
+ghost use Rattle.trees.specs.Tree.{leafLimit};
 ghost use Rattle.lists.specs.ReadList.{joined};
 ghost use Rattle.mast.specs.Largest.{turned};
-ghost use Rattle.job.specs.Printed.{refusedWords, recordLines, printedOf};
+ghost use Rattle.job.specs.Printed.{refusedWords, recordLines, printedOf, treeRoom};
 ghost use Rattle.job.specs.Answered.{lineAnswer, lineOutput, labelIn, namedLine};
-ghost use Rattle.job.specs.Areas.{Put, item, labelsIn};
+ghost use Rattle.job.specs.Areas.{Put, item, labelsIn, itemRoom, wordsRoom, lineRoom, recordRoom};
+
+// The bytes that a label may have.
+const LABEL_LIMIT: usize = 16;
+
+// The digits that a number may have.
+const DIGIT_ROOM: usize = 20;
 
 // Puts one byte at `at`, and says where the next goes.
 pub(crate) fn put_byte(b: u8, area: &mut [u8], at: usize) -> usize
@@ -40,20 +47,20 @@ pub(crate) fn put_bytes(x: &[u8], area: &mut [u8], at: usize) -> usize
 
 // Puts the decimal digits of n from `at` on.
 pub(crate) fn put_number(n: usize, area: &mut [u8], at: usize) -> usize
-    requires { ⌜ at + 20 ≤ length (now area) ⌝ }
+    requires { ⌜ at + digitRoom ≤ length (now area) ⌝ }
     ensures { λ r. ⌜ Put (now (area .entry)) at (decimalOf n) r (now (area .exit)) ⌝ }
 {
-    put_digits(20, n, area, at)
+    put_digits(DIGIT_ROOM, n, area, at)
 }
 
 // The label of `size` bytes at a place of a text, cut after 16 bytes; nothing where it runs past the end.
 pub(crate) fn label_in<'a>(text: &'a [u8], start: usize, size: usize) -> &'a [u8]
     ensures { λ r. ⌜ now r ≡ labelIn (now (text .entry)) start size ⌝ }
 {
-    if size < 16 {
+    if size < LABEL_LIMIT {
         return trees::part(text, start, size);
     }
-    trees::part(text, start, 16)
+    trees::part(text, start, LABEL_LIMIT)
 }
 
 // Puts a label, after a comma where it is not the first.
@@ -77,12 +84,12 @@ pub(crate) fn put_labels(
     area: &mut [u8],
     at: usize,
 ) -> usize
-    requires { ⌜ count ≤ 80 ⌝ }
-    requires { ⌜ at + 17 * count ≤ length (now area) ⌝ }
+    requires { ⌜ count ≤ leafLimit ⌝ }
+    requires { ⌜ at + itemRoom * count ≤ length (now area) ⌝ }
     ensures { λ r.
         ⌜ Put (now (area .entry)) at
         (joined (labelsIn (now (text .entry)) (now (start .entry)) (now (size .entry)) count)) r (now (area .exit)) ⌝ }
-    ensures { λ r. ⌜ r ≤ at + 17 * count ⌝ }
+    ensures { λ r. ⌜ r ≤ at + itemRoom * count ⌝ }
 {
     let mut next = at;
     let mut i: usize = 0;
@@ -101,7 +108,11 @@ pub(crate) fn hand_over(text: &[u8], out: &mut [u8]) -> LineAnswer
 {
     let n = text.len();
     if out.len() < n {
-        return LineAnswer::TooShort;
+        return LineAnswer::TooShort(Refusal {
+            reason: Reason::TooShort,
+            body: Body::O,
+            place: 0,
+        });
     }
     let end = put_bytes(text, out, 0);
     LineAnswer::Written(end)
@@ -109,7 +120,7 @@ pub(crate) fn hand_over(text: &[u8], out: &mut [u8]) -> LineAnswer
 
 // The words of a refusal: `refused`, number, body letter, place.
 pub(crate) fn put_refusal(refusal: Refusal, area: &mut [u8]) -> usize
-    requires { ⌜ 64 ≤ length (now area) ⌝ }
+    requires { ⌜ wordsRoom ≤ length (now area) ⌝ }
     ensures { λ r. ⌜ Put (now (area .entry)) 0 (refusedWords refusal) r (now (area .exit)) ⌝ }
 {
     let reason = refusal.reason;
@@ -131,7 +142,7 @@ fn wide(b: u8) -> usize
 
 // The line of a refusal.
 pub(crate) fn put_refusal_line(refusal: Refusal, area: &mut [u8]) -> usize
-    requires { ⌜ 65 ≤ length (now area) ⌝ }
+    requires { ⌜ wordsRoom + 1 ≤ length (now area) ⌝ }
     ensures { λ r. ⌜ Put (now (area .entry)) 0 (printedOf (turned refusal)) r (now (area .exit)) ⌝ }
 {
     let end = put_refusal(refusal, area);
@@ -140,7 +151,7 @@ pub(crate) fn put_refusal_line(refusal: Refusal, area: &mut [u8]) -> usize
 
 // The line of number 8, with its three labels.
 pub(crate) fn put_disagreement(job: &[u8], named: Named, area: &mut [u8]) -> usize
-    requires { ⌜ 128 ≤ length (now area) ⌝ }
+    requires { ⌜ lineRoom ≤ length (now area) ⌝ }
     ensures { λ r.
         ⌜ Put (now (area .entry)) 0 (namedLine (now (job .entry)) named)
         r (now (area .exit)) ⌝ }
@@ -173,9 +184,9 @@ pub(crate) fn put_record(
     tree: &[u8],
     area: &mut [u8],
 ) -> usize
-    requires { ⌜ count ≤ 80 ⌝ }
-    requires { ⌜ length (now tree) ≤ 1518 ⌝ }
-    requires { ⌜ 3072 ≤ length (now area) ⌝ }
+    requires { ⌜ count ≤ leafLimit ⌝ }
+    requires { ⌜ length (now tree) ≤ treeRoom ⌝ }
+    requires { ⌜ recordRoom ≤ length (now area) ⌝ }
     ensures { λ r.
         ⌜ Put (now (area .entry)) 0
         (recordLines (labelsIn (now (first .entry)) (now (start .entry)) (now (size .entry)) count) (now (tree .entry)))

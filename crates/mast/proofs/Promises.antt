@@ -3,27 +3,32 @@
 use Prim.Native.Nat.{ℕ, _<_}
 use mathlib.Core.Path.{_≡_, refl}
 use mathlib.Core.Logic.{_↔_}
-use mathlib.Core.List.{List, _++_}
-use lib.ListN.{length, drop}
+use mathlib.Core.Bool.{true}
+use mathlib.Core.List.{List, [], _++_}
+use lib.ListN.{length, getD, drop}
 use Rattle.trees.specs.declared.Body.the-variants.{K, S, T}
 use Rattle.trees.specs.declared.Refusal.{Refusal}
-use Rattle.trees.specs.Label.{Label}
+use Rattle.trees.specs.Label.{Label, isIn}
 use Rattle.trees.specs.Tree.{Tree}
 use Rattle.agreement.specs.Sets.{setOf}
 use Rattle.agreement.specs.Restrict.{restrict}
-use Rattle.agreement.specs.Places.{keptText}
+use Rattle.agreement.specs.Places.{placeIn, placeOfNumber, placeOfLabel, keptText}
 use Rattle.agreement.specs.Answer.{Answer, answer}
-use Rattle.mast.specs.Largest.{solved, clashed, turned, solutionOf, solve, outputOf, largestOf, setPlaces}
+use Rattle.mast.specs.Largest.{Solution, solved, clashed, turned, solutionOf, solve, outputOf, largestOf, setPlaces}
 use Rattle.trees.specs.declared.Reason.{Reason}
 use Rattle.trees.specs.Reading.{good, refused}
 use Rattle.newick.specs.ReadTree.{readTree}
-use Rattle.lists.specs.ReadList.{readList}
-use Rattle.agreement.specs.Closer.{Common}
+use Rattle.lists.specs.ReadList.{readList, joined}
+use Rattle.agreement.specs.Closer.{holds, Common}
 use Rattle.agreement.specs.Demand.{IsAnswer, Clash}
 use Rattle.agreement.specs.Outcome.{Outcome}
 use Rattle.mast.specs.Given.{Reads, SetGiven}
 use Rattle.mast.proofs.OutcomeLaws.{tooShort, outcome-decides, eight-exactly, set-exactly, nine-exactly}
 use Rattle.mast.specs.declared.LargestAnswer.the-variants.{Found}
+use Rattle.mast.specs.Rows.{saidOfLargest, saidOfSolution}
+use Rattle.trees.specs.Text.{textOf}
+use Rattle.trees.specs.Words.{Within}
+use Rattle.mast.proofs.ShownLaws.{tree-shown, list-shown, number-shown, said-exactly}
 
 -- "Order: .. S, T, K": "A body that fails to read ends the job there"
 module _ (first second list : List ℕ) (room : ℕ) (r : Reason) (i : ℕ) where
@@ -79,3 +84,17 @@ pub size-promise : (s : Tree) (X : List Label) (text : List ℕ)
     → (largestOf (solved s X text) .answer ≡ Found (length X) (length text)) × (largestOf (solved s X text) .set .count ≡ length X)
 unfolding largestOf setPlaces
 size-promise s X text = (refl, refl)
+
+-- "If an answer is an enum, the promises use a definition that gives this paper's number and values for each of its cases."
+pub rows-promise : (x : Solution) → saidOfLargest (largestOf x .answer) ≡ saidOfSolution x
+rows-promise = said-exactly
+
+-- the places in the set name its labels in the first tree's text, those of number 8 its labels in the list, and so do those of 6 and 7
+pub set-places-promise : (t : Tree) (x : Label) → holds t x ≡ true → Within (textOf t) (placeIn t 0 x) x
+set-places-promise = tree-shown
+
+pub eight-places-promise : (xs : List Label) (x : Label) → isIn x xs ≡ true → Within (joined xs) (placeOfLabel xs 0 x) x
+eight-places-promise = list-shown
+
+pub lacking-places-promise : (xs : List Label) (n : ℕ) → n < length xs → Within (joined xs) (placeOfNumber xs n) (getD xs n [])
+lacking-places-promise = number-shown

@@ -7,6 +7,7 @@ pub mod Given
 pub mod Largest
 pub mod Ranks
 pub mod Required
+pub mod Rows
 pub mod Solving
 pub mod Table
 pub mod Weighing

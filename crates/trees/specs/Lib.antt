@@ -8,3 +8,4 @@ pub mod Refusals
 pub mod Stored
 pub mod Text
 pub mod Tree
+pub mod Words

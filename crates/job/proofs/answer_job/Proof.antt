@@ -1,13 +1,11 @@
 -- `job::answer_job` meets its contract: 11, then 10, then the answer to the bodies. Assumes nothing.
-use Rattle.job.specs.Answered.{answered, jobOutput}
+use Rattle.job.proofs.AnswerLaws.{job-long, job-broken, laid-inside, list-base, job-solved, answered-turned, output-turned}
+use Rattle.job.specs.Answered.{answered, answerTo, jobOutput}
 use Rattle.mast.specs.Largest.{Solution}
-use mathlib.Core.Path.{ap₂}
-use Rattle.job.proofs.AnswerLaws.{job-long, job-broken, job-solved, list-end, answered-turned, output-turned}
-use Rattle.job.specs.Steps.{bodiesTold, Inside}
-use mathlib.Core.Path.{_∙_, ap, subst}
+use mathlib.Core.Path.{_∙_, sym, ap, ap₂}
 use native.Mathlib.Omega.{arith}
-use Prim.Native.Nat.{ℕ}
-use lib.ListN.{length}
+use Prim.Native.Nat.{ℕ, _+_}
+use lib.ListN.{length, drop, length-take}
 use borrow.Author.Needs.{needs}
 use Rattle.job.proofs.answer_job.Statement.{statement}
 use Rattle.job.proofs.answer_job.Tie as tie
@@ -16,6 +14,7 @@ refused-requires : tie.Need-refused-requires
 refused-requires c κs = search needs
 
 returns : tie.Need-returns
+unfolding answerTo
 returns c =
     let f = job-long (c .before .before .before .before .args .job .now) (c .before .if1 .taken) in
     (c .refused .ensures ∙ answered-turned _ _ _ _ f, output-turned _ _ _ f)
@@ -33,20 +32,25 @@ refused-requires-2 : tie.Need-refused-requires-2
 refused-requires-2 c κs = search needs
 
 returns-2 : tie.Need-returns-2
+unfolding answerTo
 returns-2 c =
-    let job = c .before .before .before .before .before .before .before .args .job .now in
-    let f = job-broken job (omega arith) (c .before .before .before .contents .ensures .0 ∙ ap (bodiesTold job) (c .before .enum-told .given .1)) in
+    let f = job-broken (c .before .before .before .before .before .before .before .args .job .now) (omega arith) (sym (c .before .enum-told .given .1) ∙ c .before .before .before .contents .ensures) in
     (c .refused2 .ensures ∙ answered-turned _ _ _ _ f, output-turned _ _ _ f)
 
 add-second-at : tie.Need-add-second-at
 add-second-at c =
-    let i = subst (Inside (c .before .before .before .before .before .before .before .args .job .now)) (c .before .layout .given .1) (c .before .before .before .contents .ensures .1) in
-    omega arith
+    let g = c .before .before .layout .given in
+    omega (arith, laid-inside (c .before .before .before .before .before .before .before .before .args .job .now) (g .0 .0) (g .0 .1 .0) (sym (g .1) ∙ c .before .before .before .before .contents .ensures))
 
 add-list-at : tie.Need-add-list-at
 add-list-at c =
-    let i = subst (Inside (c .before .before .before .before .before .before .before .args .job .now)) (c .before .layout .given .1) (c .before .before .before .contents .ensures .1) in
-    omega arith
+    let g = c .before .before .before .layout .given in
+    omega (arith, laid-inside (c .before .before .before .before .before .before .before .before .before .args .job .now) (g .0 .0) (g .0 .1 .0) (sym (g .1) ∙ c .before .before .before .before .before .contents .ensures))
+
+add-end : tie.Need-add-end
+add-end c =
+    let g = c .before .before .before .before .layout .given in
+    omega (arith, laid-inside (c .before .before .before .before .before .before .before .before .before .before .args .job .now) (g .0 .0) (g .0 .1 .0) (sym (g .1) ∙ c .before .before .before .before .before .before .contents .ensures))
 
 sub-answer-bodies : tie.Need-sub-answer-bodies
 sub-answer-bodies c = search needs
@@ -56,8 +60,8 @@ part-answer-bodies-start c = search needs
 
 part-answer-bodies-end : tie.Need-part-answer-bodies-end
 part-answer-bodies-end c =
-    let i = subst (Inside (c .before .before .before .before .before .before .before .args .job .now)) (c .before .layout .given .1) (c .before .before .before .contents .ensures .1) in
-    omega arith
+    let g = c .before .before .before .before .layout .given in
+    omega (arith, laid-inside (c .before .before .before .before .before .before .before .before .before .before .args .job .now) (g .0 .0) (g .0 .1 .0) (sym (g .1) ∙ c .before .before .before .before .before .before .contents .ensures))
 
 sub-answer-bodies-2 : tie.Need-sub-answer-bodies-2
 sub-answer-bodies-2 c = search needs
@@ -67,55 +71,41 @@ part-answer-bodies-start-2 c = search needs
 
 part-answer-bodies-end-2 : tie.Need-part-answer-bodies-end-2
 part-answer-bodies-end-2 c =
-    let s1 = c .before .before in
-    let s2 = s1 .before .before in
-    let s3 = s2 .before .before .before .before in
-    let i = subst (Inside (s3 .args .job .now)) (s1 .layout .given .1) (s2 .contents .ensures .1) in
-    omega arith
+    let g = c .before .before .before .before .before .layout .given in
+    omega (arith, laid-inside (c .before .before .before .before .before .before .before .before .before .before .before .args .job .now) (g .0 .0) (g .0 .1 .0) (sym (g .1) ∙ c .before .before .before .before .before .before .before .contents .ensures))
 
 sub-answer-bodies-3 : tie.Need-sub-answer-bodies-3
-sub-answer-bodies-3 c =
-    let s1 = c .before .before .before in
-    let s2 = s1 .before .before in
-    let s3 = s2 .before .before .before .before in
-    let i = subst (Inside (s3 .args .job .now)) (s1 .layout .given .1) (s2 .contents .ensures .1) in
-    omega arith
+sub-answer-bodies-3 c = search needs
 
 part-answer-bodies-start-3 : tie.Need-part-answer-bodies-start-3
-part-answer-bodies-start-3 c =
-    let s1 = c .before .before .before in
-    let s2 = s1 .before .before in
-    let s3 = s2 .before .before .before .before in
-    let i = subst (Inside (s3 .args .job .now)) (s1 .layout .given .1) (s2 .contents .ensures .1) in
-    omega arith
+part-answer-bodies-start-3 c = search needs
 
 part-answer-bodies-end-3 : tie.Need-part-answer-bodies-end-3
-part-answer-bodies-end-3 c = search needs
+part-answer-bodies-end-3 c =
+    let g = c .before .before .before .before .before .before .layout .given in
+    omega (arith, laid-inside (c .before .before .before .before .before .before .before .before .before .before .before .before .args .job .now) (g .0 .0) (g .0 .1 .0) (sym (g .1) ∙ c .before .before .before .before .before .before .before .before .contents .ensures))
 
 answer-bodies-requires : tie.Need-answer-bodies-requires
 answer-bodies-requires c κs =
-    let job = c .before .before .before .before .before .before .before .before .before .before .before .args .job .now in
-    let v = c .before .before .before .before .before .layout .given .0 in
-    let i = subst (Inside job) (c .before .before .before .before .before .layout .given .1) (c .before .before .before .before .before .before .before .contents .ensures .1) in
-    omega (arith, list-end job (v .0) (v .1 .0) (v .1 .1 .0) i)
+    let g = c .before .before .before .before .before .before .before .before .layout .given in
+    let t = g .0 .1 .0 in
+    let l = g .0 .0 + t .first + t .second in
+    omega (arith, laid-inside (c .before .before .before .before .before .before .before .before .before .before .before .before .before .before .args .job .now) (g .0 .0) t (sym (g .1) ∙ c .before .before .before .before .before .before .before .before .before .before .contents .ensures), length-take (t .required) (drop l (c .before .before .before .before .before .before .before .before .before .before .before .before .before .before .args .job .now)))
 
 same-length : tie.Need-same-length
 same-length c = search needs
 
 returns-3 : tie.Need-returns-3
+unfolding answerTo
 returns-3 c =
-    let s1 = c .before .before in
-    let s2 = s1 .before .before .before .before .before .before in
-    let s3 = s2 .before .before in
-    let s4 = s3 .before .before .before .before in
-    let job = s4 .args .job .now in
-    let out = s4 .args .out .now in
-    let g = s2 .layout .given in
-    let v = g .0 in
-    let i = subst (Inside job) (g .1) (s3 .contents .ensures .1) in
-    let e = job-solved job (v .0) (v .1 .0) (v .1 .1 .0) i (omega arith) (s3 .contents .ensures .0 ∙ ap (bodiesTold job) (g .1)) in (
-      s1 .answer-bodies .ensures .0 ∙ ap₂ (λ (n : ℕ) (x : Solution). answered n (length out) x) (list-end job (v .0) (v .1 .0) (v .1 .1 .0) i) e,
-      s1 .answer-bodies .ensures .1 ∙ ap (λ (x : Solution). jobOutput x out) e,
+    let g = c .before .before .before .before .before .before .before .before .before .before .before .layout .given in
+    let t = g .0 .1 .0 in
+    let job = c .before .before .before .before .before .before .before .before .before .before .before .before .before .before .before .before .before .args .job .now in
+    let out = c .before .before .before .before .before .before .before .before .before .before .before .before .before .before .before .before .before .args .out .now in
+    let l = sym (g .1) ∙ c .before .before .before .before .before .before .before .before .before .before .before .before .before .contents .ensures in
+    let e = job-solved job (g .0 .0) t l (omega arith) in (
+      c .before .before .answer-bodies .ensures .0 ∙ ap₂ (λ (n : ℕ) (x : Solution). answered n (length out) x) (list-base job (g .0 .0) t l) e,
+      c .before .before .answer-bodies .ensures .1 ∙ ap (λ (x : Solution). jobOutput x out) e,
     )
 
 pub answer-job-spec : {M : Type 1} → statement M
@@ -131,6 +121,7 @@ answer-job-spec =
     returns-2
     add-second-at
     add-list-at
+    add-end
     sub-answer-bodies
     part-answer-bodies-start
     part-answer-bodies-end

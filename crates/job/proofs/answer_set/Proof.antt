@@ -1,5 +1,7 @@
 -- `job::answer_set` meets its contract: the three lines, or number 9. Assumes nothing.
-use Rattle.job.proofs.LineLaws.{front-inside, front-length, front-answer, front-output, record-written, record-short}
+use Rattle.job.proofs.LineLaws.{front-inside, front-length, front-answer, front-output}
+use Rattle.job.proofs.RecordLaws.{record-told}
+use Rattle.job.specs.Answered.{linesAnswer}
 use mathlib.Core.Path.{_∙_, sym}
 use borrow.Author.Needs.{needs}
 use Rattle.job.proofs.answer_set.Statement.{statement}
@@ -25,31 +27,28 @@ hand-over-requires c κs = search needs
 enum-known-given : tie.Need-enum-known-given
 enum-known-given c = search needs
 
-enum-told : tie.Need-enum-told
-enum-told c = search needs
-
-refused-requires : tie.Need-refused-requires
-refused-requires c κs = search needs
+enum-known-given-2 : tie.Need-enum-known-given-2
+enum-known-given-2 c = search needs
 
 same-length : tie.Need-same-length
 same-length c = search needs
 
 returns : tie.Need-returns
+unfolding linesAnswer
 returns c =
-    let s1 = c .before .before .before .before .before in
-    let s2 = s1 .before .before .before .before in
-    let p = s2 .put-record .ensures in
-    (record-written _ _ _ (sym (c .before .given .given .1) ∙ front-answer p _ _ (s1 .hand-over .ensures .0)), front-output p _ _ (s1 .hand-over .ensures .1))
+    let p = c .before .before .before .before .before .before .before .before .before .put-record .ensures in
+    let h = c .before .before .before .before .before .hand-over .ensures in
+    (record-told _ _ (sym (c .before .given .given .1) ∙ front-answer p _ _ (h .0)), front-output p _ _ (h .1))
 
 same-length-2 : tie.Need-same-length-2
 same-length-2 c = search needs
 
 returns-2 : tie.Need-returns-2
+unfolding linesAnswer
 returns-2 c =
-    let s1 = c .before .before .before .before .before in
-    let s2 = s1 .before .before .before .before in
-    let p = s2 .put-record .ensures in
-    (c .refused .ensures ∙ record-short _ _ (sym (c .before .enum-told .given .1) ∙ front-answer p _ _ (s1 .hand-over .ensures .0)), front-output p _ _ (s1 .hand-over .ensures .1))
+    let p = c .before .before .before .before .before .before .before .before .before .put-record .ensures in
+    let h = c .before .before .before .before .before .hand-over .ensures in
+    (record-told _ _ (sym (c .before .given2 .given .1) ∙ front-answer p _ _ (h .0)), front-output p _ _ (h .1))
 
 pub answer-set-spec : {M : Type 1} → statement M
 answer-set-spec =
@@ -61,8 +60,7 @@ answer-set-spec =
     slice-aggregate-hand-over
     hand-over-requires
     enum-known-given
-    enum-told
-    refused-requires
+    enum-known-given-2
     same-length
     returns
     same-length-2

@@ -1,5 +1,5 @@
 -- `job::label_size` meets its contract. The invariant: the bytes passed and those before the next comma are all. Assumes nothing.
-use Rattle.job.proofs.ContentSteps.{until-go, until-stop, until-end}
+use Rattle.job.proofs.AreaLaws.{until-go, until-stop, until-end}
 use Rattle.job.specs.Areas.{untilComma}
 use native.Mathlib.Omega.{arith}
 use mathlib.Core.Path.{_≡_}

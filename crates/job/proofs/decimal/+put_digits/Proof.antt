@@ -6,7 +6,7 @@ use lib.ListN.{length-set}
 use borrow.Author.Needs.{needs}
 use borrow.Fn.Kinds.{In}
 use borrow.Fn.PlainCycle.{Measures, is, falls, and}
-use Rattle.job.proofs.DecimalLaws.{no-digit, one-digit, next-digit, digits-end}
+use Rattle.job.proofs.DigitLaws.{no-digit, one-digit, next-digit, digits-end}
 use Rattle.job.proofs.decimal.put_digits.Reads as put-digits
 use Rattle.job.proofs.decimal.put_digits.Kinds as put-digits-kinds
 use Rattle.job.proofs.decimal.+put_digits.Lts-put_digits as put-digits-lts

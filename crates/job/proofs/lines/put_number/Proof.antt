@@ -1,6 +1,6 @@
 -- `job::lines::put_number` meets its contract: twenty digits are enough. Assumes nothing.
 use Rattle.job.proofs.AreaLaws.{put-as}
-use Rattle.job.proofs.DecimalLaws.{twenty-digits}
+use Rattle.job.proofs.DigitLaws.{twenty-digits}
 use borrow.Author.Needs.{needs}
 use Rattle.job.proofs.lines.put_number.Statement.{statement}
 use Rattle.job.proofs.lines.put_number.Tie as tie

@@ -1,9 +1,10 @@
 -- `job::lines::put_record` meets its contract: the parts of the three lines, one after another. Assumes nothing.
 use Rattle.job.proofs.AreaLaws.{put-then, put-as, length-labels}
-use Rattle.job.proofs.DecimalLaws.{decimal-short}
+use Rattle.contents.proofs.DecimalLaws.{decimal-short}
 use Rattle.job.proofs.LineLaws.{record-parts}
 use mathlib.Core.Path.{sym}
 use native.Mathlib.Omega.{arith}
+use Rattle.trees.specs.Words.{bytesOf}
 use borrow.Author.Needs.{needs}
 use Rattle.job.proofs.lines.put_record.Statement.{statement}
 use Rattle.job.proofs.lines.put_record.Tie as tie
@@ -94,6 +95,7 @@ same-length : tie.Need-same-length
 same-length c = search needs
 
 returns : tie.Need-returns
+unfolding bytesOf
 returns c =
     let s1 = c .before .before in
     let s2 = s1 .before .before .before .before in

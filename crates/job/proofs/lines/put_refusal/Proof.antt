@@ -1,9 +1,10 @@
 -- `job::lines::put_refusal` meets its contract: the words of a refusal, one after another. Assumes nothing.
 use Rattle.job.proofs.AreaLaws.{put-then, put-as}
-use Rattle.job.proofs.DecimalLaws.{decimal-short}
+use Rattle.contents.proofs.DecimalLaws.{decimal-short}
 use Rattle.job.proofs.LineLaws.{refusal-parts}
 use mathlib.Core.Path.{_∙_}
 use native.Mathlib.Omega.{arith}
+use Rattle.trees.specs.Words.{bytesOf}
 use borrow.Author.Needs.{needs}
 use Rattle.job.proofs.lines.put_refusal.Statement.{statement}
 use Rattle.job.proofs.lines.put_refusal.Tie as tie
@@ -68,6 +69,7 @@ same-length : tie.Need-same-length
 same-length c = search needs
 
 returns : tie.Need-returns
+unfolding bytesOf
 returns c =
     let s1 = c .before .before in
     let s2 = s1 .before .before .before .before in

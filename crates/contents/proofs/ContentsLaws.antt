@@ -1,0 +1,480 @@
+-- The contents are read exactly if they follow their rules: a job is that of its bodies, each of a length that the digits can tell.
+-- Assumes nothing.
+use Prim.Native.Nat.{ℕ, zero, suc, _+_, _-_, _*_, _^_, _≤_, _<_}
+use mathlib.Core.Path.{_≡_, refl, sym, _∙_, ap, ap₂, subst}
+use mathlib.Core.Bool.{Bool, true, false, cond, _&&_, _||_, not}
+use mathlib.Core.Logic.{_⊎_, inl, inr, ⊎-elim, _↔_}
+use mathlib.Core.List.{List, [], _∷_, _++_, append-assoc, append-nil}
+use mathlib.Core.Option.{Option, some, none}
+use native.Mathlib.Nat.{pow-suc}
+use native.Mathlib.Omega.{arith}
+use lib.Dec.{eqb, leb}
+use lib.ListN.{length, getD, take, drop, length-append, length-take, length-drop, take-append-drop, List·getD-append}
+use lib.Seq.{take-append-seam, drop-append-seam, drop-at, drop-drop, take-all}
+use borrow.Author.Tests.{eq-eqb, eqb-true, leb-true, eqb-false, not-true}
+use Rattle.trees.specs.declared.Body.{Body}
+use Rattle.trees.specs.declared.Body.the-variants.{S, T, K}
+use Rattle.trees.specs.Refusals.{letterOf}
+use Rattle.trees.specs.Words.{Within}
+use Rattle.trees.proofs.Bools.{bool-cases, and-left, and-right, and-intro, or-cases}
+use Rattle.contents.specs.declared.Table.{Table}
+use Rattle.contents.specs.declared.Layout.{Layout}
+use Rattle.contents.specs.declared.Layout.the-variants as layout
+use Rattle.contents.specs.Decimal.{decimalFrom, decimalOf, isDigit, digitRun, valueFrom}
+use Rattle.contents.specs.Contents.{Bodies, Short, Laid, line, entryLine, tableText, lengthsOf, jobOf, digitLimit, goodDigits, Number, numberAt}
+use Rattle.contents.specs.Contents.{Progress, Step, _andThen_, byteOf, byte, putDown, withLength, lengthStep, entry, emptyLine, tableLines, begun, laidOut, layoutOf, bodiesIn, bodiesOf, listPlace}
+use Rattle.contents.proofs.DecimalLaws.{allDigits, from-small, from-digits, from-some, from-few, no-leading-zero, decimal-value, from-read, value-below, digit-small}
+use Rattle.contents.proofs.RunLaws.{run-first, number-one, number-more}
+use Rattle.contents.proofs.StepLaws.{then-some, between, none-some}
+
+-- ---- what is written is read
+
+run-all : (digits : List ℕ) (b : ℕ) (rest : List ℕ) → allDigits digits ≡ true → isDigit b ≡ false → digitRun (digits ++ (b ∷ rest)) ≡ digits
+unfolding digitRun
+run-all [] b rest h k = rw k refl
+run-all (d ∷ digits) b rest h k =
+    rw (and-left (isDigit d) (allDigits digits) h)
+    (ap (λ (l : List ℕ). d ∷ l) (run-all digits b rest (and-right (isDigit d) (allDigits digits) h) k))
+
+line-end-plain : isDigit 10 ≡ false
+unfolding isDigit
+line-end-plain = refl
+
+decimal-one : (n : ℕ) → n < 10 → length (decimalOf n) ≡ 1
+unfolding decimalOf
+decimal-one n h = ap (length {A = ℕ}) (from-small 20 n (omega arith) h)
+
+decimal-first : (n : ℕ) → n < 10 ^ digitLimit → (length (decimalOf n) ≡ 1 → ⊥) → getD (decimalOf n) 0 0 ≡ 48 → ⊥
+unfolding decimalOf
+decimal-first zero small m z = m (decimal-one 0 (omega arith))
+decimal-first (suc n) small m z = no-leading-zero 20 (suc n) (omega arith) (omega arith) z
+
+module _ (n : ℕ) (small : n < 10 ^ digitLimit) (rest : List ℕ) where
+  run : digitRun (decimalOf n ++ (10 ∷ rest)) ≡ decimalOf n
+  run = run-all (decimalOf n) 10 rest (unfold decimalOf in from-digits 20 n) line-end-plain
+
+  number-written : numberAt (decimalOf n ++ (10 ∷ rest)) ≡ some (record { value = n; rest = 10 ∷ rest })
+  number-written = go (bool-cases (eqb (length (decimalOf n)) 1))
+    where
+      few : length (decimalOf n) ≤ digitLimit
+      few = unfold decimalOf in from-few digitLimit 20 n (omega arith) (omega arith)
+
+      one : 1 ≤ length (decimalOf n)
+      one = unfold decimalOf in from-some 20 n (omega arith)
+
+      count : length (decimalOf n) ≡ length (digitRun (decimalOf n ++ (10 ∷ rest)))
+      count = ap (length {A = ℕ}) (sym run)
+
+      told : _≡_ {A = Option Number}
+          (some (record {
+            value = valueFrom 0 (take (length (decimalOf n)) (decimalOf n ++ (10 ∷ rest)));
+            rest = drop (length (decimalOf n)) (decimalOf n ++ (10 ∷ rest));
+          }))
+          (some (record { value = n; rest = 10 ∷ rest }))
+      told =
+          ap₂ (λ (v : ℕ) (l : List ℕ). some (record { value = v; rest = l }))
+          (ap (valueFrom 0) (take-append-seam (decimalOf n) (10 ∷ rest)) ∙ decimal-value n (omega arith))
+          (drop-append-seam (decimalOf n) (10 ∷ rest))
+
+      go : (eqb (length (decimalOf n)) 1 ≡ true) ⊎ (eqb (length (decimalOf n)) 1 ≡ false)
+          → numberAt (decimalOf n ++ (10 ∷ rest)) ≡ some (record { value = n; rest = 10 ∷ rest })
+      go (inl e) = number-one (decimalOf n ++ (10 ∷ rest)) (length (decimalOf n)) count (eqb-true (length (decimalOf n)) 1 e) ∙ told
+      go (inr e) =
+          let m = eqb-false (length (decimalOf n)) 1 e in
+          number-more (decimalOf n ++ (10 ∷ rest)) (length (decimalOf n)) count one few m
+          (λ (z : getD (decimalOf n ++ (10 ∷ rest)) 0 0 ≡ 48).
+          decimal-first n small m (sym (List·getD-append (decimalOf n) (10 ∷ rest) 0 0 one) ∙ z))
+          ∙ told
+
+byte-same : (b : ℕ) (t : Table) (xs : List ℕ) → byte b (record { table = t; rest = b ∷ xs }) ≡ some (record { table = t; rest = xs })
+unfolding byte byteOf
+byte-same b t xs = rw (eq-eqb b b refl) refl
+
+module _ (body : Body) (n : ℕ) (small : n < 10 ^ digitLimit) (t : Table) (rest : List ℕ) where
+  length-written : lengthStep body (record { table = t; rest = decimalOf n ++ (10 ∷ rest) })
+      ≡ some (record { table = withLength body n t; rest = 10 ∷ rest })
+  unfolding lengthStep putDown
+  length-written = ap (putDown body t) (number-written n small rest)
+
+  entry-written : entry body (record { table = t; rest = entryLine body n ++ rest }) ≡ some (record { table = withLength body n t; rest = rest })
+  unfolding entry entryLine line
+  entry-written =
+      let digits : List ℕ = (decimalOf n ++ (10 ∷ [])) ++ rest in
+      let same : digits ≡ decimalOf n ++ (10 ∷ rest) = append-assoc (decimalOf n) (10 ∷ []) rest in
+      then-some (byte (letterOf body)) (byte 32 andThen lengthStep body andThen byte 10)
+      (record { table = t; rest = letterOf body ∷ 32 ∷ digits }) (record { table = t; rest = 32 ∷ digits })
+      (byte-same (letterOf body) t (32 ∷ digits))
+      ∙ then-some (byte 32) (lengthStep body andThen byte 10)
+      (record { table = t; rest = 32 ∷ digits }) (record { table = t; rest = digits })
+      (byte-same 32 t digits)
+      ∙ then-some (lengthStep body) (byte 10)
+      (record { table = t; rest = digits }) (record { table = withLength body n t; rest = 10 ∷ rest })
+      (ap (λ (l : List ℕ). lengthStep body (record { table = t; rest = l })) same ∙ length-written)
+      ∙ byte-same 10 (withLength body n t) rest
+
+table-text : (t : Table) (rest : List ℕ)
+    → tableText t ++ rest ≡ entryLine S (t .first) ++ (entryLine T (t .second) ++ (entryLine K (t .required) ++ (10 ∷ rest)))
+unfolding tableText line
+table-text t rest =
+    let s : List ℕ = entryLine S (t .first) in
+    let u : List ℕ = entryLine T (t .second) in
+    let k : List ℕ = entryLine K (t .required) in
+    append-assoc s (u ++ (k ++ (10 ∷ []))) rest
+    ∙ ap (λ (l : List ℕ). s ++ l)
+    (append-assoc u (k ++ (10 ∷ [])) rest ∙ ap (λ (l : List ℕ). u ++ l) (append-assoc k (10 ∷ []) rest))
+
+table-written : (t : Table) (rest : List ℕ) → Short t → tableLines (begun (tableText t ++ rest)) ≡ some (record { table = t; rest = rest })
+unfolding tableLines emptyLine withLength
+table-written t rest short =
+    let end : List ℕ = 10 ∷ rest in
+    let third : List ℕ = entryLine K (t .required) ++ end in
+    let second : List ℕ = entryLine T (t .second) ++ third in
+    let first : List ℕ = entryLine S (t .first) ++ second in
+    let a : Table = record { first = 0; second = 0; required = 0 } in
+    let b : Table = withLength S (t .first) a in
+    let c : Table = withLength T (t .second) b in
+    ap (λ (l : List ℕ). tableLines (begun l)) (table-text t rest)
+    ∙ then-some (entry S) (entry T andThen entry K andThen byte 10) (record { table = a; rest = first }) (record { table = b; rest = second })
+    (entry-written S (t .first) (short .one) a second)
+    ∙ then-some (entry T) (entry K andThen byte 10) (record { table = b; rest = second }) (record { table = c; rest = third })
+    (entry-written T (t .second) (short .two) b third)
+    ∙ then-some (entry K) (byte 10) (record { table = c; rest = third }) (record { table = t; rest = end })
+    (entry-written K (t .required) (short .three) c end)
+    ∙ byte-same 10 t rest
+
+-- where the bodies begin: just after the table
+module _ (t : Table) (rest : List ℕ) (short : Short t) (sum : t .first + t .second + t .required ≡ length rest) where
+  pub layout-written : layoutOf (tableText t ++ rest) ≡ layout.Bodies (length (tableText t)) t
+  unfolding layoutOf laidOut
+  layout-written =
+      let e : length (tableText t ++ rest) - length rest ≡ length (tableText t) = omega (arith, length-append (tableText t) rest) in
+      ap (laidOut (tableText t ++ rest)) (table-written t rest short)
+      ∙ rw (eq-eqb (t .first + t .second + t .required) (length rest) sum, e) refl
+
+module _ (table f g l : List ℕ) where
+  at-first : take (length f) (drop (length table) (table ++ (f ++ (g ++ l)))) ≡ f
+  at-first = ap (take (length f)) (drop-append-seam table (f ++ (g ++ l))) ∙ take-append-seam f (g ++ l)
+
+  past-first : drop (length table + length f) (table ++ (f ++ (g ++ l))) ≡ g ++ l
+  past-first =
+      sym (drop-drop (length f) (length table) (table ++ (f ++ (g ++ l))))
+      ∙ ap (drop (length f)) (drop-append-seam table (f ++ (g ++ l)))
+      ∙ drop-append-seam f (g ++ l)
+
+  at-second : take (length g) (drop (length table + length f) (table ++ (f ++ (g ++ l)))) ≡ g
+  at-second = ap (take (length g)) past-first ∙ take-append-seam g l
+
+  at-list : take (length l) (drop (length table + length f + length g) (table ++ (f ++ (g ++ l)))) ≡ l
+  at-list =
+      ap (take (length l))
+      (sym (drop-drop (length g) (length table + length f) (table ++ (f ++ (g ++ l))))
+      ∙ ap (drop (length g)) past-first
+      ∙ drop-append-seam g l)
+      ∙ take-all (length l) l (omega arith)
+
+pub contents-written : (b : Bodies) → Short (lengthsOf b) → bodiesOf (jobOf b) ≡ some b
+unfolding bodiesOf bodiesIn jobOf lengthsOf
+contents-written b short =
+    let f : List ℕ = b .first in
+    let g : List ℕ = b .second in
+    let l : List ℕ = b .list in
+    let table : List ℕ = tableText (lengthsOf b) in
+    ap (bodiesIn (table ++ (f ++ (g ++ l))))
+    (layout-written (lengthsOf b) (f ++ (g ++ l)) short (omega (arith, length-append f (g ++ l), length-append g l)))
+    ∙ rw (at-first table f g l, at-second table f g l, at-list table f g l) refl
+
+-- ---- what is read is written
+
+byte-took : (b : ℕ) (p q : Progress) → byte b p ≡ some q → (p .rest ≡ b ∷ q .rest) × (q .table ≡ p .table)
+unfolding byte byteOf
+byte-took b p q e = go (p .rest) e
+  where
+    go : (l : List ℕ) → byteOf b (p .table) l ≡ some q → (l ≡ b ∷ q .rest) × (q .table ≡ p .table)
+    go [] h = absurd (none-some q h)
+    go (x ∷ xs) h = same (bool-cases (eqb x b))
+      where
+        same : (eqb x b ≡ true) ⊎ (eqb x b ≡ false) → (x ∷ xs ≡ b ∷ q .rest) × (q .table ≡ p .table)
+        same (inl k) =
+            let g : some (record { table = p .table; rest = xs }) ≡ some q = rw k at h in
+            let m : record { table = p .table; rest = xs } ≡ q = cc in
+            (ap₂ (λ (y : ℕ) (ys : List ℕ). y ∷ ys) (eqb-true x b k) (ap (λ (r : Progress). r .rest) m), sym (ap (λ (r : Progress). r .table) m))
+        same (inr k) = absurd (none-some q (rw k at h))
+
+run-digits : (text : List ℕ) → allDigits (digitRun text) ≡ true
+unfolding digitRun
+run-digits [] = refl
+run-digits (b ∷ text) = go (bool-cases (isDigit b)) (run-digits text)
+  where
+    go : (isDigit b ≡ true) ⊎ (isDigit b ≡ false) → allDigits (digitRun text) ≡ true → allDigits (cond (isDigit b) (b ∷ digitRun text) []) ≡ true
+    go (inl e) r =
+        ap (λ (q : Bool). allDigits (cond q (b ∷ digitRun text) [])) e ∙ and-intro (isDigit b) (allDigits (digitRun text)) e r
+    go (inr e) r = ap (λ (q : Bool). allDigits (cond q (b ∷ digitRun text) [])) e
+
+record Good (run : List ℕ) : Type 0 where
+  some-digit : 1 ≤ length run
+  few : length run ≤ digitLimit
+  zero-alone : (eqb (length run) 1 ≡ true) ⊎ (not (eqb (getD run 0 0) 48) ≡ true)
+
+good-run : (run : List ℕ) → goodDigits run ≡ true → Good run
+unfolding goodDigits
+good-run run h =
+    let p : Bool = leb 1 (length run) in
+    let q : Bool = leb (length run) digitLimit in
+    let r : Bool = eqb (length run) 1 || not (eqb (getD run 0 0) 48) in
+    record {
+      some-digit = leb-true 1 (length run) (and-left p q (and-left (p && q) r h));
+      few = leb-true (length run) digitLimit (and-right p q (and-left (p && q) r h));
+      zero-alone = or-cases (eqb (length run) 1) (not (eqb (getD run 0 0) 48)) (and-right (p && q) r h);
+    }
+
+-- digits without a leading zero are those of the number that they stand for
+run-decimal : (run : List ℕ) → allDigits run ≡ true → Good run → decimalOf (valueFrom 0 run) ≡ run
+unfolding decimalOf valueFrom
+run-decimal [] h g = absurd (omega (arith, g .some-digit))
+run-decimal (d ∷ []) h g =
+    let small = digit-small d (and-left (isDigit d) true h) in
+    let e : 48 + (0 * 10 + (d - 48)) ≡ d = omega (arith, small) in
+    from-small 20 (0 * 10 + (d - 48)) (omega arith) (omega (arith, small)) ∙ ap (λ (x : ℕ). x ∷ []) e
+run-decimal (d ∷ c ∷ run) h g =
+    let small = digit-small d (and-left (isDigit d) (allDigits (c ∷ run)) h) in
+    let high : d ≡ 48 → ⊥ =
+    ⊎-elim (λ (z : eqb (length (d ∷ c ∷ run)) 1 ≡ true) (w : d ≡ 48). omega (arith, eqb-true (length (d ∷ c ∷ run)) 1 z))
+    (λ (z : not (eqb d 48) ≡ true). eqb-false d 48 (not-true (eqb d 48) z)) (g .zero-alone) in
+    let pos : 0 < 0 * 10 + (d - 48) = omega (arith, small, high) in
+    let room : length (c ∷ run) + (20 - length (c ∷ run)) ≡ 20 = omega (arith, g .few) in
+    let e : 48 + (0 * 10 + (d - 48)) ≡ d = omega (arith, small) in
+    ap (λ (k : ℕ). decimalFrom k (valueFrom (0 * 10 + (d - 48)) (c ∷ run))) (sym room)
+    ∙ from-read (c ∷ run) (20 - length (c ∷ run)) (0 * 10 + (d - 48)) pos (and-right (isDigit d) (allDigits (c ∷ run)) h)
+    ∙ ap (λ (l : List ℕ). l ++ (c ∷ run))
+    (from-small (20 - length (c ∷ run)) (0 * 10 + (d - 48)) (omega (arith, g .few)) (omega (arith, small)) ∙ ap (λ (x : ℕ). x ∷ []) e)
+
+power-less : (k j : ℕ) → 10 ^ k ≤ 10 ^ (k + j)
+power-less k zero = let e : k + 0 ≡ k = omega arith in rw e (omega arith)
+power-less k (suc j) =
+    let e : k + suc j ≡ suc (k + j) = omega arith in
+    rw (e, pow-suc 10 (k + j)) (omega (arith, power-less k j))
+
+power-small : (k : ℕ) → k ≤ digitLimit → 10 ^ k ≤ 10 ^ digitLimit
+power-small k h =
+    let e : k + (digitLimit - k) ≡ digitLimit = omega arith in
+    subst (λ (m : ℕ). 10 ^ k ≤ 10 ^ m) e (power-less k (digitLimit - k))
+
+abbrev NumberTook : List ℕ → Option Number → Type 0
+NumberTook text none = Prim.Unit {0}
+NumberTook text (some n) = (text ≡ decimalOf (n .value) ++ n .rest) × (n .value < 10 ^ digitLimit)
+
+number-took : (text : List ℕ) → NumberTook text (numberAt text)
+unfolding numberAt
+number-took text = go (bool-cases (goodDigits (digitRun text)))
+  where
+    go : (goodDigits (digitRun text) ≡ true) ⊎ (goodDigits (digitRun text) ≡ false)
+        → NumberTook text (cond (goodDigits (digitRun text))
+        (some (record { value = valueFrom 0 (digitRun text); rest = drop (length (digitRun text)) text })) none)
+    go (inl e) =
+        let g = good-run (digitRun text) e in
+        rw e (
+          sym (take-append-drop (length (digitRun text)) text)
+              ∙ ap (λ (l : List ℕ). l ++ drop (length (digitRun text)) text)
+              (sym (run-first text) ∙ sym (run-decimal (digitRun text) (run-digits text) g)),
+          omega (arith, value-below (digitRun text) 0 0 (omega arith) (run-digits text), power-small (0 + length (digitRun text)) (omega (arith, g .few))),
+        )
+    go (inr e) = rw e tt
+
+-- a line that was read
+record Entered (body : Body) (p q : Progress) : Type 0 where
+  n : ℕ
+  small : n < 10 ^ digitLimit
+  text : p .rest ≡ entryLine body n ++ q .rest
+  table : q .table ≡ withLength body n (p .table)
+
+record Counted (body : Body) (p q : Progress) : Type 0 where
+  n : ℕ
+  small : n < 10 ^ digitLimit
+  text : p .rest ≡ decimalOf n ++ q .rest
+  table : q .table ≡ withLength body n (p .table)
+
+length-took : (body : Body) (p q : Progress) → lengthStep body p ≡ some q → Counted body p q
+unfolding lengthStep putDown
+length-took body p q e = go (numberAt (p .rest)) (number-took (p .rest)) e
+  where
+    go : (o : Option Number) → NumberTook (p .rest) o → putDown body (p .table) o ≡ some q → Counted body p q
+    go none w h = absurd (none-some q h)
+    go (some n) w h =
+        let m : record { table = withLength body (n .value) (p .table); rest = n .rest } ≡ q = cc in
+        record {
+          n = n .value;
+          small = w .1;
+          text = w .0 ∙ ap (λ (r : Progress). decimalOf (n .value) ++ r .rest) m;
+          table = sym (ap (λ (r : Progress). r .table) m);
+        }
+
+entry-took : (body : Body) (p q : Progress) → entry body p ≡ some q → Entered body p q
+unfolding entry entryLine line
+entry-took body p q e =
+    let w = between (byte (letterOf body)) (byte 32 andThen lengthStep body andThen byte 10) p q e in
+    let x = between (byte 32) (lengthStep body andThen byte 10) (w .mid) q (w .two) in
+    let y = between (lengthStep body) (byte 10) (x .mid) q (x .two) in
+    let a = byte-took (letterOf body) p (w .mid) (w .one) in
+    let b = byte-took 32 (w .mid) (x .mid) (x .one) in
+    let c = length-took body (x .mid) (y .mid) (y .one) in
+    let d = byte-took 10 (y .mid) q (y .two) in
+    record {
+      n = c .n;
+      small = c .small;
+      text =
+          a .0
+          ∙ ap (λ (l : List ℕ). letterOf body ∷ l) (b .0)
+          ∙ ap (λ (l : List ℕ). letterOf body ∷ 32 ∷ l) (c .text)
+          ∙ ap (λ (l : List ℕ). letterOf body ∷ 32 ∷ (decimalOf (c .n) ++ l)) (d .0)
+          ∙ ap (λ (l : List ℕ). letterOf body ∷ 32 ∷ l) (sym (append-assoc (decimalOf (c .n)) (10 ∷ []) (q .rest)));
+      table = d .1 ∙ c .table ∙ ap (withLength body (c .n)) (b .1 ∙ a .1);
+    }
+
+-- the table and what follows it
+record Tabled (job : List ℕ) (q : Progress) : Type 0 where
+  text : job ≡ tableText (q .table) ++ q .rest
+  short : Short (q .table)
+
+table-took : (job : List ℕ) (q : Progress) → tableLines (begun job) ≡ some q → Tabled job q
+unfolding tableLines emptyLine withLength
+table-took job q e =
+    let w = between (entry S) (entry T andThen entry K andThen byte 10) (begun job) q e in
+    let x = between (entry T) (entry K andThen byte 10) (w .mid) q (w .two) in
+    let y = between (entry K) (byte 10) (x .mid) q (x .two) in
+    let a = entry-took S (begun job) (w .mid) (w .one) in
+    let b = entry-took T (w .mid) (x .mid) (x .one) in
+    let c = entry-took K (x .mid) (y .mid) (y .one) in
+    let d = byte-took 10 (y .mid) q (y .two) in
+    let t : q .table ≡ record { first = a .n; second = b .n; required = c .n } =
+    d .1 ∙ c .table ∙ ap (withLength K (c .n)) (b .table ∙ ap (withLength T (b .n)) (a .table)) in
+    record {
+      text =
+          a .text
+          ∙ ap (λ (l : List ℕ). entryLine S (a .n) ++ l) (b .text)
+          ∙ ap (λ (l : List ℕ). entryLine S (a .n) ++ (entryLine T (b .n) ++ l)) (c .text)
+          ∙ ap (λ (l : List ℕ). entryLine S (a .n) ++ (entryLine T (b .n) ++ (entryLine K (c .n) ++ l))) (d .0)
+          ∙ sym (ap (λ (u : Table). tableText u ++ q .rest) t ∙ table-text (record { first = a .n; second = b .n; required = c .n }) (q .rest));
+      short = subst Short (sym t) (record { one = a .small; two = b .small; three = c .small });
+    }
+
+pub laid-job : (job : List ℕ) (at : ℕ) (t : Table) → layoutOf job ≡ layout.Bodies at t → Laid job at t
+unfolding layoutOf laidOut
+laid-job job at t e = go (tableLines (begun job)) refl e
+  where
+    broken : layout.Broken ≡ layout.Bodies at t → ⊥
+    broken h = let z : _≡_ {A = ℕ} 0 1 = cc in omega arith
+
+    go : (o : Option Progress) → tableLines (begun job) ≡ o → laidOut job o ≡ layout.Bodies at t → Laid job at t
+    go none k h = absurd (broken h)
+    go (some p) k h = adds (bool-cases (eqb (p .table .first + p .table .second + p .table .required) (length (p .rest))))
+      where
+        adds : (eqb (p .table .first + p .table .second + p .table .required) (length (p .rest)) ≡ true)
+            ⊎ (eqb (p .table .first + p .table .second + p .table .required) (length (p .rest)) ≡ false)
+            → Laid job at t
+        adds (inl s) =
+            let g : layout.Bodies (length job - length (p .rest)) (p .table) ≡ layout.Bodies at t = rw s at h in
+            let place : length job - length (p .rest) ≡ at = cc in
+            let table : p .table ≡ t = cc in
+            let w = table-took job p k in
+            let size = ap (length {A = ℕ}) (w .text) ∙ length-append (tableText (p .table)) (p .rest) in
+            let front : at ≡ length (tableText (p .table)) = omega (arith, place, size) in
+            let rest : p .rest ≡ drop at job =
+            sym (ap (drop at) (w .text) ∙ drop-at (tableText (p .table)) (p .rest) at (sym front)) in
+            let sum = eqb-true (p .table .first + p .table .second + p .table .required) (length (p .rest)) s in
+            subst (Laid job at) table
+            (record {
+              text = w .text ∙ ap (λ (l : List ℕ). tableText (p .table) ++ l) rest;
+              short = w .short;
+              place = front;
+              sum = omega (arith, place, size, sum);
+            })
+        adds (inr s) = absurd (broken (rw s at h))
+
+pub laid-exactly : (job : List ℕ) (at : ℕ) (t : Table) → (layoutOf job ≡ layout.Bodies at t) ↔ Laid job at t
+laid-exactly job at t = (
+  laid-job job at t,
+  λ (w : Laid job at t).
+      let sum : t .first + t .second + t .required ≡ length (drop at job) = omega (arith, w .sum, length-drop at job) in
+      ap layoutOf (w .text)
+      ∙ layout-written t (drop at job) (w .short) sum
+      ∙ ap (λ (n : ℕ). layout.Bodies n t) (sym (w .place)),
+)
+
+-- the bodies of a job that was laid out
+module _ (job : List ℕ) (at : ℕ) (t : Table) (w : Laid job at t) where
+  abbrev first : List ℕ
+  first = take (t .first) (drop at job)
+
+  abbrev second : List ℕ
+  second = take (t .second) (drop (at + t .first) job)
+
+  abbrev list : List ℕ
+  list = take (t .required) (drop (at + t .first + t .second) job)
+
+  first-size : length first ≡ t .first
+  first-size = omega (arith, w .sum, length-take (t .first) (drop at job), length-drop at job)
+
+  second-size : length second ≡ t .second
+  second-size = omega (arith, w .sum, length-take (t .second) (drop (at + t .first) job), length-drop (at + t .first) job)
+
+  list-whole : list ≡ drop (at + t .first + t .second) job
+  list-whole = take-all (t .required) (drop (at + t .first + t .second) job) (omega (arith, w .sum, length-drop (at + t .first + t .second) job))
+
+  list-size : length list ≡ t .required
+  list-size = omega (arith, w .sum, ap (length {A = ℕ}) list-whole, length-drop (at + t .first + t .second) job)
+
+  joined-directly : drop at job ≡ first ++ (second ++ list)
+  joined-directly =
+      sym (take-append-drop (t .first) (drop at job))
+      ∙ ap (λ (l : List ℕ). first ++ l)
+      (drop-drop (t .first) at job
+      ∙ sym (take-append-drop (t .second) (drop (at + t .first) job))
+      ∙ ap (λ (l : List ℕ). second ++ l) (drop-drop (t .second) (at + t .first) job ∙ sym list-whole))
+
+  laid-lengths : lengthsOf (record { first = first; second = second; list = list }) ≡ t
+  unfolding lengthsOf
+  laid-lengths = rw (first-size, second-size, list-size) refl
+
+  laid-text : job ≡ jobOf (record { first = first; second = second; list = list })
+  unfolding jobOf
+  laid-text =
+      w .text ∙ ap₂ (λ (u : Table) (l : List ℕ). tableText u ++ l) (sym laid-lengths) joined-directly
+
+  list-within : Within job (at + t .first + t .second) list
+  list-within =
+      let n : ℕ = at + t .first + t .second in
+      record {
+        before = take n job;
+        after = [];
+        is = sym (take-append-drop n job) ∙ ap (λ (l : List ℕ). take n job ++ l) (sym list-whole ∙ sym (append-nil list));
+        place = omega (arith, w .sum, length-take n job);
+      }
+
+pub contents-read : (job : List ℕ) (b : Bodies) → bodiesOf job ≡ some b → (job ≡ jobOf b) × Short (lengthsOf b)
+unfolding bodiesOf bodiesIn
+contents-read job b e = go (layoutOf job) refl e
+  where
+    go : (l : Layout) → layoutOf job ≡ l → bodiesIn job l ≡ some b → (job ≡ jobOf b) × Short (lengthsOf b)
+    go layout.Broken k h = absurd (none-some b h)
+    go (layout.Bodies at t) k h =
+        let w = laid-job job at t k in
+        let m : record { first = first job at t w; second = second job at t w; list = list job at t w } ≡ b = cc in
+        subst (λ (c : Bodies). (job ≡ jobOf c) × Short (lengthsOf c)) m
+        (laid-text job at t w, subst Short (sym (laid-lengths job at t w)) (w .short))
+
+-- a job is read as these bodies exactly if it is theirs
+pub contents-exactly : (job : List ℕ) (b : Bodies) → (bodiesOf job ≡ some b) ↔ ((job ≡ jobOf b) × Short (lengthsOf b))
+contents-exactly job b =
+    (contents-read job b, λ (h : (job ≡ jobOf b) × Short (lengthsOf b)). ap bodiesOf (h .0) ∙ contents-written b (h .1))
+
+-- the list stands where its place says
+pub list-stands : (job : List ℕ) (b : Bodies) → bodiesOf job ≡ some b → Within job (listPlace (layoutOf job)) (b .list)
+unfolding bodiesOf bodiesIn listPlace
+list-stands job b e = go (layoutOf job) refl e
+  where
+    go : (l : Layout) → layoutOf job ≡ l → bodiesIn job l ≡ some b → Within job (listPlace l) (b .list)
+    go layout.Broken k h = absurd (none-some b h)
+    go (layout.Bodies at t) k h =
+        let w = laid-job job at t k in
+        let m : record { first = first job at t w; second = second job at t w; list = list job at t w } ≡ b = cc in
+        subst (λ (c : Bodies). Within job (at + t .first + t .second) (c .list)) m (list-within job at t w)

@@ -1,0 +1,5 @@
+pub mod ContentsLaws
+pub mod DecimalLaws
+pub mod Promises
+pub mod RunLaws
+pub mod StepLaws

@@ -1,0 +1,36 @@
+-- `contents::contents` meets its contract: line by line, then the lengths. Assumes nothing.
+use Rattle.contents.proofs.StepLaws.{table-steps}
+use mathlib.Core.Path.{_∙_}
+use borrow.Author.Needs.{needs}
+use Rattle.contents.proofs.contents.Statement.{statement}
+use Rattle.contents.proofs.contents.Tie as tie
+
+entry-after-requires : tie.Need-entry-after-requires
+entry-after-requires c κs = search needs
+
+entry-after-requires-2 : tie.Need-entry-after-requires-2
+entry-after-requires-2 c κs = search needs
+
+entry-after-requires-3 : tie.Need-entry-after-requires-3
+entry-after-requires-3 c κs = search needs
+
+byte-after-requires : tie.Need-byte-after-requires
+byte-after-requires c κs = search needs
+
+laid-out-requires : tie.Need-laid-out-requires
+laid-out-requires c κs = search needs
+
+returns : tie.Need-returns
+returns c =
+    c .laid-out .ensures ∙ table-steps _ _ _ _ _ (c .before .before .before .before .entry-after .ensures .0) (c .before .before .before .entry-after2 .ensures .0) (c .before .before .entry-after3 .ensures .0) (c .before .byte-after .ensures .0)
+
+pub contents-spec : {M : Type 1} → statement M
+contents-spec =
+    tie.close
+    (tie.spec
+    entry-after-requires
+    entry-after-requires-2
+    entry-after-requires-3
+    byte-after-requires
+    laid-out-requires
+    returns)

@@ -1,0 +1,35 @@
+-- `contents::entry_after` meets its contract: four steps, one after another. Assumes nothing.
+use Rattle.contents.proofs.StepLaws.{entry-steps}
+use borrow.Author.Needs.{needs}
+use Rattle.contents.proofs.entry_after.Statement.{statement}
+use Rattle.contents.proofs.entry_after.Tie as tie
+
+letter-requires : tie.Need-letter-requires
+letter-requires c κs = search needs
+
+byte-after-requires : tie.Need-byte-after-requires
+byte-after-requires c κs = search needs
+
+byte-after-requires-2 : tie.Need-byte-after-requires-2
+byte-after-requires-2 c κs = search needs
+
+length-after-requires : tie.Need-length-after-requires
+length-after-requires c κs = search needs
+
+byte-after-requires-3 : tie.Need-byte-after-requires-3
+byte-after-requires-3 c κs = search needs
+
+returns : tie.Need-returns
+returns c =
+    (entry-steps _ _ _ _ _ _ _ _ (c .before .before .before .before .letter .ensures) (c .before .before .before .byte-after .ensures .0) (c .before .before .byte-after2 .ensures .0) (c .before .length-after .ensures .0) (c .byte-after3 .ensures .0), c .byte-after3 .ensures .1)
+
+pub entry-after-spec : {M : Type 1} → statement M
+entry-after-spec =
+    tie.close
+    (tie.spec
+    letter-requires
+    byte-after-requires
+    byte-after-requires-2
+    length-after-requires
+    byte-after-requires-3
+    returns)

@@ -1,0 +1,24 @@
+-- `contents::stands_at` meets its contract. Assumes nothing.
+use Rattle.contents.proofs.StepLaws.{byte-in, byte-out}
+use Rattle.trees.proofs.Bools.{clash}
+use native.Mathlib.Omega.{arith}
+use mathlib.Core.Path.{refl}
+use borrow.Author.Needs.{needs}
+use Rattle.contents.proofs.stands_at.Statement.{statement}
+use Rattle.contents.proofs.stands_at.Tie as tie
+
+shared-slice-read-result : tie.Need-shared-slice-read-result
+shared-slice-read-result c = search needs
+
+returns : tie.Need-returns
+returns c =
+    let a = c .before .before .args in
+    record { next = byte-in (a .job .now) (a .at) (a .b) (c .before .if1 .taken); inside = λ h. c .before .if1 .taken }
+
+returns-2 : tie.Need-returns-2
+returns-2 c =
+    let a = c .before .args in
+    record { next = byte-out (a .job .now) (a .at) (a .b) (omega arith); inside = λ h. clash h refl }
+
+pub stands-at-spec : {M : Type 1} → statement M
+stands-at-spec = tie.close (tie.spec shared-slice-read-result returns returns-2)

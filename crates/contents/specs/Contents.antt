@@ -1,0 +1,174 @@
+-- The table of contents of a job. Scope paper, "Job and printed result": "three lines `S n`, `T n`, `K n`, an empty line, then the
+-- first tree, the second tree and the required list, joined directly".
+use Prim.Native.Nat.{ℕ, _+_, _-_, _^_, _<_}
+use mathlib.Core.Path.{_≡_}
+use mathlib.Core.Bool.{Bool, cond, _&&_, _||_, not}
+use mathlib.Core.List.{List, [], _∷_, _++_}
+use mathlib.Core.Option.{Option, some, none}
+use lib.Dec.{eqb, leb}
+use lib.ListN.{length, take, drop, getD}
+use Rattle.trees.specs.declared.Body.{Body}
+use Rattle.trees.specs.declared.Body.the-variants.{S, T, K, J, O}
+use Rattle.trees.specs.Refusals.{letterOf}
+use Rattle.contents.specs.declared.Table.{Table}
+use Rattle.contents.specs.declared.Layout.{Layout}
+use Rattle.contents.specs.declared.Layout.the-variants as layout
+use Rattle.contents.specs.Decimal.{decimalOf, digitRun, valueFrom}
+
+-- how many digits a length may have
+abbrev pub digitLimit : ℕ
+digitLimit = 4
+
+pub record Bodies : Type 0 where
+  pub first : List ℕ
+  pub second : List ℕ
+  pub list : List ℕ
+
+-- ---- what a job is
+
+-- "Lines end with one byte 10."
+unfoldable pub line : List ℕ → List ℕ
+line words = words ++ (10 ∷ [])
+
+-- `S n`
+unfoldable pub entryLine : Body → ℕ → List ℕ
+unfolding line letterOf decimalOf
+entryLine body n = line (letterOf body ∷ 32 ∷ decimalOf n)
+
+unfoldable pub tableText : Table → List ℕ
+unfolding entryLine line
+tableText t = entryLine S (t .first) ++ (entryLine T (t .second) ++ (entryLine K (t .required) ++ line []))
+
+-- "Each n is the body's length in bytes"
+unfoldable pub lengthsOf : Bodies → Table
+lengthsOf b = record { first = length (b .first); second = length (b .second); required = length (b .list) }
+
+-- "one to four digits"
+pub record Short (t : Table) : Type 0 where
+  pub one : t .first < 10 ^ digitLimit
+  pub two : t .second < 10 ^ digitLimit
+  pub three : t .required < 10 ^ digitLimit
+
+-- the job begins with this table, and as many bytes follow as its lengths say
+pub record Laid (job : List ℕ) (at : ℕ) (t : Table) : Type 0 where
+  pub text : job ≡ tableText t ++ drop at job
+  pub short : Short t
+  pub place : at ≡ length (tableText t)
+  pub sum : at + t .first + t .second + t .required ≡ length job
+
+-- the job that holds these bodies
+unfoldable pub jobOf : Bodies → List ℕ
+unfolding tableText lengthsOf
+jobOf b = tableText (lengthsOf b) ++ (b .first ++ (b .second ++ b .list))
+
+-- ---- how a job is read
+
+-- the lengths read so far, and the bytes that follow
+pub record Progress : Type 0 where
+  pub table : Table
+  pub rest : List ℕ
+
+-- a step takes bytes from the front, or finds that the contents break their rules there
+abbrev pub Step : Type 0
+Step = Progress → Option Progress
+
+unfoldable pub onward : Option Progress → Step → Option Progress
+onward none f = none
+onward (some p) f = f p
+
+-- one step, then another
+infixr 40 _andThen_
+unfoldable pub _andThen_ : Step → Step → Step
+unfolding onward
+_andThen_ f g p = onward (f p) g
+
+unfoldable pub byteOf : ℕ → Table → List ℕ → Option Progress
+byteOf b t [] = none
+byteOf b t (x ∷ xs) = cond (eqb x b) (some (record { table = t; rest = xs })) none
+
+-- this byte
+unfoldable pub byte : ℕ → Step
+unfolding byteOf
+byte b p = byteOf b (p .table) (p .rest)
+
+-- a number that was read and what follows it
+pub record Number : Type 0 where
+  pub value : ℕ
+  pub rest : List ℕ
+
+-- "decimal, one to four digits, no leading zero except `0` itself"
+unfoldable pub goodDigits : List ℕ → Bool
+goodDigits run = leb 1 (length run) && leb (length run) digitLimit && (eqb (length run) 1 || not (eqb (getD run 0 0) 48))
+
+unfoldable pub numberAt : List ℕ → Option Number
+unfolding goodDigits digitRun valueFrom
+numberAt text =
+    cond (goodDigits (digitRun text))
+    (some (record { value = valueFrom 0 (digitRun text); rest = drop (length (digitRun text)) text })) none
+
+-- a length put down for its body
+unfoldable pub withLength : Body → ℕ → Table → Table
+withLength S n t = record { first = n; second = t .second; required = t .required }
+withLength T n t = record { first = t .first; second = n; required = t .required }
+withLength K n t = record { first = t .first; second = t .second; required = n }
+withLength J n t = t
+withLength O n t = t
+
+unfoldable pub putDown : Body → Table → Option Number → Option Progress
+unfolding withLength
+putDown body t none = none
+putDown body t (some n) = some (record { table = withLength body (n .value) t; rest = n .rest })
+
+-- the length of a body
+unfoldable pub lengthStep : Body → Step
+unfolding putDown numberAt
+lengthStep body p = putDown body (p .table) (numberAt (p .rest))
+
+-- a line `S n`
+unfoldable pub entry : Body → Step
+unfolding _andThen_ byte lengthStep letterOf
+entry body = byte (letterOf body) andThen byte 32 andThen lengthStep body andThen byte 10
+
+unfoldable pub emptyLine : Step
+unfolding byte
+emptyLine = byte 10
+
+-- the lines in their order; a further line is a further step
+unfoldable pub tableLines : Step
+unfolding _andThen_ entry emptyLine
+tableLines = entry S andThen entry T andThen entry K andThen emptyLine
+
+-- "The lengths must add up to exactly the rest of the job": where the bodies begin, and their lengths
+unfoldable pub laidOut : List ℕ → Option Progress → Layout
+laidOut job none = layout.Broken
+laidOut job (some p) =
+    cond (eqb (p .table .first + p .table .second + p .table .required) (length (p .rest)))
+    (layout.Bodies (length job - length (p .rest)) (p .table)) layout.Broken
+
+-- before the first line
+abbrev pub begun : List ℕ → Progress
+begun job = record { table = record { first = 0; second = 0; required = 0 }; rest = job }
+
+unfoldable pub layoutOf : List ℕ → Layout
+unfolding laidOut tableLines
+layoutOf job = laidOut job (tableLines (begun job))
+
+-- "joined directly": each body begins where the one before it ends
+unfoldable pub bodiesIn : List ℕ → Layout → Option Bodies
+bodiesIn job (layout.Bodies at t) =
+    some (record {
+      first = take (t .first) (drop at job);
+      second = take (t .second) (drop (at + t .first) job);
+      list = take (t .required) (drop (at + t .first + t .second) job);
+    })
+bodiesIn job layout.Broken = none
+
+-- the bodies, or none where the contents break their rules
+unfoldable pub bodiesOf : List ℕ → Option Bodies
+unfolding bodiesIn layoutOf
+bodiesOf job = bodiesIn job (layoutOf job)
+
+-- where the required list begins in the job
+unfoldable pub listPlace : Layout → ℕ
+listPlace (layout.Bodies at t) = at + t .first + t .second
+listPlace layout.Broken = 0

@@ -1,0 +1,3 @@
+pub mod Contents
+pub mod Decimal
+pub mod Steps

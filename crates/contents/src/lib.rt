@@ -1,0 +1,137 @@
+// The table of contents of a job: a line with the length of each body, an empty line, then the bodies.
+//
+// The one public function has no `requires`. Each line is a step from one state of reading to the next, so a further line is a
+// further step.
+use crate::decimal::Digits;
+use trees::Body;
+ghost use mathlib.Core.Path.{_≡_};
+ghost use Rattle.contents.specs.Contents.{onward, byte, lengthStep, entry, withLength, laidOut, layoutOf};
+ghost use Rattle.contents.specs.Steps.{Stands, told, Small};
+
+mod decimal;
+
+// The lengths of the bodies, in bytes.
+pub struct Table {
+    pub first: usize,
+    pub second: usize,
+    pub required: usize,
+}
+
+// Where the bodies begin in the job, and their lengths; or that the contents break their rules.
+pub enum Layout {
+    Bodies(usize, Table),
+    Broken,
+}
+
+// The lengths read so far and the place of the next byte, or that the contents break their rules.
+pub enum Reading {
+    At(Table, usize),
+    Broken,
+}
+
+// Whether byte b stands at a place of the job.
+fn stands_at(job: &[u8], at: usize, b: u8) -> bool
+    ensures { λ r. ⌜ Stands b (now (job .entry)) at r ⌝ }
+{
+    if at < job.len() { job[at] == b } else { false }
+}
+
+// The step over one byte.
+fn byte_after(job: &[u8], state: Reading, b: u8) -> Reading
+    requires { ⌜ Small (now job) state ⌝ }
+    ensures step { λ r. ⌜ told (now (job .entry)) r ≡ onward (told (now (job .entry)) state) (byte b) ⌝ }
+    ensures small { λ r. ⌜ Small (now (job .entry)) r ⌝ }
+{
+    let Reading::At(table, at) = state else {
+        return Reading::Broken;
+    };
+    if !stands_at(job, at, b) {
+        return Reading::Broken;
+    }
+    Reading::At(table, at + 1)
+}
+
+// A length put down for its body.
+fn with_length(table: Table, body: Body, n: usize) -> Table
+    ensures { λ r. ⌜ r ≡ withLength body n table ⌝ }
+{
+    match body {
+        Body::S => Table {
+            first: n,
+            second: table.second,
+            required: table.required,
+        },
+        Body::T => Table {
+            first: table.first,
+            second: n,
+            required: table.required,
+        },
+        Body::K => Table {
+            first: table.first,
+            second: table.second,
+            required: n,
+        },
+        Body::J => table,
+        Body::O => table,
+    }
+}
+
+// The step over a body's length.
+fn length_after(job: &[u8], state: Reading, body: Body) -> Reading
+    requires { ⌜ Small (now job) state ⌝ }
+    ensures step { λ r. ⌜ told (now (job .entry)) r ≡ onward (told (now (job .entry)) state) (lengthStep body) ⌝ }
+    ensures small { λ r. ⌜ Small (now (job .entry)) r ⌝ }
+{
+    let Reading::At(table, at) = state else {
+        return Reading::Broken;
+    };
+    let number = decimal::number_at(job, at);
+    let Digits::Value(n, next) = number else {
+        return Reading::Broken;
+    };
+    Reading::At(with_length(table, body, n), next)
+}
+
+// The step over a line with a body's letter and length.
+fn entry_after(job: &[u8], state: Reading, body: Body) -> Reading
+    requires { ⌜ Small (now job) state ⌝ }
+    ensures step { λ r. ⌜ told (now (job .entry)) r ≡ onward (told (now (job .entry)) state) (entry body) ⌝ }
+    ensures small { λ r. ⌜ Small (now (job .entry)) r ⌝ }
+{
+    let letter = byte_after(job, state, trees::letter(body));
+    let blank = byte_after(job, letter, b' ');
+    let number = length_after(job, blank, body);
+    byte_after(job, number, b'\n')
+}
+
+// The lengths must add up to exactly what follows the empty line.
+fn laid_out(job: &[u8], end: Reading) -> Layout
+    requires { ⌜ Small (now job) end ⌝ }
+    ensures { λ r. ⌜ r ≡ laidOut (now (job .entry)) (told (now (job .entry)) end) ⌝ }
+{
+    let Reading::At(table, at) = end else {
+        return Layout::Broken;
+    };
+    if table.first + table.second + table.required == job.len() - at {
+        Layout::Bodies(at, table)
+    } else {
+        Layout::Broken
+    }
+}
+
+// Where the bodies stand in a job.
+pub fn contents(job: &[u8]) -> Layout
+    ensures { λ r. ⌜ r ≡ layoutOf (now (job .entry)) ⌝ }
+{
+    let nothing = Table {
+        first: 0,
+        second: 0,
+        required: 0,
+    };
+    let start = Reading::At(nothing, 0);
+    let first = entry_after(job, start, Body::S);
+    let second = entry_after(job, first, Body::T);
+    let required = entry_after(job, second, Body::K);
+    let end = byte_after(job, required, b'\n');
+    laid_out(job, end)
+}

@@ -1,0 +1,162 @@
+-- What a job comes to is what the papers say of it, and nothing else. Assumes nothing.
+use Prim.Native.Nat.{ℕ, _≤_}
+use mathlib.Core.Path.{_≡_, refl, sym, _∙_, ap, subst}
+use mathlib.Core.Bool.{Bool, true, false, cond}
+use mathlib.Core.Logic.{_⊎_, inl, inr, _↔_}
+use mathlib.Core.List.{List}
+use mathlib.Core.Option.{Option, some, none}
+use lib.Dec.{leb}
+use lib.ListN.{length}
+use borrow.Author.Tests.{le-leb, lt-leb, leb-true, leb-false}
+use Rattle.trees.specs.declared.Reason.the-variants.{Contents, JobTooLong}
+use Rattle.trees.specs.declared.Body.the-variants.{J}
+use Rattle.trees.specs.Label.{Label}
+use Rattle.trees.specs.Tree.{Tree}
+use Rattle.trees.specs.Reading.{Reading, good, refused}
+use Rattle.trees.proofs.Bools.{bool-cases}
+use Rattle.newick.specs.ReadTree.{readTree}
+use Rattle.newick.proofs.Promises as newick
+use Rattle.lists.specs.ReadList.{readList}
+use Rattle.lists.proofs.Promises as lists
+use Rattle.agreement.specs.Answer.{Answer, firstLacks, secondLacks, disagree, largest, answer}
+use Rattle.agreement.specs.Outcome.{Outcome}
+use Rattle.agreement.proofs.Promises as agreement
+use Rattle.contents.specs.Contents.{Bodies, bodiesOf}
+use Rattle.contents.proofs.Promises as contents
+use Rattle.contents.proofs.StepLaws.{none-some}
+use Rattle.mast.specs.Given.{Reads}
+use Rattle.mast.specs.Largest.{Solution, solutionOf, solveList, solveSecond, solveFirst, solve}
+use Rattle.mast.proofs.Promises as mast
+use Rattle.job.specs.Printed.{jobLimit, treeRoom, solveBodies, solveJob, printedOf, printed}
+use Rattle.job.specs.Outcome.{Follows, Holds, TreeBody, ListBody, Asks, refusal, JobOutcome}
+use Rattle.job.specs.Outcome.{too-long, no-contents, first-fault, second-fault, list-fault, first-lacks, second-lacks, disagreement, largest-set}
+use Rattle.job.proofs.RoomLaws.{text-fits}
+
+-- ---- bodies that are read
+
+tree-body : (text : List ℕ) (t : Tree) → readTree text ≡ good t → TreeBody text t
+tree-body text t e = let w = newick.accepted-text text t e in record { is = w .0; valid = w .1 }
+
+body-tree : (text : List ℕ) (t : Tree) → TreeBody text t → readTree text ≡ good t
+body-tree text t b = ap readTree (b .is) ∙ newick.valid-read t (b .valid)
+
+list-body : (text : List ℕ) (xs : List Label) → readList text ≡ good xs → ListBody text xs
+list-body text xs e =
+    let w = lists.accepted-list text xs e in
+    record { is = w .0; labels = w .1; different = w .2; few = w .3 }
+
+body-list : (text : List ℕ) (xs : List Label) → ListBody text xs → readList text ≡ good xs
+body-list text xs b = ap readList (b .is) ∙ lists.labels-read xs (b .labels) (b .different) (b .few)
+
+holds-bodies : (job : List ℕ) (b : Bodies) → Holds job b → bodiesOf job ≡ some b
+holds-bodies job b h = contents.bodies-promise job b .1 (h .contents .text, h .contents .short)
+
+bodies-follow : (job : List ℕ) (b : Bodies) → bodiesOf job ≡ some b → Follows job b
+bodies-follow job b e = let w = contents.bodies-promise job b .0 e in record { text = w .0; short = w .1 }
+
+-- ---- each job has an outcome
+
+module _ (job : List ℕ) (b : Bodies) (held : Holds job b) where
+  bodies-outcome : JobOutcome job (solve (b .first) (b .second) (b .list) treeRoom)
+  unfolding solve solveFirst solveSecond solveList solutionOf
+  bodies-outcome = go (readTree (b .first)) (readTree (b .second)) (readList (b .list)) refl refl refl
+    where
+      go : (x y : Reading Tree) (z : Reading (List Label)) → readTree (b .first) ≡ x → readTree (b .second) ≡ y → readList (b .list) ≡ z
+          → JobOutcome job (solveFirst treeRoom x y z)
+      go (refused r i) y z ex ey ez = first-fault b held r i (newick.refused-first (b .first) r i ex)
+      go (good s) (refused r i) z ex ey ez =
+          second-fault b held s (tree-body (b .first) s ex) r i (newick.refused-first (b .second) r i ey)
+      go (good s) (good t) (refused r i) ex ey ez =
+          list-fault b held s t (tree-body (b .first) s ex) (tree-body (b .second) t ey) r i (lists.refused-first (b .list) r i ez)
+      go (good s) (good t) (good xs) ex ey ez = answers (answer s t xs) refl
+        where
+          asks : Asks job s t xs
+          asks =
+              record {
+                bodies = b;
+                held = held;
+                first = tree-body (b .first) s ex;
+                second = tree-body (b .second) t ey;
+                required = list-body (b .list) xs ez;
+              }
+
+          told : (A : Answer) → answer s t xs ≡ A → Outcome s t xs A
+          told A e = agreement.answer-promise s t xs (asks .first .valid) (asks .required .different) A .0 e
+
+          answers : (A : Answer) → answer s t xs ≡ A → JobOutcome job (solutionOf s xs treeRoom A)
+          answers (firstLacks n) e = first-lacks s t xs asks n (told (firstLacks n) e)
+          answers (secondLacks n) e = second-lacks s t xs asks n (told (secondLacks n) e)
+          answers (disagree p q r) e =
+              let o = told (disagree p q r) e in
+              disagreement s t xs asks p q r (o .0) (o .1)
+          answers (largest X) e =
+              subst (JobOutcome job) (sym (text-fits s X (asks .first .valid))) (largest-set s t xs asks X (told (largest X) e))
+
+outcome : (job : List ℕ) → JobOutcome job (solveJob job)
+unfolding solveJob solveBodies
+outcome job = sized (bool-cases (leb (length job) jobLimit))
+  where
+    read : length job ≤ jobLimit → (o : Option Bodies) → bodiesOf job ≡ o → JobOutcome job (solveBodies o)
+    read h none e = no-contents h (λ b w. none-some b (sym e ∙ holds-bodies job b (record { size = h; contents = w })))
+    read h (some b) e = bodies-outcome job b (record { size = h; contents = bodies-follow job b e })
+
+    sized : (leb (length job) jobLimit ≡ true) ⊎ (leb (length job) jobLimit ≡ false)
+        → JobOutcome job (cond (leb (length job) jobLimit) (solveBodies (bodiesOf job)) (refusal JobTooLong J 0))
+    sized (inl h) = rw h (read (leb-true (length job) jobLimit h) (bodiesOf job) refl)
+    sized (inr h) = rw h (too-long (leb-false (length job) jobLimit h))
+
+-- ---- and one only
+
+module _ (job : List ℕ) (b : Bodies) (held : Holds job b) where
+  job-solve : solveJob job ≡ solve (b .first) (b .second) (b .list) treeRoom
+  unfolding solveJob solveBodies
+  job-solve = rw (le-leb (length job) jobLimit (held .size)) (ap solveBodies (holds-bodies job b held))
+
+module _ (job : List ℕ) (s t : Tree) (xs : List Label) (asks : Asks job s t xs) where
+  abbrev bodies : Bodies
+  bodies = asks .bodies
+
+  reads : Reads (bodies .first) (bodies .second) (bodies .list) s t xs
+  reads =
+      record {
+        first-is = body-tree (bodies .first) s (asks .first);
+        second-is = body-tree (bodies .second) t (asks .second);
+        list-is = body-list (bodies .list) xs (asks .required);
+      }
+
+  decided : (A : Answer) → Outcome s t xs A → solveJob job ≡ solutionOf s xs treeRoom A
+  decided A o =
+      job-solve job bodies (asks .held)
+      ∙ mast.outcome-promise (bodies .first) (bodies .second) (bodies .list) treeRoom s t xs reads A o
+
+one : (job : List ℕ) (x : Solution) → JobOutcome job x → solveJob job ≡ x
+unfolding solutionOf solveJob solveBodies
+one job x (too-long h) = rw (lt-leb (length job) jobLimit h) refl
+one job x (no-contents h never) = rw (le-leb (length job) jobLimit h) (go (bodiesOf job) refl)
+  where
+    go : (o : Option Bodies) → bodiesOf job ≡ o → solveBodies o ≡ refusal Contents J 0
+    go none e = refl
+    go (some b) e = absurd (never b (bodies-follow job b e))
+one job x (first-fault b held r i f) =
+    job-solve job b held ∙ mast.first-body (b .first) (b .second) (b .list) treeRoom r i (newick.first-refused (b .first) r i f)
+one job x (second-fault b held s p r i f) =
+    job-solve job b held
+    ∙ mast.second-body (b .first) (b .second) (b .list) treeRoom r i s (body-tree (b .first) s p) (newick.first-refused (b .second) r i f)
+one job x (list-fault b held s t p q r i f) =
+    job-solve job b held
+    ∙ mast.third-body (b .first) (b .second) (b .list) treeRoom r i s t (body-tree (b .first) s p) (body-tree (b .second) t q)
+    (lists.first-refused (b .list) r i f)
+one job x (first-lacks s t xs asks n o) = decided job s t xs asks (firstLacks n) o
+one job x (second-lacks s t xs asks n o) = decided job s t xs asks (secondLacks n) o
+one job x (disagreement s t xs asks a b c held o) = decided job s t xs asks (disagree a b c) (held, o)
+one job x (largest-set s t xs asks X o) = decided job s t xs asks (largest X) o ∙ text-fits s X (asks .first .valid)
+
+pub outcome-exactly : (job : List ℕ) (x : Solution) → (solveJob job ≡ x) ↔ JobOutcome job x
+outcome-exactly job x = (λ (e : solveJob job ≡ x). subst (JobOutcome job) e (outcome job), one job x)
+
+pub printed-exactly : (job out : List ℕ) → (printed job ≡ out) ↔ ((x : Solution) × JobOutcome job x × (printedOf x ≡ out))
+unfolding printed
+printed-exactly job out = (
+  λ (e : printed job ≡ out). (solveJob job, outcome job, e),
+  λ (w : (x : Solution) × JobOutcome job x × (printedOf x ≡ out)). ap printedOf (one job (w .0) (w .1)) ∙ w .2,
+)

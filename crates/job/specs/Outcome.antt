@@ -1,0 +1,82 @@
+-- What the papers say of a job, from its bytes to demand 3. Scope paper, "Job and printed result", "Agreement" and "Why a job is
+-- turned down".
+use Prim.Native.Nat.{ℕ, _≤_, _<_}
+use mathlib.Core.Path.{_≡_}
+use mathlib.Core.Bool.{true}
+use mathlib.Core.List.{List}
+use lib.ListN.{length}
+use Rattle.trees.specs.declared.Reason.{Reason}
+use Rattle.trees.specs.declared.Reason.the-variants.{FirstLacks, SecondLacks, Contents, JobTooLong}
+use Rattle.trees.specs.declared.Body.{Body}
+use Rattle.trees.specs.declared.Body.the-variants.{S, T, K, J}
+use Rattle.trees.specs.Label.{Label, goodLabels, distinct}
+use Rattle.trees.specs.Tree.{Tree, Valid}
+use Rattle.trees.specs.Text.{textOf}
+use Rattle.newick.specs.Grammar.{TreeFault}
+use Rattle.lists.specs.ReadList.{joined, listLimit}
+use Rattle.lists.specs.ListGrammar.{ListFault}
+use Rattle.agreement.specs.Closer.{Common}
+use Rattle.agreement.specs.Sets.{setOf}
+use Rattle.agreement.specs.Restrict.{restrict}
+use Rattle.agreement.specs.Places.{placeOfNumber, keptText}
+use Rattle.agreement.specs.Demand.{IsFirstLacks, IsSecondLacks, IsDisagreement, IsAnswer}
+use Rattle.contents.specs.Contents.{Bodies, Short, lengthsOf, jobOf}
+use Rattle.mast.specs.Largest.{Solution, solved, clashed, turned}
+use Rattle.job.specs.Printed.{jobLimit}
+
+-- "A job is a table of contents, then the bodies"
+pub record Follows (job : List ℕ) (b : Bodies) : Type 0 where
+  pub text : job ≡ jobOf b
+  pub short : Short (lengthsOf b)
+
+-- and it "has at most 8,192 bytes"
+pub record Holds (job : List ℕ) (b : Bodies) : Type 0 where
+  pub size : length job ≤ jobLimit
+  pub contents : Follows job b
+
+-- a body that is the text of a tree
+pub record TreeBody (text : List ℕ) (t : Tree) : Type 0 where
+  pub is : text ≡ textOf t
+  pub valid : Valid t
+
+-- a body that is the text of a list
+pub record ListBody (text : List ℕ) (xs : List Label) : Type 0 where
+  pub is : text ≡ joined xs
+  pub labels : goodLabels xs ≡ true
+  pub different : distinct xs ≡ true
+  pub few : length xs ≤ listLimit
+
+-- the job holds two trees and a required list: no row before 6 turns it away
+pub record Asks (job : List ℕ) (s t : Tree) (xs : List Label) : Type 0 where
+  pub bodies : Bodies
+  pub held : Holds job bodies
+  pub first : TreeBody (bodies .first) s
+  pub second : TreeBody (bodies .second) t
+  pub required : ListBody (bodies .list) xs
+
+abbrev pub refusal : Reason → Body → ℕ → Solution
+refusal r b i = turned (record { reason = r; body = b; place = i })
+
+-- "Order: .. 11, 10, S, T, K, then 6 or 7, then 8"; "A job that no row turns away is answered with its set."
+pub data JobOutcome (job : List ℕ) : Solution → Type 0 where
+  -- 11, "the job passes 8,192 bytes"
+  too-long : jobLimit < length job → JobOutcome job (refusal JobTooLong J 0)
+  -- 10, "the contents break their rules"
+  no-contents : length job ≤ jobLimit → ((b : Bodies) → Follows job b → ⊥) → JobOutcome job (refusal Contents J 0)
+  -- 1 to 5, "A body that fails to read ends the job there."
+  first-fault : (b : Bodies) → Holds job b → (r : Reason) (i : ℕ) → TreeFault (b .first) r i → JobOutcome job (refusal r S i)
+  second-fault : (b : Bodies) → Holds job b → (s : Tree) → TreeBody (b .first) s → (r : Reason) (i : ℕ) → TreeFault (b .second) r i
+      → JobOutcome job (refusal r T i)
+  list-fault : (b : Bodies) → Holds job b → (s t : Tree) → TreeBody (b .first) s → TreeBody (b .second) t → (r : Reason) (i : ℕ)
+      → ListFault (b .list) r i → JobOutcome job (refusal r K i)
+  -- 6 and 7, at the label's "first byte in K"
+  first-lacks : (s t : Tree) (xs : List Label) → Asks job s t xs → (n : ℕ) → IsFirstLacks s t xs n
+      → JobOutcome job (refusal FirstLacks K (placeOfNumber xs n))
+  second-lacks : (s t : Tree) (xs : List Label) → Asks job s t xs → (n : ℕ) → IsSecondLacks s t xs n
+      → JobOutcome job (refusal SecondLacks K (placeOfNumber xs n))
+  -- 8, "three required leaves have different closer pairs"
+  disagreement : (s t : Tree) (xs : List Label) → Asks job s t xs → (a b c : Label) → Common s t (setOf xs) → IsDisagreement s t xs a b c
+      → JobOutcome job (clashed xs a b c)
+  -- demand 3: the set, and "the normal text of the common restriction"
+  largest-set : (s t : Tree) (xs : List Label) → Asks job s t xs → (X : List Label) → IsAnswer s t xs X
+      → JobOutcome job (solved s X (keptText (restrict (setOf X) s)))

@@ -1,0 +1,40 @@
+-- The papers' number and values for each case of the answers over jobs. Scope paper, "Why a job is turned down".
+use Prim.Native.Nat.{ℕ, _+_}
+use mathlib.Core.Bool.{cond}
+use mathlib.Core.List.{List, [], _∷_}
+use lib.ListN.{length}
+use Rattle.agreement.specs.Places.{placeOfLabel}
+use Rattle.mast.specs.Largest.{Solution, solved, clashed, turned}
+use Rattle.mast.specs.Rows.{Said, granted, refusalRow, eightRow}
+use Rattle.job.specs.declared.LineAnswer.{LineAnswer}
+use Rattle.job.specs.declared.LineAnswer.the-variants.{Written, TooShort}
+use Rattle.job.specs.declared.JobAnswer.{JobAnswer}
+use Rattle.job.specs.declared.JobAnswer.the-variants as job-answer
+use Rattle.job.specs.Printed.{recordLines}
+use Rattle.job.specs.Answered.{fits, outputShort}
+
+-- the length of the line, or number 9
+unfoldable pub saidOfLine : LineAnswer → Said
+unfolding refusalRow
+saidOfLine (Written n) = granted (n ∷ [])
+saidOfLine (TooShort q) = refusalRow q
+
+-- the length of the lines, number 8 with the places of its labels in the job, or another row
+unfoldable pub saidOfJob : JobAnswer → Said
+unfolding refusalRow eightRow
+saidOfJob (job-answer.Written n) = granted (n ∷ [])
+saidOfJob (job-answer.Disagree n) = eightRow (n .first .start) (n .second .start) (n .third .start)
+saidOfJob (job-answer.Refused q) = refusalRow q
+
+-- what has to be said of a text for an output of `room` bytes
+unfoldable pub saidOfText : List ℕ → ℕ → Said
+unfolding refusalRow
+saidOfText text room = cond (fits text room) (granted (length text ∷ [])) (refusalRow outputShort)
+
+-- what has to be said of a job's outcome, where its list begins at `base`
+unfoldable pub saidOfOutcome : ℕ → ℕ → Solution → Said
+unfolding saidOfText refusalRow eightRow placeOfLabel recordLines
+saidOfOutcome base room (solved s X text) = saidOfText (recordLines X text) room
+saidOfOutcome base room (clashed xs a b c) =
+    eightRow (base + placeOfLabel xs 0 a) (base + placeOfLabel xs 0 b) (base + placeOfLabel xs 0 c)
+saidOfOutcome base room (turned q) = refusalRow q

@@ -1,0 +1,183 @@
+-- The labels of a tree and of a list stand in the text where their places say, and an answer says its row. Assumes nothing.
+use Prim.Native.Nat.{ℕ, zero, suc, _+_, _<_}
+use mathlib.Core.Path.{_≡_, refl, sym, _∙_, ap, subst}
+use mathlib.Core.Bool.{true, false, cond}
+use mathlib.Core.Logic.{_⊎_, inl, inr, ⊎-elim}
+use mathlib.Core.List.{List, [], _∷_, _++_, append-assoc, append-nil}
+use native.Mathlib.Nat.{not-suc-le-zero, le-of-suc-le-suc}
+use native.Mathlib.Omega.{arith}
+use lib.ListN.{length, getD, length-append}
+use Rattle.trees.specs.Label.{Label, sameLabel, isIn}
+use Rattle.trees.specs.Tree.{Tree, leaf, node}
+use Rattle.trees.specs.Text.{written, textOf}
+use Rattle.trees.specs.Words.{Within}
+use Rattle.trees.proofs.Bools.{bool-cases, clash}
+use Rattle.trees.proofs.LabelLaws.{same-eq}
+use Rattle.lists.specs.ReadList.{joined, startsOf}
+use Rattle.agreement.specs.Closer.{holds}
+use Rattle.agreement.specs.Places.{placeIn, placeOfNumber, placeOfLabel}
+use Rattle.mast.specs.Largest.{Solution, solved, clashed, turned, largestOf}
+use Rattle.mast.specs.Rows.{saidOfLargest, saidOfSolution}
+use Rattle.agreement.proofs.HoldsLaws.{holds-leaf, holds-cases}
+
+-- ---- the labels of a tree
+
+-- a part of a part
+inner : (b y a text : List ℕ) (x : Label) (p q : ℕ) → text ≡ b ++ (y ++ a) → q ≡ length b + p → Within y p x → Within text q x
+inner b y a text x p q e f s =
+    record {
+      before = b ++ s .before;
+      after = s .after ++ a;
+      is =
+          e
+          ∙ ap (λ (l : List ℕ). b ++ (l ++ a)) (s .is)
+          ∙ simp append-assoc;
+      place = omega (arith, s .place, length-append b (s .before));
+    }
+
+-- the place in the node's own text, and where that text starts
+placed : (t : Tree) (x : Label) → holds t x ≡ true → (q : ℕ) → (p : ℕ) × (placeIn t q x ≡ q + p) × Within (written t) p x
+unfolding placeIn written
+placed (leaf y) x h q =
+    let e = holds-leaf y x h in
+    (0, omega arith, record { before = []; after = []; is = sym e ∙ sym (append-nil x); place = refl })
+placed (node a b) x h q = go (bool-cases (holds a x)) (placed a x) (placed b x)
+  where
+    go : (holds a x ≡ true) ⊎ (holds a x ≡ false)
+        → (holds a x ≡ true → (r : ℕ) → (p : ℕ) × (placeIn a r x ≡ r + p) × Within (written a) p x)
+        → (holds b x ≡ true → (r : ℕ) → (p : ℕ) × (placeIn b r x ≡ r + p) × Within (written b) p x)
+        → (p : ℕ) × (cond (holds a x) (placeIn a (q + 1) x) (placeIn b (q + 1 + length (written a) + 1) x) ≡ q + p)
+        × Within (40 ∷ (written a ++ (44 ∷ (written b ++ (41 ∷ []))))) p x
+    go (inl k) f g =
+        let w = f k (q + 1) in
+        (1 + w .0, rw k (omega (arith, w .1)), inner (40 ∷ []) (written a) (44 ∷ (written b ++ (41 ∷ []))) _ x (w .0) (1 + w .0) refl refl (w .2))
+    go (inr k) f g =
+        let e : cond (holds a x) (placeIn a (q + 1) x) (placeIn b (q + 1 + length (written a) + 1) x)
+        ≡ placeIn b (q + 1 + length (written a) + 1) x = rw k refl in
+        let hb = ⊎-elim (λ (z : holds a x ≡ true). clash z k) (λ (z : holds b x ≡ true). z) (holds-cases a b x h) in
+        let w = g hb (q + 1 + length (written a) + 1) in (
+          1 + length (written a) + 1 + w .0,
+          e ∙ omega (arith, w .1),
+          inner (40 ∷ (written a ++ (44 ∷ []))) (written b) (41 ∷ []) _ x (w .0) (1 + length (written a) + 1 + w .0)
+              (ap (λ (l : List ℕ). 40 ∷ l) (sym (append-assoc (written a) (44 ∷ []) (written b ++ (41 ∷ [])))))
+              (omega (arith, length-append (written a) (44 ∷ [])))
+              (w .2),
+        )
+
+-- a label of a tree stands at its place
+pub tree-shown : (t : Tree) (x : Label) → holds t x ≡ true → Within (textOf t) (placeIn t 0 x) x
+unfolding textOf
+tree-shown t x h =
+    let w = placed t x h 0 in
+    inner [] (written t) (59 ∷ []) (written t ++ (59 ∷ [])) x (w .0) (placeIn t 0 x) refl (w .1) (w .2)
+
+-- a part of a part of a text
+pub within-part : (text : List ℕ) (q : ℕ) (y : List ℕ) (p : ℕ) (x : List ℕ) → Within text q y → Within y p x → Within text (q + p) x
+within-part text q y p x w v = inner (w .before) y (w .after) text x p (q + p) (w .is) (ap (λ (k : ℕ). k + p) (w .place)) v
+
+-- ---- the labels of a list
+
+-- a label of the list, with what ends it
+pub record Listed (text : List ℕ) (p : ℕ) (x : Label) : Type 0 where
+  pub shown : Within text p x
+  pub ends : (shown .after ≡ []) ⊎ ((rest : List ℕ) × (shown .after ≡ 44 ∷ rest))
+
+listed-later : (y text : List ℕ) (p q : ℕ) (x : Label) → q ≡ length y + 1 + p → Listed text p x → Listed (y ++ (44 ∷ text)) q x
+listed-later y text p q x e l =
+    record {
+      shown =
+          record {
+            before = y ++ (44 ∷ l .shown .before);
+            after = l .shown .after;
+            is =
+                ap (λ (z : List ℕ). y ++ (44 ∷ z)) (l .shown .is)
+                ∙ sym (append-assoc y (44 ∷ l .shown .before) (x ++ l .shown .after));
+            place = omega (arith, l .shown .place, length-append y (44 ∷ l .shown .before));
+          };
+      ends = l .ends;
+    }
+
+listed-at : (xs : List Label) (x : Label) → isIn x xs ≡ true → (q : ℕ) → (p : ℕ) × (placeOfLabel xs q x ≡ q + p) × Listed (joined xs) p x
+unfolding placeOfLabel joined isIn
+listed-at [] x h q = clash h refl
+listed-at (y ∷ []) x h q = go (bool-cases (sameLabel x y))
+  where
+    go : (sameLabel x y ≡ true) ⊎ (sameLabel x y ≡ false)
+        → (p : ℕ) × (cond (sameLabel x y) q (placeOfLabel [] (q + length y + 1) x) ≡ q + p) × Listed y p x
+    go (inl k) =
+        let e = same-eq x y k in (
+          0,
+          rw k (omega arith),
+          record { shown = record { before = []; after = []; is = sym e ∙ sym (append-nil x); place = refl }; ends = inl refl },
+        )
+    go (inr k) = clash (rw k at h) refl
+listed-at (y ∷ z ∷ xs) x h q = go (bool-cases (sameLabel x y)) (listed-at (z ∷ xs) x)
+  where
+    go : (sameLabel x y ≡ true) ⊎ (sameLabel x y ≡ false)
+        → (isIn x (z ∷ xs) ≡ true → (r : ℕ) → (p : ℕ) × (placeOfLabel (z ∷ xs) r x ≡ r + p) × Listed (joined (z ∷ xs)) p x)
+        → (p : ℕ) × (cond (sameLabel x y) q (placeOfLabel (z ∷ xs) (q + length y + 1) x) ≡ q + p) × Listed (y ++ (44 ∷ joined (z ∷ xs))) p x
+    go (inl k) f =
+        let e = same-eq x y k in (
+          0,
+          rw k (omega arith),
+          record {
+            shown =
+                record {
+                  before = [];
+                  after = 44 ∷ joined (z ∷ xs);
+                  is = ap (λ (l : List ℕ). l ++ (44 ∷ joined (z ∷ xs))) (sym e);
+                  place = refl;
+                };
+            ends = inr (joined (z ∷ xs), refl);
+          },
+        )
+    go (inr k) f =
+        let w = f (rw k at h) (q + length y + 1) in
+        (length y + 1 + w .0, rw k (omega (arith, w .1)), listed-later y (joined (z ∷ xs)) (w .0) (length y + 1 + w .0) x refl (w .2))
+
+-- a label of a list stands at its place
+pub list-listed : (xs : List Label) (x : Label) → isIn x xs ≡ true → Listed (joined xs) (placeOfLabel xs 0 x) x
+list-listed xs x h =
+    let w = listed-at xs x h 0 in
+    let e : w .0 ≡ placeOfLabel xs 0 x = omega (arith, w .1) in
+    subst (λ (p : ℕ). Listed (joined xs) p x) e (w .2)
+
+-- ---- the label with a number
+
+numbered-at : (xs : List Label) (n : ℕ) → n < length xs → (q : ℕ)
+    → (p : ℕ) × (getD (startsOf xs q) n 0 ≡ q + p) × Within (joined xs) p (getD xs n [])
+unfolding startsOf joined
+numbered-at [] n h q = absurd (not-suc-le-zero h)
+numbered-at (y ∷ []) zero h q = (0, omega arith, record { before = []; after = []; is = sym (append-nil y); place = refl })
+numbered-at (y ∷ []) (suc n) h q = absurd (not-suc-le-zero (le-of-suc-le-suc h))
+numbered-at (y ∷ z ∷ xs) zero h q =
+    (0, omega arith, record { before = []; after = 44 ∷ joined (z ∷ xs); is = refl; place = refl })
+numbered-at (y ∷ z ∷ xs) (suc n) h q =
+    let w = numbered-at (z ∷ xs) n (le-of-suc-le-suc h) (q + length y + 1) in
+    let x : Label = getD (z ∷ xs) n [] in (
+      length y + 1 + w .0,
+      w .1 ∙ omega arith,
+      inner (y ++ (44 ∷ [])) (joined (z ∷ xs)) [] (y ++ (44 ∷ joined (z ∷ xs))) x (w .0) (length y + 1 + w .0)
+          (sym (append-assoc y (44 ∷ []) (joined (z ∷ xs) ++ []) ∙ ap (λ (l : List ℕ). y ++ (44 ∷ l)) (append-nil (joined (z ∷ xs)))))
+          (omega (arith, length-append y (44 ∷ [])))
+          (w .2),
+    )
+
+-- the label with number n stands at its place
+pub number-shown : (xs : List Label) (n : ℕ) → n < length xs → Within (joined xs) (placeOfNumber xs n) (getD xs n [])
+unfolding placeOfNumber
+number-shown xs n h =
+    let w = numbered-at xs n h 0 in
+    let e : w .0 ≡ getD (startsOf xs 0) n 0 = omega (arith, w .1) in
+    subst (λ (p : ℕ). Within (joined xs) p (getD xs n [])) e (w .2)
+
+pub list-shown : (xs : List Label) (x : Label) → isIn x xs ≡ true → Within (joined xs) (placeOfLabel xs 0 x) x
+list-shown xs x h = list-listed xs x h .shown
+
+-- ---- the rows
+
+pub said-exactly : (x : Solution) → saidOfLargest (largestOf x .answer) ≡ saidOfSolution x
+unfolding largestOf saidOfLargest saidOfSolution
+said-exactly (solved s X text) = refl
+said-exactly (clashed xs a b c) = refl
+said-exactly (turned q) = refl

@@ -1,0 +1,40 @@
+-- The papers' number and values for each case of the engine's answer. Scope paper, "Why a job is turned down".
+use Prim.Native.Nat.{ℕ}
+use mathlib.Core.List.{List, [], _∷_}
+use lib.ListN.{length}
+use Rattle.trees.specs.declared.Reason.the-variants.{Disagree as DisagreeReason}
+use Rattle.trees.specs.declared.Body.the-variants.{K}
+use Rattle.trees.specs.declared.Refusal.{Refusal}
+use Rattle.trees.specs.Refusals.{numberOf, letterOf}
+use Rattle.agreement.specs.Places.{placeOfLabel}
+use Rattle.mast.specs.declared.LargestAnswer.{LargestAnswer}
+use Rattle.mast.specs.declared.LargestAnswer.the-variants.{Found, Disagree, Refused}
+use Rattle.mast.specs.Largest.{Solution, solved, clashed, turned}
+
+pub data Said : Type 0 where
+  -- no row turns the job away: the answer's own numbers
+  granted : List ℕ → Said
+  -- a row: number, letter and place, and for number 8 the places of its three labels
+  row : (number letter place : ℕ) → List ℕ → Said
+
+unfoldable pub refusalRow : Refusal → Said
+unfolding numberOf letterOf
+refusalRow q = row (numberOf (q .reason)) (letterOf (q .body)) (q .place) []
+
+unfoldable pub eightRow : ℕ → ℕ → ℕ → Said
+unfolding numberOf letterOf
+eightRow a b c = row (numberOf DisagreeReason) (letterOf K) 0 (a ∷ b ∷ c ∷ [])
+
+-- the size and the text's length, or a row
+unfoldable pub saidOfLargest : LargestAnswer → Said
+unfolding refusalRow eightRow
+saidOfLargest (Found size bytes) = granted (size ∷ bytes ∷ [])
+saidOfLargest (Disagree a b c) = eightRow a b c
+saidOfLargest (Refused q) = refusalRow q
+
+-- what has to be said of two trees and a list
+unfoldable pub saidOfSolution : Solution → Said
+unfolding refusalRow eightRow placeOfLabel
+saidOfSolution (solved s X text) = granted (length X ∷ length text ∷ [])
+saidOfSolution (clashed xs a b c) = eightRow (placeOfLabel xs 0 a) (placeOfLabel xs 0 b) (placeOfLabel xs 0 c)
+saidOfSolution (turned q) = refusalRow q
