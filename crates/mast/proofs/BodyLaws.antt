@@ -44,7 +44,7 @@ use Rattle.mast.specs.Weighing.{chosenFrom}
 use Rattle.mast.specs.Engine.{OwnLeaves, OwnList, Ranked}
 use Rattle.mast.specs.Required.{Marks, MarkedTo}
 use Rattle.mast.specs.Solving.{Solved}
-use Rattle.mast.specs.Asked.{Clashes, SomeClash, placesOfThree, FirstMissing, AskedOf}
+use Rattle.mast.specs.Asked.{Clashes, SomeTree, SomeClash, placesOfThree, FirstMissing, AskedOf}
 use Rattle.mast.specs.Finish.{InRange, ByRank, fittedSet, resultFrom}
 use Rattle.mast.specs.Given.{Reads}
 use Rattle.mast.specs.Bodies.{Bodies, Bounded, OrderedBodies, unreadTree, unreadList}
@@ -98,13 +98,13 @@ pub record Unread (A : Type 0) (x : Reading A) (body : Body) (answer : LargestAn
   pub told : answer ≡ Refused (record { reason = reason; body = body; place = place })
 
 unread-case : (body : Body) (x : Reading Tree) (q : Refusal) → treeRead body x .answer ≡ TreeRefused q
-    → Unread Tree x body (unreadTree (treeRead body x .answer))
+    → Unread Tree x body (unreadTree (treeRead body x .answer) body)
 unfolding treeRead unreadTree
 unread-case body (good t) q h = let z : _≡_ {A = ℕ} 0 1 = cc in absurd (omega arith)
 unread-case body (refused r i) q h = record { reason = r; place = i; is = refl; told = refl }
 
 pub tree-unread : (body : Body) (text : List ℕ) (r : TreeRead) (q : Refusal) → r ≡ treeRead body (readTree text)
-    → r .answer ≡ TreeRefused q → Unread Tree (readTree text) body (unreadTree (r .answer))
+    → r .answer ≡ TreeRefused q → Unread Tree (readTree text) body (unreadTree (r .answer) body)
 tree-unread body text r q e h = rw e (unread-case body (readTree text) q (rw e at h))
 
 pub record ListAs (text : List ℕ) (places : LabelPlaces) : Type 0 where
@@ -321,6 +321,12 @@ module _ (s t : Tree) (xs : List Label) (text : List ℕ) (tree1 tree2 : TreeArr
     count = h .asked .one .count;
     numbered = h .asked .one .numbered;
   }
+
+  pub some-first : SomeTree tree1 order1 m
+  some-first = record { t = s; C = common s t; of = h .asked .one }
+
+  pub some-second : SomeTree tree2 order2 m
+  some-second = record { t = t; C = common s t; of = h .asked .two }
 
   pub in-range : InRange order1 m
   in-range r l = omega (arith, h .asked .one .numbered r (omega (arith, h .asked .one .count)) .below, few-nodes s (h .asked .one .valid))

@@ -10,25 +10,27 @@ use native.Mathlib.Decide.{decLt}
 use lib.Dec.{eqb}
 use lib.ListN.{length, getD, set, drop, replicate, length-set, length-replicate, getD-replicate, drop-of-length-le}
 use lib.Seq.{drop-cons, getD-set-same, getD-set-other}
-use borrow.Author.Tests.{eqb-true, eqb-false}
-use Rattle.trees.specs.Label.{Label, labelLess, isIn}
+use borrow.Author.Tests.{eq-eqb, ne-eqb, eqb-true, eqb-false}
+use Rattle.trees.specs.Label.{Label, labelLess, isIn, distinct, goodLabel, goodLabels}
 use Rattle.trees.specs.Tree.{Tree, leaf, node, leaves, Valid}
 use Rattle.trees.specs.Arrays.{nodesOf}
-use Rattle.trees.specs.Stored.{partOf}
+use Rattle.trees.specs.Stored.{partOf, storedBytes, storedOf}
 use Rattle.trees.specs.Postorder.{postorder, subtree, leafLabels}
-use Rattle.trees.proofs.Bools.{bool-cases, clash}
+use Rattle.trees.proofs.Bools.{bool-cases, clash, refute}
 use Rattle.trees.proofs.ArrayLaws.{few-nodes}
-use Rattle.trees.proofs.LabelLaws.{less-ne}
-use Rattle.trees.proofs.ListLaws.{at-in}
-use Rattle.trees.proofs.PostorderLaws.{length-postorder, leaf-labels, leaf-once, leaf-label}
+use Rattle.trees.proofs.LabelLaws.{less-ne, less-trans}
+use Rattle.trees.proofs.ListLaws.{at-in, good-head, good-parts, distinct-none, distinct-tail}
+use Rattle.trees.proofs.StoredLaws.{stored-back}
+use Rattle.trees.proofs.PostorderLaws.{length-postorder, leaf-labels, leaf-once, leaf-label, subtree-in, holds-leaf}
 use Rattle.agreement.specs.Closer.{holds}
 use Rattle.agreement.specs.Sets.{increasing, insert, sorted, keep, common}
-use Rattle.agreement.proofs.SetLaws.{inc-head, inc-tail, length-sorted, length-insert, common-inc, in-common, keep-few, within-few}
+use Rattle.agreement.proofs.SetLaws.{in-nil, in-cases, inc-head, inc-tail, length-sorted, length-insert, sorted-inc, common-inc, in-common, keep-few, within-few}
+use Rattle.agreement.proofs.KeepLaws.{distinct-keep}
 use Rattle.leaves.specs.Find.{foundLeaf}
 use Rattle.leaves.proofs.OwnLaws.{own-leaf, own-inner, own-label, ownFound, found, missing}
 use Rattle.leaves.specs.Numbered.{LeafIs, Numbered}
 use Rattle.mast.specs.Engine.{OwnLeaves, Ordered, Ranked}
-use Rattle.mast.specs.Ranks.{Place, Opened, commonFrom, mostCommon, Collected, ranksOf}
+use Rattle.mast.specs.Ranks.{PartnerIs, Partners, NodePartner, storedLabel, Placed, Place, Opened, commonFrom, mostCommon, Collected, ranksOf}
 
 -- what the arrays of a tree tell of a leaf
 
@@ -38,6 +40,9 @@ module _ {t : Tree} {text left start size : List ℕ} {nodes : ℕ} (o : OwnLeav
 
   pub own-part : (u : ℕ) (x : Label) → LeafIs t u x → partOf (getD start u 0) (getD size u 0) text ≡ x
   own-part u x l = rw (o .text-is, o .start-is, o .size-is) (own-label t (o .valid) u x (l .below) (l .is))
+
+  pub own-leaf-at : (u : ℕ) (x : Label) → u < nodes → subtree (postorder t) u ≡ leaf x → LeafIs t u x
+  own-leaf-at u x h e = record { below = rw (← o .nodes-is) h; is = e }
 
   pub own-found : (x : Label) → foundLeaf text left start size x nodes ≡ ownFound t x
   own-found x = rw (o .text-is, o .left-is, o .start-is, o .size-is, o .nodes-is) refl
@@ -112,30 +117,109 @@ insert-after x (y ∷ ys) (suc p) h zero l = absurd (omega arith)
 insert-after x (y ∷ ys) (suc p) h (suc r) l =
     rw (place-skip x y ys p h) (insert-after x ys p (place-tail x y ys p h) r (omega arith))
 
--- the search for the place, when it has passed r labels
-module _ {t : Tree} {text left start size : List ℕ} {nodes : ℕ} (o : OwnLeaves t text left start size nodes)
-    (C : List Label) (order : List ℕ) (m : ℕ) (e : m ≡ length C) (n : Numbered t C order) (x : Label) (r : ℕ)
-    (passed : (j : ℕ) → j < r → labelLess x (getD C j []) ≡ false) where
-  pub place-last : m ≤ r → r ≤ m → Place x C r
-  place-last h k = record { low = omega arith; before = passed; at = λ l. absurd (omega arith) }
+-- a label of lower rank comes first
+inc-less : (C : List Label) → increasing C ≡ true → (i j : ℕ) → i < j → j < length C
+    → labelLess (getD C i []) (getD C j []) ≡ true
+inc-less [] h i j l k = absurd (omega arith)
+inc-less (x ∷ xs) h i zero l k = absurd (omega arith)
+inc-less (x ∷ xs) h zero (suc j) l k = inc-head x xs h (getD xs j []) (at-in xs j (omega arith))
+inc-less (x ∷ xs) h (suc i) (suc j) l k = inc-less xs (inc-tail x xs h) i j (omega arith) (omega arith)
 
-  module _ (h : r < m) (y : Label)
-      (shown : getD order r 0 < 159 → y ≡ partOf (getD start (getD order r 0) 0) (getD size (getD order r 0) 0) text) where
-    next-is : y ≡ getD C r []
-    next-is =
-        let l : LeafIs t (getD order r 0) (getD C r []) = n r (omega arith) in
-        shown (own-low o (getD order r 0) (omega (arith, l .below, o .nodes-is))) ∙ own-part o (getD order r 0) (getD C r []) l
+-- the search for the place by halves: labels before `low` are not greater, those from `high` on are
+pub record Halved (x : Label) (C : List Label) (low high : ℕ) : Type 0 where
+  pub before : (r : ℕ) → r < low → labelLess x (getD C r []) ≡ false
+  pub after : (r : ℕ) → high ≤ r → r < length C → labelLess x (getD C r []) ≡ true
 
-    pub place-found : labelLess x y ≡ true → Place x C r
-    place-found k =
-        record { low = omega arith; before = passed; at = λ l. ap (labelLess x) (sym next-is) ∙ k }
+pub halved-all : (x : Label) (C : List Label) (m : ℕ) → m ≡ length C → Halved x C 0 m
+halved-all x C m e = record { before = λ r h. absurd (omega arith); after = λ r h l. absurd (omega arith) }
 
-    pub place-passed : labelLess x y ≡ false → (j : ℕ) → j < r + 1 → labelLess x (getD C j []) ≡ false
-    place-passed k j l = go (bool-cases (eqb j r))
-      where
-        go : (eqb j r ≡ true) ⊎ (eqb j r ≡ false) → labelLess x (getD C j []) ≡ false
-        go (inl d) = rw (eqb-true j r d) (ap (labelLess x) (sym next-is) ∙ k)
-        go (inr d) = passed j (omega (arith, eqb-false j r d))
+pub halved-low : (x : Label) (C : List Label) (low high mid : ℕ) → increasing C ≡ true → mid < length C
+    → labelLess x (getD C mid []) ≡ true → Halved x C low high → Halved x C low mid
+halved-low x C low high mid inc h e k = record { before = k .before; after = λ r l b. go r l b (bool-cases (eqb r mid)) }
+  where
+    go : (r : ℕ) → mid ≤ r → r < length C → (eqb r mid ≡ true) ⊎ (eqb r mid ≡ false) → labelLess x (getD C r []) ≡ true
+    go r l b (inl d) = rw (eqb-true r mid d) e
+    go r l b (inr d) = less-trans x (getD C mid []) (getD C r []) e (inc-less C inc mid r (omega (arith, eqb-false r mid d)) b)
+
+pub halved-high : (x : Label) (C : List Label) (low high mid : ℕ) → increasing C ≡ true → mid < length C
+    → labelLess x (getD C mid []) ≡ false → Halved x C low high → Halved x C (mid + 1) high
+halved-high x C low high mid inc h e k = record { before = λ r l. go r l (bool-cases (eqb r mid)); after = k .after }
+  where
+    go : (r : ℕ) → r < mid + 1 → (eqb r mid ≡ true) ⊎ (eqb r mid ≡ false) → labelLess x (getD C r []) ≡ false
+    go r l (inl d) = rw (eqb-true r mid d) e
+    go r l (inr d) =
+        refute (labelLess x (getD C r []))
+        (λ f. clash (less-trans x (getD C r []) (getD C mid []) f (inc-less C inc r mid (omega (arith, eqb-false r mid d)) h)) e)
+
+pub halved-place : (x : Label) (C : List Label) (low high : ℕ) → high ≤ low → low ≤ length C → Halved x C low high → Place x C low
+halved-place x C low high h l k = record { low = l; before = k .before; at = λ b. k .after low h b }
+
+good-in : (x : Label) (xs : List Label) → isIn x xs ≡ true → goodLabels xs ≡ true → goodLabel x ≡ true
+good-in x [] m g = in-nil x m
+good-in x (y ∷ ys) m g = go (in-cases x y ys m) (good-head y ys g) (λ k. good-in x ys k)
+  where
+    go : (x ≡ y) ⊎ (isIn x ys ≡ true) → (goodLabel y ≡ true) × (goodLabels ys ≡ true) → (isIn x ys ≡ true → goodLabels ys ≡ true → goodLabel x ≡ true)
+        → goodLabel x ≡ true
+    go (inl e) h ih = rw e (h .0)
+    go (inr k) h ih = ih k (h .1)
+
+-- the label that is compared with
+pub stored-at : {t : Tree} {text left start size : List ℕ} {nodes : ℕ} → OwnLeaves t text left start size nodes → (u : ℕ) (x : Label) → LeafIs t u x
+    → storedLabel text start size u ≡ x
+stored-at {t} {text} {left} {start} {size} o u x l =
+    ap (λ (y : Label). storedBytes (storedOf y)) (own-part o u x l) ∙ stored-back x (good-parts x (good-in x (leaves t) held (o .valid .labels)) .1)
+  where
+    held : isIn x (leaves t) ≡ true
+    held = subtree-in t u (l .below) x (holds-leaf (subtree (postorder t) u) x (l .is))
+
+-- the leaf of the other tree
+
+no-empty : (t : Tree) → Valid t → holds t [] ≡ false
+unfolding holds
+no-empty t v = refute (isIn [] (leaves t)) (λ m. omega (arith, good-parts [] (good-in [] (leaves t) m (v .labels)) .0))
+
+module _ {t : Tree} {text left start size : List ℕ} {nodes : ℕ} (o : OwnLeaves t text left start size nodes) (x : Label) (v : ℕ) where
+  pub partner-empty : x ≡ [] → PartnerIs t x 159
+  partner-empty e = record { held = λ h. clash (rw e at h) (no-empty t (o .valid)); lacked = λ h. refl }
+
+  pub partner-missing : v ≡ foundLeaf text left start size x nodes → v ≡ nodes → PartnerIs t x 159
+  partner-missing e n = record { held = λ h. absurd (omega (arith, search-found o x h .below, o .nodes-is)); lacked = λ h. refl }
+
+  pub partner-found : v ≡ foundLeaf text left start size x nodes → (v ≡ nodes → ⊥) → PartnerIs t x v
+  partner-found e n = record { held = λ h. rw e (search-found o x h); lacked = λ h. absurd (n (e ∙ search-missing o x h)) }
+
+pub partners-none : (s t : Tree) (partner : List ℕ) → Partners 0 s t partner
+partners-none s t partner = record { each = λ u h. absurd (omega arith) }
+
+pub partners-next : (n : ℕ) (s t : Tree) (partner : List ℕ) (v : ℕ) → n < 159 → length partner ≡ 159
+    → ((x : Label) → subtree (postorder s) n ≡ leaf x → PartnerIs t x v) → Partners n s t partner → Partners (n + 1) s t (set partner n v)
+partners-next n s t partner v small size here p = record { each = λ u h x e. go u h x e (bool-cases (eqb u n)) }
+  where
+    go : (u : ℕ) → u < n + 1 → (x : Label) → subtree (postorder s) u ≡ leaf x → (eqb u n ≡ true) ⊎ (eqb u n ≡ false)
+        → PartnerIs t x (getD (set partner n v) u 0)
+    go u h x e (inl d) =
+        let q = eqb-true u n d in
+        rw (q, getD-set-same partner n v 0 (omega arith)) (here x (rw q at e))
+    go u h x e (inr d) =
+        let q = eqb-false u n d in
+        rw (getD-set-other partner n u v 0 q) (p .each u (omega (arith, q)) x e)
+
+pub node-partner : {s : Tree} {text left start size : List ℕ} {nodes : ℕ} → OwnLeaves s text left start size nodes → (t : Tree) (partner : List ℕ)
+    → Partners nodes s t partner → (u v : ℕ) → u < nodes → v ≡ cond (eqb (getD left u 0) u) (getD partner u 0) 159 → NodePartner s t u v
+node-partner {s} {text} {left} {start} {size} {nodes} o t partner p u v h e = record { at-leaf = at-leaf′; at-node = at-node′ }
+  where
+    below : u < nodesOf s
+    below = rw (← o .nodes-is) h
+
+    at-leaf′ : (x : Label) → subtree (postorder s) u ≡ leaf x → PartnerIs t x v
+    at-leaf′ x k =
+        let l : getD left u 0 ≡ u = rw (o .left-is) (own-leaf s u x below k) in
+        rw (e, eq-eqb (getD left u 0) u l) (p .each u h x k)
+
+    at-node′ : (a b : Tree) → subtree (postorder s) u ≡ node a b → v ≡ 159
+    at-node′ a b k =
+        let l : getD left u 0 < u = rw (o .left-is) (own-inner s u a b below k) in
+        e ∙ (rw (ne-eqb (getD left u 0) u (omega arith)) refl)
 
 -- the leaf put in at the same place
 pub numbered-insert : (t : Tree) (C : List Label) (p u : ℕ) (x : Label) (old new : List ℕ) → LeafIs t u x → Place x C p
@@ -262,113 +346,111 @@ from-few s t u v w =
 
 -- the next node of the first tree, from the last
 
-module _ {s t : Tree} {text1 left1 start1 size1 : List ℕ} {nodes1 : ℕ} {text2 left2 start2 size2 : List ℕ} {nodes2 : ℕ}
-    (o1 : OwnLeaves s text1 left1 start1 size1 nodes1) (o2 : OwnLeaves t text2 left2 start2 size2 nodes2)
-    {order1 order2 : List ℕ} {m u : ℕ} (h : u < nodes1) (c : Collected s t (u + 1) order1 order2 m) where
+module _ {s t : Tree} {text1 left1 start1 size1 : List ℕ} {nodes1 : ℕ} (o1 : OwnLeaves s text1 left1 start1 size1 nodes1) (vt : Valid t)
+    {order1 : List ℕ} {m u v : ℕ} (h : u < nodes1) (p : NodePartner s t u v) (c : Collected s t (u + 1) order1 m) where
   below : u < nodesOf s
   below = rw (← o1 .nodes-is) h
 
-  same : commonFrom s t u ≡ commonFrom s t (u + 1) → Collected s t u order1 order2 m
-  same e =
-      record {
-        size1 = c .size1;
-        size2 = c .size2;
-        count = c .count ∙ ap (length {A = Label}) (sym e);
-        first = subst (λ (C : List Label). Numbered s C order1) (sym e) (c .first);
-        second = subst (λ (C : List Label). Numbered t C order2) (sym e) (c .second);
-      }
-
-  pub collected-inner : (getD left1 u 0 ≡ u → ⊥) → Collected s t u order1 order2 m
-  collected-inner n = go (subtree (postorder s) u) refl
-    where
-      go : (r : Tree) → subtree (postorder s) u ≡ r → Collected s t u order1 order2 m
-      go (leaf x) e = absurd (own-is-node o1 u h n x (record { below = below; is = e }))
-      go (node a b) e = same (from-node s t u below a b e)
+  same : commonFrom s t u ≡ commonFrom s t (u + 1) → Collected s t u order1 m
+  same e = record {
+    size1 = c .size1;
+    count = c .count ∙ ap (length {A = Label}) (sym e);
+    first = subst (λ (C : List Label). Numbered s C order1) (sym e) (c .first);
+  }
 
   -- as many as the smaller tree has leaves: no leaf is left that the other holds
-  pub collected-full : (most : ℕ) → most ≡ mostCommon s t → m ≡ most → Collected s t u order1 order2 m
+  pub collected-full : (most : ℕ) → most ≡ mostCommon s t → m ≡ most → Collected s t u order1 m
   collected-full most b e = go (subtree (postorder s) u) refl
     where
-      full : (x : Label) → subtree (postorder s) u ≡ leaf x → (holds t x ≡ true) ⊎ (holds t x ≡ false) → Collected s t u order1 order2 m
+      full : (x : Label) → subtree (postorder s) u ≡ leaf x → (holds t x ≡ true) ⊎ (holds t x ≡ false) → Collected s t u order1 m
       full x k (inl held) =
           absurd (omega (
             arith,
             c .count,
-            from-few s t u (o1 .valid) (o2 .valid),
+            from-few s t u (o1 .valid) vt,
             length-insert x (commonFrom s t (u + 1)),
             ap (length {A = Label}) (from-held s t u below x k held),
           ))
       full x k (inr lacked) = same (from-lacked s t u below x k lacked)
 
-      go : (r : Tree) → subtree (postorder s) u ≡ r → Collected s t u order1 order2 m
+      go : (r : Tree) → subtree (postorder s) u ≡ r → Collected s t u order1 m
       go (leaf x) k = full x k (bool-cases (holds t x))
       go (node a b) k = same (from-node s t u below a b k)
 
-  module _ (own : getD left1 u 0 ≡ u) (x : Label) (shown : x ≡ partOf (getD start1 u 0) (getD size1 u 0) text1) where
-    pub collected-leaf : LeafIs s u x
-    collected-leaf =
-        let l = own-is-leaf o1 u h own in
-        rw (shown, own-part o1 u (l .0) (l .1)) (l .1)
+  -- no leaf of the other has its label
+  pub collected-none : 159 ≤ v → Collected s t u order1 m
+  collected-none l = go (subtree (postorder s) u) refl
+    where
+      held-or : (x : Label) → subtree (postorder s) u ≡ leaf x → (holds t x ≡ true) ⊎ (holds t x ≡ false) → Collected s t u order1 m
+      held-or x k (inl q) = absurd (omega (arith, p .at-leaf x k .held q .below, few-nodes t vt))
+      held-or x k (inr q) = same (from-lacked s t u below x k q)
 
-    module _ (v : ℕ) (v-is : v ≡ foundLeaf text2 left2 start2 size2 x nodes2) where
-      pub collected-missing : v ≡ nodes2 → Collected s t u order1 order2 m
-      collected-missing e = go (bool-cases (holds t x))
-        where
-          go : (holds t x ≡ true) ⊎ (holds t x ≡ false) → Collected s t u order1 order2 m
-          go (inl k) = absurd (omega (arith, search-found o2 x k .below, o2 .nodes-is))
-          go (inr k) = same (from-lacked s t u below x (collected-leaf .is) k)
+      go : (r : Tree) → subtree (postorder s) u ≡ r → Collected s t u order1 m
+      go (leaf x) k = held-or x k (bool-cases (holds t x))
+      go (node a b) k = same (from-node s t u below a b k)
 
-      held : (v ≡ nodes2 → ⊥) → holds t x ≡ true
-      held n = go (bool-cases (holds t x))
-        where
-          go : (holds t x ≡ true) ⊎ (holds t x ≡ false) → holds t x ≡ true
-          go (inl k) = k
-          go (inr k) = absurd (n (v-is ∙ search-missing o2 x k))
+  -- one has
+  pub collected-add : (v < 159) → (new1 : List ℕ)
+      → Placed u m (commonFrom s t (u + 1)) (storedLabel text1 start1 size1 u) order1 new1 → Collected s t u new1 (m + 1)
+  collected-add l new1 a = go (subtree (postorder s) u) refl
+    where
+      C : List Label
+      C = commonFrom s t (u + 1)
 
-      pub collected-add : (v ≡ nodes2 → ⊥) → (p : ℕ) → Place x (commonFrom s t (u + 1)) p → (new1 new2 : List ℕ)
-          → Opened p m u order1 new1 → Opened p m v order2 new2 → Collected s t u new1 new2 (m + 1)
-      collected-add n p pl new1 new2 a b =
-          let e = from-held s t u below x (collected-leaf .is) (held n) in
-          let C = commonFrom s t (u + 1) in
-          let lv : LeafIs t v x = rw v-is (search-found o2 x (held n)) in
+      held-or : (x : Label) → subtree (postorder s) u ≡ leaf x → (holds t x ≡ true) ⊎ (holds t x ≡ false) → Collected s t u new1 (m + 1)
+      held-or x k (inr q) = absurd (omega (arith, p .at-leaf x k .lacked q))
+      held-or x k (inl q) =
+          let e = from-held s t u below x k q in
+          let leaf-is : LeafIs s u x = record { below = below; is = k } in
+          let place : Place x (commonFrom s t (u + 1)) (a .place) =
+          subst (λ (y : Label). Place y (commonFrom s t (u + 1)) (a .place)) (stored-at o1 u x leaf-is) (a .is) in
           record {
-            size1 = a .size ∙ c .size1;
-            size2 = b .size ∙ c .size2;
-            count = rw e (omega (arith, c .count, length-insert x C));
-            first = rw e (numbered-insert s C p u x order1 new1 (collected-leaf) pl (c .first) (rw (← c .count) a));
-            second = rw e (numbered-insert t C p v x order2 new2 lv pl (c .second) (rw (← c .count) b));
+            size1 = a .opened .size ∙ c .size1;
+            count = rw e (omega (arith, c .count, length-insert x (commonFrom s t (u + 1))));
+            first = rw e (numbered-insert s (commonFrom s t (u + 1)) (a .place) u x order1 new1 leaf-is place (c .first) (rw (← c .count) (a .opened)));
           }
 
-pub collected-start : (s t : Tree) (n : ℕ) (order1 order2 : List ℕ) → n ≡ nodesOf s → length order1 ≡ 80 → length order2 ≡ 80
-    → Collected s t n order1 order2 0
-collected-start s t n order1 order2 e p q =
-    let none : commonFrom s t n ≡ [] = ap (commonFrom s t) e ∙ from-end s t in
-    record {
-      size1 = p;
-      size2 = q;
-      count = rw none refl;
-      first = rw none (λ r l. absurd (omega arith));
-      second = rw none (λ r l. absurd (omega arith));
-    }
+      go : (r : Tree) → subtree (postorder s) u ≡ r → Collected s t u new1 (m + 1)
+      go (leaf x) k = held-or x k (bool-cases (holds t x))
+      go (node a′ b′) k = absurd (omega (arith, p .at-node a′ b′ k))
 
-pub collected-all : (s t : Tree) (order1 order2 : List ℕ) (m : ℕ) → Collected s t 0 order1 order2 m → Ordered s t order1 order2 m
-collected-all s t order1 order2 m c =
-    record {
-      count = c .count ∙ ap (length {A = Label}) (from-start s t);
-      first = subst (λ (C : List Label). Numbered s C order1) (from-start s t) (c .first);
-      second = subst (λ (C : List Label). Numbered t C order2) (from-start s t) (c .second);
-    }
+pub collected-start : (s t : Tree) (n : ℕ) (order1 : List ℕ) → n ≡ nodesOf s → length order1 ≡ 80 → Collected s t n order1 0
+collected-start s t n order1 e p =
+    let none : commonFrom s t n ≡ [] = ap (commonFrom s t) e ∙ from-end s t in
+    record { size1 = p; count = rw none refl; first = rw none (λ r l. absurd (omega arith)) }
+
+distinct-drop : (ts : List Tree) (u : ℕ) → distinct (leafLabels ts) ≡ true → distinct (leafLabels (drop u ts)) ≡ true
+unfolding leafLabels
+distinct-drop ts zero d = d
+distinct-drop [] (suc u) d = d
+distinct-drop (leaf x ∷ ts) (suc u) d = distinct-drop ts u (distinct-tail x (leafLabels ts) d)
+distinct-drop (node a b ∷ ts) (suc u) d = distinct-drop ts u d
+
+pub from-inc : (s t : Tree) (u : ℕ) → distinct (leaves s) ≡ true → increasing (commonFrom s t u) ≡ true
+unfolding commonFrom
+from-inc s t u d = sorted-inc (keep (holds t) (leafLabels (drop u (postorder s)))) (distinct-keep (holds t) _ (distinct-drop (postorder s) u (rw (leaf-labels s) d)))
+
+-- with the leaves of the other tree
+pub collected-all : (s t : Tree) (order1 order2 partner : List ℕ) (m : ℕ) → Collected s t 0 order1 m → Partners (nodesOf s) s t partner
+    → ((r : ℕ) → r < m → getD order2 r 0 ≡ getD partner (getD order1 r 0) 0) → Ordered s t order1 order2 m
+collected-all s t order1 order2 partner m c p at = record {
+  count = count′;
+  first = first′;
+  second = λ r h.
+      let l = first′ r h in
+      rw (at r (omega (arith, count′)))
+      (p .each (getD order1 r 0) (l .below) (getD (common s t) r []) (l .is) .held (in-common s t (getD (common s t) r []) (at-in (common s t) r h) .1));
+}
+  where
+    count′ : m ≡ length (common s t)
+    count′ = c .count ∙ ap (length {A = Label}) (from-start s t)
+
+    first′ : Numbered s (common s t) order1
+    first′ = subst (λ (C : List Label). Numbered s C order1) (from-start s t) (c .first)
 
 -- ranks
 
 -- labels at different ranks differ
-inc-less : (C : List Label) → increasing C ≡ true → (i j : ℕ) → i < j → j < length C
-    → labelLess (getD C i []) (getD C j []) ≡ true
-inc-less [] h i j l k = absurd (omega arith)
-inc-less (x ∷ xs) h i zero l k = absurd (omega arith)
-inc-less (x ∷ xs) h zero (suc j) l k = inc-head x xs h (getD xs j []) (at-in xs j (omega arith))
-inc-less (x ∷ xs) h (suc i) (suc j) l k = inc-less xs (inc-tail x xs h) i j (omega arith) (omega arith)
-
 pub inc-differ : (C : List Label) → increasing C ≡ true → (i j : ℕ) → i < length C → j < length C → (i ≡ j → ⊥)
     → getD C i [] ≡ getD C j [] → ⊥
 inc-differ C h i j p q n e = go (decLt i j)
@@ -460,3 +542,7 @@ ranked t C order m v inc e few n =
         let same : x ≡ getD C j [] =
         leaf-label x (getD C j []) (sym k ∙ ap (subtree (postorder t)) d ∙ n j (omega arith) .is) in
         clash (at-in C j (omega arith)) (subst (λ (y : Label). isIn y C ≡ false) same z)
+
+pub empty-list : (x : Label) → length x ≡ 0 → x ≡ []
+empty-list [] e = refl
+empty-list (b ∷ x) e = absurd (omega arith)

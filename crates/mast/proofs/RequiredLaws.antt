@@ -297,18 +297,18 @@ past-next C x r before here q h e = go (bool-cases (eqb q r))
     go (inl d) = here (ap (λ (i : ℕ). getD C i []) (sym (eqb-true q r d)) ∙ e)
     go (inr d) = before q (omega (arith, eqb-false q r d)) e
 
--- leaves by these ranks
+-- entries at places
 
-pub record LeavesTo (n : ℕ) (ranks order leaf : List ℕ) : Type 0 where
+pub record EntriesTo (n : ℕ) (ranks order leaf : List ℕ) : Type 0 where
   pub size : length leaf ≡ 80
   pub each : (i : ℕ) → i < n → getD leaf i 0 ≡ getD order (getD ranks i 0) 0
 
-pub leaves-none : (ranks order : List ℕ) → LeavesTo 0 ranks order (replicate 80 0)
-leaves-none ranks order = record { size = length-replicate {A = ℕ} 80 0; each = λ i h. absurd (omega arith) }
+pub entries-none : (ranks order : List ℕ) → EntriesTo 0 ranks order (replicate 80 0)
+entries-none ranks order = record { size = length-replicate {A = ℕ} 80 0; each = λ i h. absurd (omega arith) }
 
-pub leaves-next : (n : ℕ) (ranks order leaf : List ℕ) (u : ℕ) → n < 80 → u ≡ getD order (getD ranks n 0) 0 → LeavesTo n ranks order leaf
-    → LeavesTo (n + 1) ranks order (set leaf n u)
-leaves-next n ranks order leaf u small e t = record {
+pub entries-next : (n : ℕ) (ranks order leaf : List ℕ) (u : ℕ) → n < 80 → u ≡ getD order (getD ranks n 0) 0 → EntriesTo n ranks order leaf
+    → EntriesTo (n + 1) ranks order (set leaf n u)
+entries-next n ranks order leaf u small e t = record {
   size = length-set leaf n u ∙ t .size;
   each = λ i h. go i h (bool-cases (eqb i n));
 }

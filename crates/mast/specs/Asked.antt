@@ -81,10 +81,3 @@ pub record AskedOf (s t : Tree) (K : List Label) (text1 : List ℕ) (tree1 tree2
   pub asked : Asked s t K tree1 tree2 order1 order2 m number (places .count)
   pub text-is : text1 ≡ textOf s
   pub list-places : places ≡ placesOf K
-
-pub record SomeAsked (text1 : List ℕ) (tree1 tree2 : TreeArrays) (order1 order2 : List ℕ) (m : ℕ) (number : List ℕ) (places : LabelPlaces)
-    : Type 0 where
-  pub s : Tree
-  pub t : Tree
-  pub K : List Label
-  pub of : AskedOf s t K text1 tree1 tree2 order1 order2 m number places

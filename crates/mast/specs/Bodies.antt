@@ -2,6 +2,9 @@
 use Prim.Native.Nat.{ℕ, _≤_}
 use mathlib.Core.Path.{_≡_}
 use mathlib.Core.List.{List}
+use Rattle.trees.specs.declared.Body.{Body}
+use Rattle.trees.specs.declared.Body.the-variants.{K as listBody}
+use Rattle.trees.specs.declared.Reason.the-variants.{EndsTooSoon}
 use Rattle.trees.specs.declared.TreeArrays.{TreeArrays}
 use Rattle.trees.specs.Label.{Label}
 use Rattle.trees.specs.Tree.{Tree, leafLimit}
@@ -15,18 +18,24 @@ use Rattle.lists.specs.declared.ListAnswer.the-variants.{Labels, Refused as Lis
 use Rattle.lists.specs.declared.LabelPlaces.{LabelPlaces}
 use Rattle.lists.specs.ReadList.{placesOf}
 use Rattle.mast.specs.declared.LargestAnswer.{LargestAnswer}
-use Rattle.mast.specs.declared.LargestAnswer.the-variants.{Found, Refused}
+use Rattle.mast.specs.declared.LargestAnswer.the-variants.{Refused}
 use Rattle.mast.specs.Given.{Reads}
 use Rattle.mast.specs.Engine.{Ordered}
 use Rattle.mast.specs.Ranks.{mostCommon}
 
--- the answer to a body that was turned down; one that was read does not come here
-unfoldable pub unreadTree : TreeAnswer → LargestAnswer
-unreadTree (Leaves n) = Found n 0
-unreadTree (TreeRefused q) = Refused q
+-- a refusal, where a text was read after all: it does not come there
+unfoldable pub unreadBody : Body → LargestAnswer
+unreadBody body = Refused (record { reason = EndsTooSoon; body = body; place = 0 })
+
+-- the answer to a body that was turned down
+unfoldable pub unreadTree : TreeAnswer → Body → LargestAnswer
+unfolding unreadBody
+unreadTree (Leaves n) body = unreadBody body
+unreadTree (TreeRefused q) body = Refused q
 
 unfoldable pub unreadList : ListAnswer → LargestAnswer
-unreadList (Labels n) = Found n 0
+unfolding unreadBody
+unreadList (Labels n) = unreadBody listBody
 unreadList (ListRefused q) = Refused q
 
 -- they are read, and these are their arrays and places

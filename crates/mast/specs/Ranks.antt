@@ -6,11 +6,12 @@ use mathlib.Core.Bool.{true, false}
 use mathlib.Core.List.{List, []}
 use lib.ListN.{length, getD, set, drop, replicate}
 use Rattle.trees.specs.Label.{Label, labelLess}
-use Rattle.trees.specs.Tree.{Tree, leaves}
-use Rattle.trees.specs.Postorder.{postorder, leafLabels}
+use Rattle.trees.specs.Tree.{Tree, leaf, node, leaves}
+use Rattle.trees.specs.Postorder.{postorder, subtree, leafLabels}
+use Rattle.trees.specs.Stored.{storedBytes, storedOf, leafLabel}
 use Rattle.agreement.specs.Closer.{holds}
 use Rattle.agreement.specs.Sets.{sorted, keep}
-use Rattle.leaves.specs.Numbered.{Numbered}
+use Rattle.leaves.specs.Numbered.{LeafIs, Numbered}
 
 -- p is the place before the first label of C that is greater than x, or the end
 pub record Place (x : Label) (C : List Label) (p : ℕ) : Type 0 where
@@ -33,13 +34,35 @@ commonFrom s t u = sorted (keep (holds t) (leafLabels (drop u (postorder s))))
 abbrev pub mostCommon : Tree → Tree → ℕ
 mostCommon s t = min (length (leaves s)) (length (leaves t))
 
--- the arrays have these labels by their leaves in both trees
-pub record Collected (s t : Tree) (u : ℕ) (order1 order2 : List ℕ) (m : ℕ) : Type 0 where
+-- the arrays have these labels by their leaves in the first tree
+pub record Collected (s t : Tree) (u : ℕ) (order1 : List ℕ) (m : ℕ) : Type 0 where
   pub size1 : length order1 ≡ 80
-  pub size2 : length order2 ≡ 80
   pub count : m ≡ length (commonFrom s t u)
   pub first : Numbered s (commonFrom s t u) order1
-  pub second : Numbered t (commonFrom s t u) order2
+
+-- the leaf of t with label x, 159 where there is none
+pub record PartnerIs (t : Tree) (x : Label) (v : ℕ) : Type 0 where
+  pub held : holds t x ≡ true → LeafIs t v x
+  pub lacked : holds t x ≡ false → v ≡ 159
+
+-- it, for each of the first n nodes of s that is a leaf
+pub record Partners (n : ℕ) (s t : Tree) (partner : List ℕ) : Type 0 where
+  pub each : (u : ℕ) → u < n → (x : Label) → subtree (postorder s) u ≡ leaf x → PartnerIs t x (getD partner u 0)
+
+-- and 159 for an inner node
+pub record NodePartner (s t : Tree) (u v : ℕ) : Type 0 where
+  pub at-leaf : (x : Label) → subtree (postorder s) u ≡ leaf x → PartnerIs t x v
+  pub at-node : (a b : Tree) → subtree (postorder s) u ≡ node a b → v ≡ 159
+
+-- the label of leaf u as it is kept
+abbrev pub storedLabel : List ℕ → List ℕ → List ℕ → ℕ → Label
+storedLabel text start size u = storedBytes (storedOf (leafLabel text start size u))
+
+-- leaf u is put in at the place of its label x
+pub record Placed (u m : ℕ) (C : List Label) (x : Label) (old new : List ℕ) : Type 0 where
+  pub place : ℕ
+  pub is : Place x C place
+  pub opened : Opened place m u old new
 
 -- the ranks after r entries of the order
 unfoldable pub ranksOf : List ℕ → ℕ → List ℕ

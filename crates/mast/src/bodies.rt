@@ -12,7 +12,7 @@ ghost use Rattle.trees.specs.declared.Reason.the-variants.{FirstLacks, SecondLa
 ghost use Rattle.agreement.specs.Answer.{answer};
 ghost use Rattle.mast.specs.Largest.{clashed, solutionOf, solve, largestOf, outputOf};
 ghost use Rattle.mast.specs.Solving.{Rooted, OwnColumns, Solved};
-ghost use Rattle.mast.specs.Asked.{RankedArrays, Asked, Clashes, SomeTree, SomeClash, FirstMissing, AskedOf, SomeAsked};
+ghost use Rattle.mast.specs.Asked.{RankedArrays, Asked, Clashes, SomeTree, SomeClash, FirstMissing};
 ghost use Rattle.mast.specs.Bodies.{Bodies, Bounded, OrderedBodies};
 use crate::LargestAnswer;
 use crate::LargestResult;
@@ -20,8 +20,10 @@ use crate::columns::gathered;
 use crate::finish::solution;
 use crate::finish::without_set;
 use crate::ranks::common_order;
+use crate::ranks::partners;
 use crate::ranks::rank_leaves;
 use crate::required::clash_places;
+use crate::required::entries_at;
 use crate::required::holds_label;
 use crate::required::mark_required;
 use crate::solve::solve_set;
@@ -48,27 +50,10 @@ fn order_in(
         → Bounded (now (first .entry)) (now (second .entry)) most
         → OrderedBodies (now (first .entry)) (now (second .entry)) list tree1 tree2 places (now (order1 .exit)) (now (order2 .exit)) r) ⌝ }
 {
-    let left1 = tree1.left;
-    let start1 = tree1.start;
-    let size1 = tree1.size;
-    let left2 = tree2.left;
-    let start2 = tree2.start;
-    let size2 = tree2.size;
-    common_order(
-        first,
-        &left1,
-        &start1,
-        &size1,
-        tree1.nodes,
-        second,
-        &left2,
-        &start2,
-        &size2,
-        tree2.nodes,
-        order1,
-        order2,
-        most,
-    )
+    let partner = partners(first, tree1, second, tree2);
+    let m = common_order(first, tree1, &partner, order1, most);
+    *order2 = entries_at(order1, &partner, m);
+    m
 }
 
 // A tree's columns, with the ranks of the m common labels by the numbers of their leaves.
@@ -159,43 +144,6 @@ fn lacks(
     }))
 }
 
-// The answer where every label of the list is common: the set, or number 8.
-fn answer_held(
-    first: &[u8],
-    tree1: TreeArrays,
-    tree2: TreeArrays,
-    order1: &[usize; 80],
-    order2: &[usize; 80],
-    m: usize,
-    number: &[u8; 81],
-    places: LabelPlaces,
-    out: &mut [u8],
-) -> LargestResult
-    requires { ⌜ SomeAsked (now first) tree1 tree2 (now order1) (now order2) m (now number) places ⌝ }
-    ensures answer { λ r. ⌜ ((s t : Tree) (xs : List Label)
-        → AskedOf s t xs (now (first .entry)) tree1 tree2 (now (order1 .entry)) (now (order2 .entry)) m (now (number .entry)) places
-        → r ≡ largestOf (solutionOf s xs (length (now (out .entry))) (answer s t xs))) ⌝ }
-    ensures output { λ _. ⌜ ((s t : Tree) (xs : List Label)
-        → AskedOf s t xs (now (first .entry)) tree1 tree2 (now (order1 .entry)) (now (order2 .entry)) m (now (number .entry)) places
-        → now (out .exit) ≡ outputOf (solutionOf s xs (length (now (out .entry))) (answer s t xs)) (now (out .entry))) ⌝ }
-{
-    let mut chosen = [false; 80];
-    if find_set(
-        tree1,
-        tree2,
-        order1,
-        order2,
-        m,
-        number,
-        places.count,
-        &mut chosen,
-    ) {
-        solution(tree1, first, order1, m, &chosen, out)
-    } else {
-        eight(tree1, tree2, order1, order2, m, number, places)
-    }
-}
-
 // The answer to two trees and a list that were read; no more than `most` labels are common.
 pub(crate) fn answer_bodies(
     first: &[u8],
@@ -222,15 +170,19 @@ pub(crate) fn answer_bodies(
     if n < places.count {
         return lacks(first, tree1, list, places, n);
     }
-    answer_held(
-        first,
+    let mut chosen = [false; 80];
+    if find_set(
         tree1,
         tree2,
         &order1,
         &order2,
         m,
         &number,
-        places,
-        out,
-    )
+        places.count,
+        &mut chosen,
+    ) {
+        solution(tree1, first, &order1, m, &chosen, out)
+    } else {
+        eight(tree1, tree2, &order1, &order2, m, &number, places)
+    }
 }

@@ -5,15 +5,15 @@ use lists::LabelPlaces;
 use lists::ListAnswer;
 use newick::TreeAnswer;
 use trees::Body;
+use trees::Reason;
 use trees::Refusal;
 ghost use mathlib.Core.Path.{_≡_};
 ghost use mathlib.Core.List.{[]};
-ghost use Prim.Native.Nat.{min};
 ghost use lib.ListN.{length};
 ghost use Rattle.lists.specs.ReadList.{placesOf};
 ghost use Rattle.mast.specs.Largest.{solve, largestOf, outputOf};
 ghost use Rattle.mast.specs.Finish.{resultFrom};
-ghost use Rattle.mast.specs.Bodies.{unreadTree, unreadList};
+ghost use Rattle.mast.specs.Bodies.{unreadBody, unreadTree, unreadList};
 
 mod bodies;
 mod columns;
@@ -38,31 +38,35 @@ pub struct LargestResult {
     pub set: LabelPlaces,
 }
 
-// The answer to a tree text that was turned down; one that was read does not come here.
-fn unread_tree(answer: TreeAnswer) -> LargestResult
-    ensures { λ r. ⌜ r ≡ resultFrom (unreadTree answer) (placesOf []) ⌝ }
+// A refusal for a text that was read, where one that was not is asked for: no such call is made, and no success is made up.
+fn unread(body: Body) -> LargestResult
+    ensures { λ r. ⌜ r ≡ resultFrom (unreadBody body) (placesOf []) ⌝ }
+{
+    finish::without_set(LargestAnswer::Refused(Refusal {
+        reason: Reason::EndsTooSoon,
+        body,
+        place: 0,
+    }))
+}
+
+// The answer to a tree text that was turned down.
+fn unread_tree(answer: TreeAnswer, body: Body) -> LargestResult
+    ensures { λ r. ⌜ r ≡ resultFrom (unreadTree answer body) (placesOf []) ⌝ }
 {
     match answer {
-        TreeAnswer::Leaves(n) => finish::without_set(LargestAnswer::Found(n, 0)),
+        TreeAnswer::Leaves(_) => unread(body),
         TreeAnswer::Refused(refusal) => finish::without_set(LargestAnswer::Refused(refusal)),
     }
 }
 
-// The answer to a list that was turned down; one that was read does not come here.
+// The answer to a list that was turned down.
 fn unread_list(answer: ListAnswer) -> LargestResult
     ensures { λ r. ⌜ r ≡ resultFrom (unreadList answer) (placesOf []) ⌝ }
 {
     match answer {
-        ListAnswer::Labels(n) => finish::without_set(LargestAnswer::Found(n, 0)),
+        ListAnswer::Labels(_) => unread(Body::K),
         ListAnswer::Refused(refusal) => finish::without_set(LargestAnswer::Refused(refusal)),
     }
-}
-
-// The smaller number.
-fn fewer(a: usize, b: usize) -> usize
-    ensures { λ r. ⌜ r ≡ min a b ⌝ }
-{
-    if a < b { a } else { b }
 }
 
 // The largest set of common leaves that holds the required ones and on which the trees agree, the first in label order among
@@ -78,12 +82,12 @@ pub fn largest(first: &[u8], second: &[u8], required: &[u8], out: &mut [u8]) -> 
     let one = newick::read_tree(first, Body::S);
     let answer1 = one.answer;
     let TreeAnswer::Leaves(leaves1) = answer1 else {
-        return unread_tree(answer1);
+        return unread_tree(answer1, Body::S);
     };
     let two = newick::read_tree(second, Body::T);
     let answer2 = two.answer;
     let TreeAnswer::Leaves(leaves2) = answer2 else {
-        return unread_tree(answer2);
+        return unread_tree(answer2, Body::T);
     };
     let list = lists::read_list(required, Body::K);
     let answer3 = list.answer;
@@ -93,6 +97,6 @@ pub fn largest(first: &[u8], second: &[u8], required: &[u8], out: &mut [u8]) -> 
     let tree1 = one.tree;
     let tree2 = two.tree;
     let places = list.places;
-    let most = fewer(leaves1, leaves2);
+    let most = trees::least(leaves1, leaves2);
     bodies::answer_bodies(first, tree1, second, tree2, required, places, most, out)
 }

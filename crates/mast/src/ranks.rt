@@ -1,55 +1,110 @@
 // The leaves common to both trees in label order, and the rank of each leaf's label among them.
 //
-// Names that end in 1 are of the first tree, in 2 of the second.
+// Names that end in 1 are of the first tree, in 2 of the second. A label that is put in order is kept apart from its text.
 ghost use mathlib.Core.Path.{_≡_};
 ghost use mathlib.Core.List.{List};
-ghost use mathlib.Core.Bool.{true};
-ghost use Prim.Native.Nat.{_+_, _<_, _≤_};
+ghost use mathlib.Core.Bool.{true, cond};
+ghost use Prim.Native.Nat.{ℕ, _+_, _<_, _≤_};
+ghost use lib.Dec.{eqb};
 ghost use lib.ListN.{length, set, getD};
-ghost use Rattle.trees.specs.Label.{Label};
+ghost use Rattle.trees.specs.Label.{Label, labelLess};
 ghost use Rattle.trees.specs.Tree.{Tree, Valid};
-ghost use Rattle.trees.specs.Stored.{partOf};
+ghost use Rattle.trees.specs.Stored.{storedBytes, leafLabel};
 ghost use Rattle.agreement.specs.Sets.{increasing};
 ghost use Rattle.leaves.specs.Numbered.{Numbered};
-ghost use Rattle.mast.specs.Engine.{OwnLeaves, Ordered, Ranked};
-ghost use Rattle.mast.specs.Ranks.{Place, Opened, mostCommon, Collected};
+ghost use Rattle.mast.specs.Engine.{OwnLeaves, Ranked};
+ghost use Rattle.mast.specs.Ranks.{PartnerIs, Partners, Place, Opened, mostCommon, Collected, NodePartner, storedLabel, Placed};
+use trees::Order;
+use trees::StoredLabel;
+use trees::TreeArrays;
 
-// The label of leaf u. The test is for safety alone: a tree has no node past 158.
-fn label_of<'a>(text: &'a [u8], start: &[usize; 159], size: &[usize; 159], u: usize) -> &'a [u8]
-    ensures { λ r. ⌜ (u < 159 → now r ≡ partOf (getD (now (start .entry)) u 0) (getD (now (size .entry)) u 0) (now (text .entry))) ⌝ }
-{
-    if u < 159 {
-        trees::part(text, start[u], size[u])
-    } else {
-        trees::part(text, 0, 0)
-    }
-}
+// No node has this number.
+const NONE: usize = 159;
 
-// Where a new label goes among the labels of the first m leaves in `order`: before the first that is greater.
-fn place_of(
+// The number of the leaf with this label, or NONE; an inner node's label has no bytes and is not looked for.
+fn look_up(
     text: &[u8],
     left: &[usize; 159],
     start: &[usize; 159],
     size: &[usize; 159],
     nodes: usize,
+    label: &[u8],
+) -> usize
+    ensures { λ r. ⌜ ((t : Tree) → OwnLeaves t (now (text .entry)) (now (left .entry)) (now (start .entry)) (now (size .entry)) nodes
+        → PartnerIs t (now (label .entry)) r) ⌝ }
+{
+    if label.len() == 0 {
+        return NONE;
+    }
+    let v = leaves::find_leaf(text, left, start, size, nodes, label);
+    if v == nodes { NONE } else { v }
+}
+
+// For each leaf of the first tree the second tree's leaf with the same label.
+pub(crate) fn partners(
+    first: &[u8],
+    tree1: TreeArrays,
+    second: &[u8],
+    tree2: TreeArrays,
+) -> [usize; 159]
+    requires { ⌜ tree1 .nodes ≤ 159 ⌝ }
+    ensures { λ r. ⌜ ((s t : Tree)
+        → OwnLeaves s (now (first .entry)) (tree1 .left) (tree1 .start) (tree1 .size) (tree1 .nodes)
+        → OwnLeaves t (now (second .entry)) (tree2 .left) (tree2 .start) (tree2 .size) (tree2 .nodes)
+        → Partners (tree1 .nodes) s t r) ⌝ }
+{
+    let start1 = tree1.start;
+    let size1 = tree1.size;
+    let left2 = tree2.left;
+    let start2 = tree2.start;
+    let size2 = tree2.size;
+    let mut partner = [NONE; 159];
+    let mut u: usize = 0;
+    while u < tree1.nodes {
+        let label = trees::leaf_label(first, &start1, &size1, u);
+        partner[u] = look_up(second, &left2, &start2, &size2, tree2.nodes, label);
+        u += 1;
+    }
+    partner
+}
+
+fn comes_first(a: StoredLabel, b: StoredLabel) -> bool
+    ensures { λ r. ⌜ r ≡ labelLess (storedBytes a) (storedBytes b) ⌝ }
+{
+    let order = trees::compare_stored(a, b);
+    match order {
+        Order::Less => true,
+        Order::Equal => false,
+        Order::Greater => false,
+    }
+}
+
+// Where a new label goes among the labels of the first m leaves in `order`, by halves: before the first that is greater.
+fn place_of(
+    text: &[u8],
+    start: &[usize; 159],
+    size: &[usize; 159],
     order: &[usize; 80],
     m: usize,
-    label: &[u8],
+    label: StoredLabel,
 ) -> usize
     requires { ⌜ m ≤ 80 ⌝ }
     ensures { λ r. ⌜ r ≤ m ⌝ }
-    ensures { λ r. ⌜ ((t : Tree) (C : List Label)
-        → OwnLeaves t (now (text .entry)) (now (left .entry)) (now (start .entry)) (now (size .entry)) nodes
-        → m ≡ length C → Numbered t C (now (order .entry)) → Place (now (label .entry)) C r) ⌝ }
+    ensures { λ r. ⌜ ((t : Tree) (left : List ℕ) (nodes : ℕ) (C : List Label)
+        → OwnLeaves t (now (text .entry)) left (now (start .entry)) (now (size .entry)) nodes → increasing C ≡ true
+        → m ≡ length C → Numbered t C (now (order .entry)) → Place (storedBytes label) C r) ⌝ }
 {
-    let mut r: usize = 0;
-    while r < m {
-        if trees::comes_before(label, label_of(text, start, size, order[r])) {
-            return r;
+    let mut low: usize = 0;
+    let mut high = m;
+    while low < high {
+        let mid = low + (high - low) / 2;
+        if comes_first(label, trees::stored_leaf(text, start, size, order[mid])) {
+            high = mid;
+        } else {
+            low = mid + 1;
         }
-        r += 1;
     }
-    r
+    low
 }
 
 // Puts u at place p, the entries from p on one place further.
@@ -65,98 +120,87 @@ fn open_at(order: &mut [usize; 80], m: usize, p: usize, u: usize)
     order[p] = u;
 }
 
-// Puts node u of the first tree into the order if it is a leaf whose label the second tree holds. Once as many are there as
-// the smaller tree has leaves, no label is looked up.
-fn add_common(
-    text1: &[u8],
-    left1: &[usize; 159],
-    start1: &[usize; 159],
-    size1: &[usize; 159],
-    nodes1: usize,
-    text2: &[u8],
-    left2: &[usize; 159],
-    start2: &[usize; 159],
-    size2: &[usize; 159],
-    nodes2: usize,
-    order1: &mut [usize; 80],
-    order2: &mut [usize; 80],
-    most: usize,
+// Puts leaf u into the order of m leaves at its label's place.
+fn insert_leaf(
+    text: &[u8],
+    start: &[usize; 159],
+    size: &[usize; 159],
+    order: &mut [usize; 80],
     m: usize,
     u: usize,
+)
+    requires { ⌜ m < 80 ⌝ }
+    ensures { λ _. ⌜ ((t : Tree) (left : List ℕ) (nodes : ℕ) (C : List Label)
+        → OwnLeaves t (now (text .entry)) left (now (start .entry)) (now (size .entry)) nodes → increasing C ≡ true
+        → m ≡ length C → Numbered t C (now (order .entry)) → length (now (order .entry)) ≡ 80
+        → Placed u m C (storedLabel (now (text .entry)) (now (start .entry)) (now (size .entry)) u) (now (order .entry)) (now (order .exit))) ⌝ }
+{
+    let label = trees::stored_leaf(text, start, size, u);
+    let p = place_of(text, start, size, order, m, label);
+    open_at(order, m, p, u);
+}
+
+// The partner v of node u, where u is a leaf: its own left child.
+fn leaf_partner(child: usize, u: usize, v: usize) -> usize
+    ensures { λ r. ⌜ r ≡ cond (eqb child u) v 159 ⌝ }
+{
+    if child == u { v } else { NONE }
+}
+
+// Puts node u of the first tree into the order if it has a partner v in the second. Once as many are there as the smaller tree has
+// leaves, no further one is common.
+fn add_common(
+    text1: &[u8],
+    start1: &[usize; 159],
+    size1: &[usize; 159],
+    order1: &mut [usize; 80],
+    m: usize,
+    most: usize,
+    u: usize,
+    v: usize,
 ) -> usize
-    requires { ⌜ (m ≤ most) × (most ≤ 80) × (u < 159) ⌝ }
+    requires { ⌜ (m ≤ most) × (most ≤ 80) ⌝ }
     ensures { λ r. ⌜ r ≤ most ⌝ }
-    ensures { λ r. ⌜ ((s t : Tree)
-        → OwnLeaves s (now (text1 .entry)) (now (left1 .entry)) (now (start1 .entry)) (now (size1 .entry)) nodes1
-        → OwnLeaves t (now (text2 .entry)) (now (left2 .entry)) (now (start2 .entry)) (now (size2 .entry)) nodes2
-        → most ≡ mostCommon s t → u < nodes1 → Collected s t (u + 1) (now (order1 .entry)) (now (order2 .entry)) m
-        → Collected s t u (now (order1 .exit)) (now (order2 .exit)) r) ⌝ }
+    ensures { λ r. ⌜ ((s t : Tree) (left1 : List ℕ) (nodes1 : ℕ)
+        → OwnLeaves s (now (text1 .entry)) left1 (now (start1 .entry)) (now (size1 .entry)) nodes1 → Valid t
+        → most ≡ mostCommon s t → u < nodes1 → NodePartner s t u v → Collected s t (u + 1) (now (order1 .entry)) m
+        → Collected s t u (now (order1 .exit)) r) ⌝ }
 {
     if m == most {
         return m;
     }
-    let child = left1[u];
-    if child != u {
+    if NONE <= v {
         return m;
     }
-    let label = label_of(text1, start1, size1, u);
-    let v = leaves::find_leaf(text2, left2, start2, size2, nodes2, label);
-    if v == nodes2 {
-        return m;
-    }
-    let p = place_of(text1, left1, start1, size1, nodes1, order1, m, label);
-    open_at(order1, m, p, u);
-    open_at(order2, m, p, v);
+    insert_leaf(text1, start1, size1, order1, m, u);
     m + 1
 }
 
-// The leaves common to both trees in label order: their numbers in the first tree and in the second, and how many they are,
-// `most` at the most. Nodes are taken from the last to the first, as the definition of the common labels inserts them.
+// The leaves common to both trees in label order by their numbers in the first tree, and how many they are, `most` at the most. Nodes
+// are taken from the last to the first, as the definition of the common labels inserts them.
 pub(crate) fn common_order(
     text1: &[u8],
-    left1: &[usize; 159],
-    start1: &[usize; 159],
-    size1: &[usize; 159],
-    nodes1: usize,
-    text2: &[u8],
-    left2: &[usize; 159],
-    start2: &[usize; 159],
-    size2: &[usize; 159],
-    nodes2: usize,
+    tree1: TreeArrays,
+    partner: &[usize; 159],
     order1: &mut [usize; 80],
-    order2: &mut [usize; 80],
     most: usize,
 ) -> usize
-    requires { ⌜ (nodes1 ≤ 159) × (most ≤ 80) ⌝ }
+    requires { ⌜ (tree1 .nodes ≤ 159) × (most ≤ 80) ⌝ }
     ensures { λ r. ⌜ r ≤ 80 ⌝ }
     ensures { λ r. ⌜ ((s t : Tree)
-        → OwnLeaves s (now (text1 .entry)) (now (left1 .entry)) (now (start1 .entry)) (now (size1 .entry)) nodes1
-        → OwnLeaves t (now (text2 .entry)) (now (left2 .entry)) (now (start2 .entry)) (now (size2 .entry)) nodes2
-        → most ≡ mostCommon s t → Ordered s t (now (order1 .exit)) (now (order2 .exit)) r) ⌝ }
+        → OwnLeaves s (now (text1 .entry)) (tree1 .left) (tree1 .start) (tree1 .size) (tree1 .nodes) → Valid t
+        → most ≡ mostCommon s t → Partners (tree1 .nodes) s t (now (partner .entry)) → Collected s t 0 (now (order1 .exit)) r) ⌝ }
 {
+    let left1 = tree1.left;
+    let start1 = tree1.start;
+    let size1 = tree1.size;
     *order1 = [0; 80];
-    *order2 = [0; 80];
     let mut m: usize = 0;
-    let mut u: usize = nodes1;
+    let mut u: usize = tree1.nodes;
     while 0 < u {
         u -= 1;
-        m = add_common(
-            text1,
-            left1,
-            start1,
-            size1,
-            nodes1,
-            text2,
-            left2,
-            start2,
-            size2,
-            nodes2,
-            order1,
-            order2,
-            most,
-            m,
-            u,
-        );
+        let v = leaf_partner(left1[u], u, partner[u]);
+        m = add_common(text1, &start1, &size1, order1, m, most, u, v);
     }
     m
 }

@@ -127,18 +127,18 @@ fn required_ranks(number: &[u8; 81], m: usize) -> [usize; 80]
     ranks
 }
 
-// The leaves with these ranks, by their numbers in a tree.
-fn leaves_at(ranks: &[usize; 80], order: &[usize; 80], count: usize) -> [usize; 80]
+// The entries of an array at these places.
+pub(crate) fn entries_at(places: &[usize; 80], values: &[usize], count: usize) -> [usize; 80]
     requires { ⌜ count ≤ 80 ⌝ }
-    ensures { λ leaf. ⌜ ((i : ℕ) → i < count → getD leaf i 0 ≡ getD (now (order .entry)) (getD (now (ranks .entry)) i 0) 0) ⌝ }
+    ensures { λ r. ⌜ ((i : ℕ) → i < count → getD r i 0 ≡ getD (now (values .entry)) (getD (now (places .entry)) i 0) 0) ⌝ }
 {
-    let mut leaf = [0usize; 80];
+    let mut found = [0usize; 80];
     let mut i: usize = 0;
     while i < count {
-        leaf[i] = trees::entry(order, ranks[i]);
+        found[i] = trees::entry(values, places[i]);
         i += 1;
     }
-    leaf
+    found
 }
 
 // Where label i of the required ones in label order stands in the list.
@@ -172,8 +172,8 @@ pub(crate) fn clash_places(
     let left1 = tree1.left;
     let left2 = tree2.left;
     let ranks = required_ranks(number, m);
-    let leaf1 = leaves_at(&ranks, order1, count);
-    let leaf2 = leaves_at(&ranks, order2, count);
+    let leaf1 = entries_at(&ranks, order1, count);
+    let leaf2 = entries_at(&ranks, order2, count);
     let three = triples::first_clash(
         &left1,
         tree1.nodes,

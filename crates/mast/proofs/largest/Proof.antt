@@ -74,8 +74,8 @@ returns-3 c =
     let q = list-not-read (a .first .now) (a .second .now) (a .required .now) (length (a .out .now)) (one .of) (two .of) (one .is) (two .is) _ u in
     (c .unread-list .ensures ∙ turned-result _ _ (q .0) (q .1) (q .2), turned-output _ (q .0) _ (q .1))
 
-fewer-requires : tie.Need-fewer-requires
-fewer-requires c κs = search needs
+least-requires : tie.Need-least-requires
+least-requires c κs = search needs
 
 answer-bodies-requires : tie.Need-answer-bodies-requires
 answer-bodies-requires c κs =
@@ -97,7 +97,7 @@ answer-bodies-requires c κs =
         second-arrays = two .arrays;
         list-places = three .places-is;
       },
-      bounded _ one two (c .before .fewer .ensures),
+      bounded _ one two (c .before .least .ensures),
     )
 
 same-length : tie.Need-same-length
@@ -125,7 +125,7 @@ largest-spec =
     enum-told-4
     unread-list-requires
     returns-3
-    fewer-requires
+    least-requires
     answer-bodies-requires
     same-length
     returns-4)

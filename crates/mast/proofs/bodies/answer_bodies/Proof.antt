@@ -4,35 +4,38 @@ use Rattle.agreement.specs.Sets.{common}
 use Rattle.agreement.proofs.SetLaws.{common-inc}
 use Rattle.mast.specs.Largest.{Solution, largestOf, outputOf}
 use Rattle.mast.proofs.BodyLaws.{first-few, list-few, first-leaves, own-list, first-valid, first-missing, all-asked, solve-reads, lack-output}
+use Rattle.mast.proofs.BodyLaws.{in-range, by-rank, some-clash, clash-is, set-solution, eight-solution, clashed-output, some-first, some-second}
 use borrow.Author.Needs.{needs}
 use Rattle.mast.proofs.bodies.answer_bodies.Statement.{statement}
 use Rattle.mast.proofs.bodies.answer_bodies.Tie as tie
 use Rattle.mast.proofs.bodies.answer_bodies.Reads as reads
 use Rattle.mast.proofs.bodies.answer_bodies.Lts as lts
-use Rattle.mast.proofs.bodies.answer_held.Reads as answer-held-reads
+use Rattle.mast.proofs.bodies.eight.Reads as eight-reads
+use Rattle.mast.proofs.bodies.find_set.Reads as find-set-reads
 use Rattle.mast.proofs.bodies.lacks.Reads as lacks-reads
 use Rattle.mast.proofs.bodies.order_in.Reads as order-in-reads
+use Rattle.mast.proofs.finish.solution.Reads as solution-reads
 use Rattle.mast.proofs.required.mark_required.Reads as mark-required-reads
 
--- src/bodies.rt:204:9
+-- src/bodies.rt:167:9
 order-in-requires : tie.Need-order-in-requires
 order-in-requires c κs =
     let p = c .before .before .before .before .before .before .pre in
     (first-few _ _ _ _ _ _ (p .0), p .1 .few)
 
--- src/bodies.rt:206:9
+-- src/bodies.rt:169:9
 mark-required-requires : tie.Need-mark-required-requires
 mark-required-requires c κs =
     let p = c .before .before .before .before .before .before .before .before .before .pre in
     (c .before .before .order-in .ensures .0, list-few _ _ _ _ _ _ (p .0))
 
--- src/bodies.rt:208:9
+-- src/bodies.rt:171:9
 lacks-requires : tie.Need-lacks-requires
 lacks-requires c κs =
     let p = c .before .before .before .before .before .before .before .before .before .before .before .before .pre in
     omega (arith, c .if1 .taken, list-few _ _ _ _ _ _ (p .0))
 
--- src/bodies.rt:208:9
+-- src/bodies.rt:171:9
 returns : tie.Need-returns
 returns c =
     let p = c .before .before .before .before .before .before .before .before .before .before .before .before .before .pre in
@@ -46,37 +49,73 @@ returns c =
       lack-output (b .s) (b .t) (b .K) _ _ _ _ _ f _ _ ∙ ap (λ (x : Solution). outputOf x (c .before .before .before .before .before .before .before .before .before .before .before .before .before .args .out .now)) (sym e),
     )
 
--- src/bodies.rt:210:5
-answer-held-requires : tie.Need-answer-held-requires
-answer-held-requires c κs =
+-- src/bodies.rt:174:8
+find-set-requires : tie.Need-find-set-requires
+find-set-requires c κs =
     let p = c .before .before .before .before .before .before .before .before .before .before .before .before .before .before .before .before .pre in
     let o = c .before .before .before .before .before .before .before .before .before .order-in .ensures .1 _ _ (p .0) (p .1) in
     let b = o .bodies in
     let k = c .before .before .before .before .before .before .mark-required .ensures .1 (b .s) (common (b .s) (b .t)) (b .K) (first-leaves _ _ _ _ _ _ b) (own-list _ _ _ _ _ _ b)
     (common-inc (b .s) (b .t) (first-valid _ _ _ _ _ _ b .different)) (o .order .count) (o .order .first) in
-    record {
-      s = b .s;
-      t = b .t;
-      K = b .K;
-      of = all-asked _ _ _ _ _ _ _ _ _ o (c .before .before .before .before .before .before .before .before .before .order-in .ensures .0) _ _ k (c .before .before .before .before .if1 .left) (c .before .before .before .before .before .before .mark-required .ensures .0);
-    }
+    let a = all-asked _ _ _ _ _ _ _ _ _ o (c .before .before .before .before .before .before .before .before .before .order-in .ensures .0) _ _ k (c .before .before .before .before .if1 .left) (c .before .before .before .before .before .before .mark-required .ensures .0) in
+    (some-first _ _ _ _ _ _ _ _ _ _ _ a, some-second _ _ _ _ _ _ _ _ _ _ _ a)
 
--- src/bodies.rt:185:1
+-- src/bodies.rt:175:9
+solution-requires : tie.Need-solution-requires
+solution-requires c κs =
+    let p = c .before .before .before .before .before .before .before .before .before .before .before .before .before .before .before .before .before .before .before .before .before .pre in
+    let o = c .before .before .before .before .before .before .before .before .before .before .before .before .before .before .order-in .ensures .1 _ _ (p .0) (p .1) in
+    let b = o .bodies in
+    let k = c .before .before .before .before .before .before .before .before .before .before .before .mark-required .ensures .1 (b .s) (common (b .s) (b .t)) (b .K) (first-leaves _ _ _ _ _ _ b) (own-list _ _ _ _ _ _ b)
+    (common-inc (b .s) (b .t) (first-valid _ _ _ _ _ _ b .different)) (o .order .count) (o .order .first) in
+    let a = all-asked _ _ _ _ _ _ _ _ _ o (c .before .before .before .before .before .before .before .before .before .before .before .before .before .before .order-in .ensures .0) _ _ k (c .before .before .before .before .before .before .before .before .before .if1 .left) (c .before .before .before .before .before .before .before .before .before .before .before .mark-required .ensures .0) in
+    (c .before .before .before .before .before .before .before .before .before .before .before .before .before .before .order-in .ensures .0, in-range _ _ _ _ _ _ _ _ _ _ _ a)
+
+-- src/bodies.rt:177:9
+eight-requires : tie.Need-eight-requires
+eight-requires c κs =
+    let p = c .before .before .before .before .before .before .before .before .before .before .before .before .before .before .before .before .before .before .before .before .before .pre in
+    let o = c .before .before .before .before .before .before .before .before .before .before .before .before .before .before .order-in .ensures .1 _ _ (p .0) (p .1) in
+    let b = o .bodies in
+    let k = c .before .before .before .before .before .before .before .before .before .before .before .mark-required .ensures .1 (b .s) (common (b .s) (b .t)) (b .K) (first-leaves _ _ _ _ _ _ b) (own-list _ _ _ _ _ _ b)
+    (common-inc (b .s) (b .t) (first-valid _ _ _ _ _ _ b .different)) (o .order .count) (o .order .first) in
+    let a = all-asked _ _ _ _ _ _ _ _ _ o (c .before .before .before .before .before .before .before .before .before .before .before .before .before .before .order-in .ensures .0) _ _ k (c .before .before .before .before .before .before .before .before .before .if1 .left) (c .before .before .before .before .before .before .before .before .before .before .before .mark-required .ensures .0) in
+    some-clash _ _ _ _ _ _ _ _ _ _ _ a _ _ (c .before .before .before .before .find-set .ensures _ _ _ (a .asked)) (c .before .before .before .if2 .left)
+
+-- src/bodies.rt:148:1
 same-length : tie.Need-same-length
 same-length c = search needs
 
--- src/bodies.rt:185:1
+-- src/bodies.rt:148:1
 returns-2 : tie.Need-returns-2
 returns-2 c =
-    let p = c .before .before .before .before .before .before .before .before .before .before .before .before .before .before .before .before .before .before .before .pre in
-    let o = c .before .before .before .before .before .before .before .before .before .before .before .before .order-in .ensures .1 _ _ (p .0) (p .1) in
+    let p = c .before .before .before .before .before .before .before .before .before .before .before .before .before .before .before .before .before .before .before .before .before .before .before .before .pre in
+    let o = c .before .before .before .before .before .before .before .before .before .before .before .before .before .before .before .before .before .order-in .ensures .1 _ _ (p .0) (p .1) in
     let b = o .bodies in
-    let k = c .before .before .before .before .before .before .before .before .before .mark-required .ensures .1 (b .s) (common (b .s) (b .t)) (b .K) (first-leaves _ _ _ _ _ _ b) (own-list _ _ _ _ _ _ b)
+    let k = c .before .before .before .before .before .before .before .before .before .before .before .before .before .before .mark-required .ensures .1 (b .s) (common (b .s) (b .t)) (b .K) (first-leaves _ _ _ _ _ _ b) (own-list _ _ _ _ _ _ b)
     (common-inc (b .s) (b .t) (first-valid _ _ _ _ _ _ b .different)) (o .order .count) (o .order .first) in
-    let a = all-asked _ _ _ _ _ _ _ _ _ o (c .before .before .before .before .before .before .before .before .before .before .before .before .order-in .ensures .0) _ _ k (c .before .before .before .before .before .before .before .if1 .left) (c .before .before .before .before .before .before .before .before .before .mark-required .ensures .0) in
-    let e = solve-reads _ _ _ _ (b .s) (b .t) (b .K) (b .reads) in (
-      c .before .before .answer-held .ensures .0 (b .s) (b .t) (b .K) a ∙ ap largestOf (sym e),
-      c .before .before .answer-held .ensures .1 (b .s) (b .t) (b .K) a ∙ ap (λ (x : Solution). outputOf x (c .before .before .before .before .before .before .before .before .before .before .before .before .before .before .before .before .before .before .before .args .out .now)) (sym e),
+    let a = all-asked _ _ _ _ _ _ _ _ _ o (c .before .before .before .before .before .before .before .before .before .before .before .before .before .before .before .before .before .order-in .ensures .0) _ _ k (c .before .before .before .before .before .before .before .before .before .before .before .before .if1 .left) (c .before .before .before .before .before .before .before .before .before .before .before .before .before .before .mark-required .ensures .0) in
+    let e = solve-reads _ _ _ _ (b .s) (b .t) (b .K) (b .reads) in
+    let r = by-rank _ _ _ _ _ _ _ _ _ _ _ a in
+    let w = set-solution _ _ _ _ _ _ _ _ _ _ _ a _ _ _ (c .before .before .before .before .before .before .before .find-set .ensures _ _ _ (a .asked)) (c .before .before .before .before .before .before .if2 .taken) ∙ sym e in (
+      c .before .before .solution .ensures .0 _ _ r ∙ ap largestOf w,
+      c .before .before .solution .ensures .1 _ _ r ∙ ap (λ (x : Solution). outputOf x (c .before .before .before .before .before .before .before .before .before .before .before .before .before .before .before .before .before .before .before .before .before .before .before .before .args .out .now)) w,
+    )
+
+-- src/bodies.rt:148:1
+returns-3 : tie.Need-returns-3
+returns-3 c =
+    let p = c .before .before .before .before .before .before .before .before .before .before .before .before .before .before .before .before .before .before .before .before .before .before .pre in
+    let o = c .before .before .before .before .before .before .before .before .before .before .before .before .before .before .before .order-in .ensures .1 _ _ (p .0) (p .1) in
+    let b = o .bodies in
+    let k = c .before .before .before .before .before .before .before .before .before .before .before .before .mark-required .ensures .1 (b .s) (common (b .s) (b .t)) (b .K) (first-leaves _ _ _ _ _ _ b) (own-list _ _ _ _ _ _ b)
+    (common-inc (b .s) (b .t) (first-valid _ _ _ _ _ _ b .different)) (o .order .count) (o .order .first) in
+    let a = all-asked _ _ _ _ _ _ _ _ _ o (c .before .before .before .before .before .before .before .before .before .before .before .before .before .before .before .order-in .ensures .0) _ _ k (c .before .before .before .before .before .before .before .before .before .before .if1 .left) (c .before .before .before .before .before .before .before .before .before .before .before .before .mark-required .ensures .0) in
+    let e = solve-reads _ _ _ _ (b .s) (b .t) (b .K) (b .reads) in
+    let q = clash-is _ _ _ _ _ _ _ _ _ _ _ a _ _ (c .before .before .before .before .before .find-set .ensures _ _ _ (a .asked)) (c .before .before .before .before .if2 .left) in
+    let w = e ∙ eight-solution _ _ _ _ _ _ _ _ _ _ _ a (q .0) (q .1) (q .2) _ (q .3) in (
+      c .eight .ensures _ _ _ (q .0) (q .1) (q .2) (q .3) ∙ ap largestOf (sym w),
+      clashed-output _ _ (q .0) (q .1) (q .2) _ w,
     )
 
 pub answer-bodies-spec : {M : Type 1} → statement M
@@ -87,6 +126,9 @@ answer-bodies-spec =
     mark-required-requires
     lacks-requires
     returns
-    answer-held-requires
+    find-set-requires
+    solution-requires
+    eight-requires
     same-length
-    returns-2)
+    returns-2
+    returns-3)

@@ -1,22 +1,57 @@
--- The bodies that were read have the arrays that the order asks for. Assumes nothing.
-use borrow.Author.Needs.{needs}
+use Rattle.trees.specs.Arrays.{nodesOf}
+use mathlib.Core.Path.{_≡_, subst}
+use Prim.Native.Nat.{ℕ}
+use Rattle.mast.specs.Ranks.{Partners}
+use Rattle.mast.proofs.RankLaws.{collected-all}
 use Rattle.mast.proofs.BodyLaws.{first-leaves, second-leaves}
+use borrow.Author.Needs.{needs}
 use Rattle.mast.proofs.bodies.order_in.Statement.{statement}
 use Rattle.mast.proofs.bodies.order_in.Tie as tie
+use Rattle.mast.proofs.bodies.order_in.Reads as reads
+use Rattle.mast.proofs.bodies.order_in.Lts as lts
+use Rattle.mast.proofs.ranks.common_order.Reads as common-order-reads
+use Rattle.mast.proofs.ranks.partners.Reads as partners-reads
+use Rattle.mast.proofs.required.entries_at.Reads as entries-at-reads
 
+-- src/bodies.rt:53:19
+partners-requires : tie.Need-partners-requires
+partners-requires c κs = search needs
+
+-- src/bodies.rt:54:9
 common-order-requires : tie.Need-common-order-requires
 common-order-requires c κs = search needs
 
+-- src/bodies.rt:55:34
+slice-aggregate-entries-at : tie.Need-slice-aggregate-entries-at
+slice-aggregate-entries-at c = search needs
+
+-- src/bodies.rt:55:15
+entries-at-requires : tie.Need-entries-at-requires
+entries-at-requires c κs = search needs
+
+-- src/bodies.rt:37:1
 returns : tie.Need-returns
 returns c = (
-  c .common-order .ensures .0,
+  c .before .before .before .common-order .ensures .0,
   λ list places h b.
+      let one = first-leaves _ _ _ _ _ _ h in
+      let two = second-leaves _ _ _ _ _ _ h in
+      let p = c .before .before .before .before .before .before .partners .ensures (h .s) (h .t) one two in
       record {
         bodies = h;
-        order = c .common-order .ensures .1 (h .s) (h .t) (first-leaves _ _ _ _ _ _ h) (second-leaves _ _ _ _ _ _ h)
-            (b .is _ _ (h .reads .first-is) (h .reads .second-is));
+        order = collected-all (h .s) (h .t) _ _ _ _
+            (c .before .before .before .common-order .ensures .1 (h .s) (h .t) one (two .valid) (b .is _ _ (h .reads .first-is) (h .reads .second-is)) p)
+            (subst (λ (n : ℕ). Partners n (h .s) (h .t) (c .before .before .before .before .before .before .partners .result)) (one .nodes-is) p)
+            (c .entries-at .ensures);
       },
 )
 
 pub order-in-spec : {M : Type 1} → statement M
-order-in-spec = tie.close (tie.spec common-order-requires returns)
+order-in-spec =
+    tie.close
+    (tie.spec
+    partners-requires
+    common-order-requires
+    slice-aggregate-entries-at
+    entries-at-requires
+    returns)

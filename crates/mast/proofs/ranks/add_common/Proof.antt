@@ -1,80 +1,40 @@
--- One node more: none is left that is common, no leaf, a leaf that the second tree lacks, or a leaf put in at its place. Assumes
--- nothing.
 use Prim.Native.Nat.{_+_}
-use Rattle.mast.specs.Ranks.{commonFrom}
-use Rattle.mast.proofs.RankLaws.{collected-inner, collected-missing, collected-full, collected-add}
 use native.Mathlib.Omega.{arith}
+use Rattle.mast.specs.Ranks.{commonFrom}
+use Rattle.mast.proofs.RankLaws.{collected-full, collected-none, collected-add, from-inc}
 use borrow.Author.Needs.{needs}
 use Rattle.mast.proofs.ranks.add_common.Statement.{statement}
 use Rattle.mast.proofs.ranks.add_common.Tie as tie
+use Rattle.mast.proofs.ranks.add_common.Reads as reads
+use Rattle.mast.proofs.ranks.add_common.Lts as lts
+use Rattle.mast.proofs.ranks.insert_leaf.Reads as insert-leaf-reads
 
+-- src/ranks.rt:170:9
 returns : tie.Need-returns
 returns c =
-    (omega arith, λ s t p q b h k. collected-full p q h k _ b (c .if1 .taken))
+    (omega arith, λ s t left nodes o vt b h p k. collected-full o vt h p k _ b (c .if1 .taken))
 
-mul-child : tie.Need-mul-child
-mul-child c = omega arith
-
-element-copy-out-child : tie.Need-element-copy-out-child
-element-copy-out-child c = omega arith
-
+-- src/ranks.rt:173:9
 returns-2 : tie.Need-returns-2
 returns-2 c =
-    (omega arith, λ s t p q b h k. collected-inner p q h k (c .if2 .taken))
+    (omega arith, λ s t left nodes o vt b h p k. collected-none o vt h p k (c .if2 .taken))
 
-label-of-requires : tie.Need-label-of-requires
-label-of-requires c κs = search needs
+-- src/ranks.rt:175:5
+insert-leaf-requires : tie.Need-insert-leaf-requires
+insert-leaf-requires c κs = search needs
 
-find-leaf-requires : tie.Need-find-leaf-requires
-find-leaf-requires c κs = search needs
-
-returns-3 : tie.Need-returns-3
-returns-3 c =
-    let before = c .before .before .before in
-    let start = before .before .before .before .before .before in (
-      omega arith,
-      λ s t p q b h k.
-          collected-missing p q h k (before .if2 .left) _ (c .before .before .label-of .ensures (start .pre .2)) _ (c .before .find-leaf .ensures) (c .if3 .taken),
-    )
-
-place-of-requires : tie.Need-place-of-requires
-place-of-requires c κs = search needs
-
-open-at-requires : tie.Need-open-at-requires
-open-at-requires c κs = search needs
-
-open-at-requires-2 : tie.Need-open-at-requires-2
-open-at-requires-2 c κs = search needs
-
+-- src/ranks.rt:176:5
 add-result : tie.Need-add-result
-add-result c = omega arith
+add-result c = search needs
 
-returns-4 : tie.Need-returns-4
-returns-4 c =
-    let placed = c .before .before .before .before in
-    let found = placed .before .before .before in
-    let start = found .before .before .before .before .before .before .before in (
-      omega arith,
-      λ s t p q b h k.
-          collected-add p q h k (found .before .before .if2 .left) _ (found .before .label-of .ensures (start .pre .2)) _
-          (found .find-leaf .ensures) (placed .before .before .if3 .left) _
-          (placed .place-of .ensures .1 s (commonFrom s t (start .args .u + 1)) p (k .count) (k .first)) _ _
-          (c .before .before .open-at .ensures (k .size1)) (c .open-at2 .ensures (k .size2)),
-    )
+-- src/ranks.rt:152:1
+returns-3 : tie.Need-returns-3
+returns-3 c = (
+  omega arith,
+  λ s t left nodes o vt b h p k.
+      collected-add o vt h p k (omega (arith, c .before .before .if2 .left)) _
+      (c .insert-leaf .ensures s left nodes (commonFrom s t (c .before .before .before .before .before .args .u + 1)) o (from-inc s t _ (o .valid .different)) (k .count) (k .first) (k .size1)),
+)
 
 pub add-common-spec : {M : Type 1} → statement M
-add-common-spec =
-    tie.close
-    (tie.spec
-    returns
-    mul-child
-    element-copy-out-child
-    returns-2
-    label-of-requires
-    find-leaf-requires
-    returns-3
-    place-of-requires
-    open-at-requires
-    open-at-requires-2
-    add-result
-    returns-4)
+add-common-spec = tie.close (tie.spec returns returns-2 insert-leaf-requires add-result returns-3)

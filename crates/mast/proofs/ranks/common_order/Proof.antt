@@ -1,61 +1,108 @@
--- The common leaves in label order: the invariant says that those among the nodes from u on are collected. Assumes nothing.
+use Prim.Native.Nat.{ℕ, _-_, _+_, _<_, _≤_}
 use mathlib.Core.Path.{_≡_, refl, subst}
-use Prim.Native.Nat.{ℕ, _+_, _-_, _≤_}
-use Rattle.trees.specs.Tree.{Tree}
-use Rattle.mast.specs.Engine.{OwnLeaves}
-use Rattle.mast.specs.Ranks.{mostCommon, Collected}
-use Rattle.mast.proofs.RankLaws.{collected-start, collected-all}
+use mathlib.Core.List.{List}
 use native.Mathlib.Omega.{arith}
 use borrow.Author.Needs.{needs}
+use Rattle.trees.specs.Tree.{Tree, Valid}
+use Rattle.mast.specs.Engine.{OwnLeaves}
+use Rattle.mast.specs.Ranks.{Partners, mostCommon, Collected}
+use Rattle.mast.proofs.RankLaws.{collected-start, node-partner}
 use Rattle.mast.proofs.ranks.common_order.Statement.{statement}
 use Rattle.mast.proofs.ranks.common_order.Tie as tie
+use Rattle.mast.proofs.ranks.common_order.Reads as reads
+use Rattle.mast.proofs.ranks.common_order.Lts as lts
+use Rattle.mast.proofs.ranks.add_common.Reads as add-common-reads
+use Rattle.mast.proofs.ranks.leaf_partner.Reads as leaf-partner-reads
 
 abbrev Inv-loop : tie.InvT-loop
-Inv-loop text1 left1 start1 size1 nodes1 text2 left2 start2 size2 nodes2 order1₀ order2₀ most m₀ u₀ order1 order2 m u =
-    (m ≤ most) × (u ≤ nodes1)
-    × ((s t : Tree) → OwnLeaves s text1 left1 start1 size1 nodes1 → OwnLeaves t text2 left2 start2 size2 nodes2
-    → most ≡ mostCommon s t → Collected s t u order1 order2 m)
+Inv-loop text1 partner order1₀ most left1 start1 size1 m₀ u₀ order1 m u =
+    (m ≤ most) × (u ≤ u₀) × ((s t : Tree) → OwnLeaves s text1 left1 start1 size1 (u₀) → Valid t
+    → most ≡ mostCommon s t → Partners (u₀) s t partner → Collected s t u order1 m)
 
 abbrev μ-loop : tie.MeasureT-loop
-μ-loop text1 left1 start1 size1 nodes1 text2 left2 start2 size2 nodes2 order1₀ order2₀ most m₀ u₀ order1 order2 m u =
+μ-loop text1 partner order1₀ most left1 start1 size1 m₀ u₀ order1 m u =
     u
 
+-- src/ranks.rt:200:5
 loop-holds : tie.Need-loop-holds Inv-loop μ-loop
 loop-holds c =
-    (omega arith, omega arith, λ s t p q b. collected-start s t _ _ _ (p .nodes-is) refl refl)
+    (omega arith, omega arith, λ s t o vt b p. collected-start s t _ _ (o .nodes-is) refl)
 
+-- src/ranks.rt:201:9
 sub-u : tie.Need-sub-u Inv-loop μ-loop
-sub-u c = omega arith
+sub-u c =
+    omega arith
 
+-- src/ranks.rt:202:30
+mul-leaf-partner : tie.Need-mul-leaf-partner Inv-loop μ-loop
+mul-leaf-partner c =
+    omega arith
+
+-- src/ranks.rt:202:30
+array-read-leaf-partner : tie.Need-array-read-leaf-partner Inv-loop μ-loop
+array-read-leaf-partner c =
+    omega arith
+
+-- src/ranks.rt:202:43
+mul-leaf-partner-2 : tie.Need-mul-leaf-partner-2 Inv-loop μ-loop
+mul-leaf-partner-2 c =
+    omega arith
+
+-- src/ranks.rt:202:43
+element-copy-out-leaf-partner : tie.Need-element-copy-out-leaf-partner Inv-loop μ-loop
+element-copy-out-leaf-partner c =
+    omega arith
+
+-- src/ranks.rt:202:13
+leaf-partner-requires : tie.Need-leaf-partner-requires Inv-loop μ-loop
+leaf-partner-requires c κs = search needs
+
+-- src/ranks.rt:203:9
 add-common-requires : tie.Need-add-common-requires Inv-loop μ-loop
-add-common-requires c κs = search needs
+add-common-requires c κs =
+    omega arith
 
+-- src/ranks.rt:200:5
 loop-less : tie.Need-loop-less Inv-loop μ-loop
-loop-less c = omega arith
+loop-less c =
+    omega arith
 
+-- src/ranks.rt:200:5
 loop-again : tie.Need-loop-again Inv-loop μ-loop
 loop-again c =
-    let turn = c .before .before .before .before in
-    let taken = c .before .before .before .loop-test .taken in
-    let u-is : turn .loop .u ≡ turn .loop .u - 1 + 1 = omega arith in (
+    let i = c .before .before .before .before .before .before .before .loop .inv in
+    let u-is : c .before .before .before .before .before .before .before .loop .u ≡ c .before .before .before .before .before .before .before .loop .u - 1 + 1 = omega arith in
+    let low : c .before .before .before .before .before .before .before .loop .u - 1 < c .before .before .before .before .before .before .before .before .before .before .before .before .before .args .tree1 .nodes = omega (arith, i .1, c .before .before .before .before .before .before .loop-test .taken) in (
       c .add-common .ensures .0,
-      omega (arith, turn .loop .inv .1),
-      λ s t p q b.
-          c .add-common .ensures .1 s t p q b (omega (arith, turn .loop .inv .1))
-          (subst (λ (n : ℕ). Collected s t n (turn .loop .order1) (turn .loop .order2) (turn .loop .m)) u-is (turn .loop .inv .2 s t p q b)),
+      omega (arith, i .1),
+      λ s t o vt b p.
+          c .add-common .ensures .1 s t _ _ o vt b low (node-partner o t _ p _ _ low (c .before .before .before .before .leaf-partner .ensures))
+          (subst (λ (n : ℕ). Collected s t n (c .before .before .before .before .before .before .before .loop .order1) (c .before .before .before .before .before .before .before .loop .m)) u-is (i .2 s t o vt b p)),
     )
 
+-- src/ranks.rt:181:1
 returns : tie.Need-returns Inv-loop μ-loop
 returns c =
-    let end = c .before in
-    let u-is : end .loop .u ≡ 0 = omega (arith, c .loop-test .left) in (
-      omega (arith, end .loop .inv .0),
-      λ s t p q b.
-          collected-all s t _ _ _
-          (subst (λ (n : ℕ). Collected s t n (end .loop .order1) (end .loop .order2) (end .loop .m)) u-is (end .loop .inv .2 s t p q b)),
+    let i = c .before .loop .inv in
+    let u-is : c .before .loop .u ≡ 0 = omega (arith, c .loop-test .left) in (
+      omega (arith, i .0, c .before .before .before .before .before .before .before .pre .1),
+      λ s t o vt b p. subst (λ (n : ℕ). Collected s t n (c .before .loop .order1) (c .before .loop .m)) u-is (i .2 s t o vt b p),
     )
 
 pub common-order-spec : {M : Type 1} → statement M
 common-order-spec =
     tie.close
-    (tie.spec Inv-loop μ-loop loop-holds sub-u add-common-requires loop-less loop-again returns)
+    (tie.spec
+    Inv-loop
+    μ-loop
+    loop-holds
+    sub-u
+    mul-leaf-partner
+    array-read-leaf-partner
+    mul-leaf-partner-2
+    element-copy-out-leaf-partner
+    leaf-partner-requires
+    add-common-requires
+    loop-less
+    loop-again
+    returns)

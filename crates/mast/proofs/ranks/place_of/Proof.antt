@@ -1,78 +1,117 @@
--- The place of a label: the invariant says that no label passed is greater. Assumes nothing.
-use mathlib.Core.Path.{_≡_, sym, _∙_}
-use Rattle.mast.proofs.RankLaws.{place-last, place-found, place-passed}
-use Prim.Native.Nat.{ℕ, _<_, _≤_, _-_}
-use mathlib.Core.Bool.{false}
+use Prim.Native.Nat.{ℕ, _-_, _+_, _/_, _<_, _≤_}
+use mathlib.Core.Path.{_≡_, _∙_, sym, ap}
+use mathlib.Core.Bool.{true}
 use mathlib.Core.List.{List, []}
 use lib.ListN.{length, getD}
-use Rattle.trees.specs.Label.{Label, labelLess}
-use Rattle.trees.specs.Tree.{Tree}
-use Rattle.leaves.specs.Numbered.{Numbered}
-use Rattle.mast.specs.Engine.{OwnLeaves}
 use native.Mathlib.Omega.{arith}
 use borrow.Author.Needs.{needs}
+use Rattle.trees.specs.Label.{Label, labelLess}
+use Rattle.trees.specs.Tree.{Tree}
+use Rattle.trees.specs.Stored.{storedBytes}
+use Rattle.agreement.specs.Sets.{increasing}
+use Rattle.leaves.specs.Numbered.{Numbered}
+use Rattle.mast.specs.Engine.{OwnLeaves}
+use Rattle.mast.proofs.RankLaws.{Halved, halved-all, halved-low, halved-high, halved-place, stored-at}
 use Rattle.mast.proofs.ranks.place_of.Statement.{statement}
 use Rattle.mast.proofs.ranks.place_of.Tie as tie
+use Rattle.mast.proofs.ranks.place_of.Reads as reads
+use Rattle.mast.proofs.ranks.place_of.Lts as lts
+use Rattle.mast.proofs.ranks.comes_first.Reads as comes-first-reads
+use Rattle.trees.proofs.stored_leaf.Reads as stored-leaf-reads
 
 abbrev Inv-loop : tie.InvT-loop
-Inv-loop text left start size nodes order m label r₀ r =
-    (r ≤ m)
-    × ((t : Tree) (C : List Label) → OwnLeaves t text left start size nodes → m ≡ length C → Numbered t C order
-    → (j : ℕ) → j < r → labelLess label (getD C j []) ≡ false)
+Inv-loop text start size order m label low₀ high₀ low high =
+    (low ≤ high) × (high ≤ m) × ((t : Tree) (left : List ℕ) (nodes : ℕ) (C : List Label) → OwnLeaves t text left start size nodes
+    → increasing C ≡ true → m ≡ length C → Numbered t C order → Halved (storedBytes label) C low high)
 
 abbrev μ-loop : tie.MeasureT-loop
-μ-loop text left start size nodes order m label r₀ r =
-    m - r
+μ-loop text start size order m label low₀ high₀ low high =
+    high - low
 
+-- src/ranks.rt:99:5
 loop-holds : tie.Need-loop-holds Inv-loop μ-loop
 loop-holds c =
-    (omega arith, λ t C o e n j l. absurd (omega arith))
+    (omega arith, omega arith, λ t left nodes C o i e n. halved-all _ C _ e)
 
-mul-label-of : tie.Need-mul-label-of Inv-loop μ-loop
-mul-label-of c = omega arith
+-- src/ranks.rt:100:26
+sub-mid : tie.Need-sub-mid Inv-loop μ-loop
+sub-mid c =
+    omega arith
 
-element-copy-out-label-of : tie.Need-element-copy-out-label-of Inv-loop μ-loop
-element-copy-out-label-of c = omega arith
+-- src/ranks.rt:100:19
+add-mid : tie.Need-add-mid Inv-loop μ-loop
+add-mid c =
+    omega arith
 
-label-of-requires : tie.Need-label-of-requires Inv-loop μ-loop
-label-of-requires c κs = search needs
+-- src/ranks.rt:101:69
+mul-stored-leaf : tie.Need-mul-stored-leaf Inv-loop μ-loop
+mul-stored-leaf c =
+    omega arith
 
-comes-before-requires : tie.Need-comes-before-requires Inv-loop μ-loop
-comes-before-requires c κs = search needs
+-- src/ranks.rt:101:69
+element-copy-out-stored-leaf : tie.Need-element-copy-out-stored-leaf Inv-loop μ-loop
+element-copy-out-stored-leaf c =
+    omega arith
 
-returns : tie.Need-returns Inv-loop μ-loop
-returns c =
-    let turn = c .before .before .before .before .before in
-    let start = turn .before .before .before in (
-      turn .loop .inv .0,
-      λ t C o e n.
-          place-found o C (start .args .order .now) _ e n _ _ (turn .loop .inv .1 t C o e n) (c .before .before .before .before .loop-test .taken) _ (c .before .before .label-of .ensures)
-          (sym (c .before .comes-before .ensures) ∙ c .if1 .taken),
-    )
+-- src/ranks.rt:101:31
+stored-leaf-requires : tie.Need-stored-leaf-requires Inv-loop μ-loop
+stored-leaf-requires c κs =
+    search needs
 
-add-r : tie.Need-add-r Inv-loop μ-loop
-add-r c = omega arith
+-- src/ranks.rt:101:12
+comes-first-requires : tie.Need-comes-first-requires Inv-loop μ-loop
+comes-first-requires c κs =
+    search needs
 
+-- src/ranks.rt:99:5
 loop-less : tie.Need-loop-less Inv-loop μ-loop
-loop-less c = omega arith
+loop-less c =
+    omega arith
 
+-- src/ranks.rt:99:5
 loop-again : tie.Need-loop-again Inv-loop μ-loop
 loop-again c =
-    let turn = c .before .before .before .before .before in
-    let start = turn .before .before .before in (
+    let mid = c .before .before .before .before .before .before .before .loop .low + (c .before .before .before .before .before .before .before .loop .high - c .before .before .before .before .before .before .before .loop .low) / 2 in (
       omega arith,
-      λ t C o e n.
-          place-passed o C (start .args .order .now) _ e n _ _ (turn .loop .inv .1 t C o e n) (c .before .before .before .before .loop-test .taken) _ (c .before .before .label-of .ensures)
-          (sym (c .before .comes-before .ensures) ∙ c .if1 .left),
+      omega arith,
+      λ t left nodes C o i e n.
+          let b : mid < length C = omega arith in
+          let x = ap storedBytes (c .before .before .stored-leaf .ensures) ∙ stored-at o _ _ (n mid b) in
+          halved-low (storedBytes (c .before .before .before .before .before .before .before .before .before .args .label)) C _ _ mid i b
+          (ap (labelLess (storedBytes (c .before .before .before .before .before .before .before .before .before .args .label))) (sym x) ∙ sym (c .before .comes-first .ensures) ∙ c .if1 .taken)
+          (c .before .before .before .before .before .before .before .loop .inv .2 t left nodes C o i e n),
     )
 
-returns-2 : tie.Need-returns-2 Inv-loop μ-loop
-returns-2 c =
-    let turn = c .before in
-    let start = turn .before .before .before in (
-      turn .loop .inv .0,
-      λ t C o e n.
-          place-last o C (start .args .order .now) _ e n _ _ (turn .loop .inv .1 t C o e n) (c .loop-test .left) (turn .loop .inv .0),
+-- src/ranks.rt:104:19
+add-low : tie.Need-add-low Inv-loop μ-loop
+add-low c =
+    omega arith
+
+-- src/ranks.rt:99:5
+loop-less-2 : tie.Need-loop-less-2 Inv-loop μ-loop
+loop-less-2 c =
+    omega arith
+
+-- src/ranks.rt:99:5
+loop-again-2 : tie.Need-loop-again-2 Inv-loop μ-loop
+loop-again-2 c =
+    let mid = c .before .before .before .before .before .before .before .loop .low + (c .before .before .before .before .before .before .before .loop .high - c .before .before .before .before .before .before .before .loop .low) / 2 in (
+      omega arith,
+      omega arith,
+      λ t left nodes C o i e n.
+          let b : mid < length C = omega arith in
+          let x = ap storedBytes (c .before .before .stored-leaf .ensures) ∙ stored-at o _ _ (n mid b) in
+          halved-high (storedBytes (c .before .before .before .before .before .before .before .before .before .args .label)) C _ _ mid i b
+          (ap (labelLess (storedBytes (c .before .before .before .before .before .before .before .before .before .args .label))) (sym x) ∙ sym (c .before .comes-first .ensures) ∙ c .if1 .left)
+          (c .before .before .before .before .before .before .before .loop .inv .2 t left nodes C o i e n),
+    )
+
+-- src/ranks.rt:83:1
+returns : tie.Need-returns Inv-loop μ-loop
+returns c =
+    let i = c .before .loop .inv in (
+      omega arith,
+      λ t left nodes C o inc e n. halved-place _ C _ _ (c .loop-test .left) (omega arith) (i .2 t left nodes C o inc e n),
     )
 
 pub place-of-spec : {M : Type 1} → statement M
@@ -82,12 +121,15 @@ place-of-spec =
     Inv-loop
     μ-loop
     loop-holds
-    mul-label-of
-    element-copy-out-label-of
-    label-of-requires
-    comes-before-requires
-    returns
-    add-r
+    sub-mid
+    add-mid
+    mul-stored-leaf
+    element-copy-out-stored-leaf
+    stored-leaf-requires
+    comes-first-requires
     loop-less
     loop-again
-    returns-2)
+    add-low
+    loop-less-2
+    loop-again-2
+    returns)

@@ -5,7 +5,6 @@ use Rattle.mast.proofs.required.clash_places.Statement.{statement}
 use Rattle.mast.proofs.required.clash_places.Tie as tie
 use Rattle.mast.proofs.required.clash_places.Reads as reads
 use Rattle.mast.proofs.required.clash_places.Lts as lts
-use Rattle.mast.proofs.required.leaves_at.Reads as leaves-at-reads
 use Rattle.mast.proofs.required.place_at.Reads as place-at-reads
 use Rattle.mast.proofs.required.required_ranks.Reads as required-ranks-reads
 use Rattle.triples.proofs.first_clash.Reads as first-clash-reads
@@ -15,12 +14,12 @@ required-ranks-requires : tie.Need-required-ranks-requires
 required-ranks-requires c κs = search needs
 
 -- src/required.rt:166:17
-leaves-at-requires : tie.Need-leaves-at-requires
-leaves-at-requires c κs = search needs
+entries-at-requires : tie.Need-entries-at-requires
+entries-at-requires c κs = search needs
 
 -- src/required.rt:167:17
-leaves-at-requires-2 : tie.Need-leaves-at-requires-2
-leaves-at-requires-2 c κs = search needs
+entries-at-requires-2 : tie.Need-entries-at-requires-2
+entries-at-requires-2 c κs = search needs
 
 -- src/required.rt:168:9
 first-clash-requires : tie.Need-first-clash-requires
@@ -29,22 +28,25 @@ first-clash-requires c κs = search needs
 -- src/required.rt:170:16
 place-at-requires : tie.Need-place-at-requires
 place-at-requires c κs =
-    let h = c .before .before .before .before .before .before .before .before .before .before .before .before .before .before .before .pre in
-    let p = first-placed (h .s) (h .t) (h .K) (h .a) (h .b) (h .c) _ _ _ _ _ _ _ (h .of) _ (c .before .before .before .before .before .before .before .before .before .before .before .required-ranks .ensures) _ _ _ (c .before .before .before .before .before .before .before .before .before .leaves-at .ensures) (c .before .before .before .before .before .before .before .leaves-at2 .ensures) (c .before .before .first-clash .ensures .1) in
+    let h = c .before .before .before .before .before .before .before .before .before .before .before .before .before .before .before .before .before .pre in
+    let p = first-placed (h .s) (h .t) (h .K) (h .a) (h .b) (h .c) _ _ _ _ _ _ _ (h .of) _ (c .before .before .before .before .before .before .before .before .before .before .before .before .before .required-ranks .ensures) _ _ _ (c .before .before .before .before .before .before .before .before .before .before .entries-at .ensures)
+    (c .before .before .before .before .before .before .before .entries-at2 .ensures) (c .before .before .first-clash .ensures .1) in
     (p .small, p .rank-small, p .some-number, p .number-small)
 
 -- src/required.rt:171:17
 place-at-requires-2 : tie.Need-place-at-requires-2
 place-at-requires-2 c κs =
-    let h = c .before .before .before .before .before .before .before .before .before .before .before .before .before .before .before .before .before .before .pre in
-    let p = second-placed (h .s) (h .t) (h .K) (h .a) (h .b) (h .c) _ _ _ _ _ _ _ (h .of) _ (c .before .before .before .before .before .before .before .before .before .before .before .before .before .before .required-ranks .ensures) _ _ _ (c .before .before .before .before .before .before .before .before .before .before .before .before .leaves-at .ensures) (c .before .before .before .before .before .before .before .before .before .before .leaves-at2 .ensures) (c .before .before .before .before .before .first-clash .ensures .1) in
+    let h = c .before .before .before .before .before .before .before .before .before .before .before .before .before .before .before .before .before .before .before .before .pre in
+    let p = second-placed (h .s) (h .t) (h .K) (h .a) (h .b) (h .c) _ _ _ _ _ _ _ (h .of) _ (c .before .before .before .before .before .before .before .before .before .before .before .before .before .before .before .before .required-ranks .ensures) _ _ _ (c .before .before .before .before .before .before .before .before .before .before .before .before .before .entries-at .ensures)
+    (c .before .before .before .before .before .before .before .before .before .before .entries-at2 .ensures) (c .before .before .before .before .before .first-clash .ensures .1) in
     (p .small, p .rank-small, p .some-number, p .number-small)
 
 -- src/required.rt:172:16
 place-at-requires-3 : tie.Need-place-at-requires-3
 place-at-requires-3 c κs =
-    let h = c .before .before .before .before .before .before .before .before .before .before .before .before .before .before .before .before .before .before .before .before .before .pre in
-    let p = third-placed (h .s) (h .t) (h .K) (h .a) (h .b) (h .c) _ _ _ _ _ _ _ (h .of) _ (c .before .before .before .before .before .before .before .before .before .before .before .before .before .before .before .before .before .required-ranks .ensures) _ _ _ (c .before .before .before .before .before .before .before .before .before .before .before .before .before .before .before .leaves-at .ensures) (c .before .before .before .before .before .before .before .before .before .before .before .before .before .leaves-at2 .ensures) (c .before .before .before .before .before .before .before .before .first-clash .ensures .1) in
+    let h = c .before .before .before .before .before .before .before .before .before .before .before .before .before .before .before .before .before .before .before .before .before .before .before .pre in
+    let p = third-placed (h .s) (h .t) (h .K) (h .a) (h .b) (h .c) _ _ _ _ _ _ _ (h .of) _ (c .before .before .before .before .before .before .before .before .before .before .before .before .before .before .before .before .before .before .before .required-ranks .ensures) _ _ _ (c .before .before .before .before .before .before .before .before .before .before .before .before .before .before .before .before .entries-at .ensures)
+    (c .before .before .before .before .before .before .before .before .before .before .before .before .before .entries-at2 .ensures) (c .before .before .before .before .before .before .before .before .first-clash .ensures .1) in
     (p .small, p .rank-small, p .some-number, p .number-small)
 
 -- src/required.rt:147:1
@@ -52,9 +54,12 @@ returns : tie.Need-returns
 returns c =
     λ s t K x y z h.
     let f = c .before .before .before .before .before .before .before .before .before .first-clash .ensures .1 in
-    let one = first-placed s t K x y z _ _ _ _ _ _ _ h _ (c .before .before .before .before .before .before .before .before .before .before .before .before .before .before .before .before .before .before .required-ranks .ensures) _ _ _ (c .before .before .before .before .before .before .before .before .before .before .before .before .before .before .before .before .leaves-at .ensures) (c .before .before .before .before .before .before .before .before .before .before .before .before .before .before .leaves-at2 .ensures) f in
-    let two = second-placed s t K x y z _ _ _ _ _ _ _ h _ (c .before .before .before .before .before .before .before .before .before .before .before .before .before .before .before .before .before .before .required-ranks .ensures) _ _ _ (c .before .before .before .before .before .before .before .before .before .before .before .before .before .before .before .before .leaves-at .ensures) (c .before .before .before .before .before .before .before .before .before .before .before .before .before .before .leaves-at2 .ensures) f in
-    let three = third-placed s t K x y z _ _ _ _ _ _ _ h _ (c .before .before .before .before .before .before .before .before .before .before .before .before .before .before .before .before .before .before .required-ranks .ensures) _ _ _ (c .before .before .before .before .before .before .before .before .before .before .before .before .before .before .before .before .leaves-at .ensures) (c .before .before .before .before .before .before .before .before .before .before .before .before .before .before .leaves-at2 .ensures) f in
+    let r = c .before .before .before .before .before .before .before .before .before .before .before .before .before .before .before .before .before .before .before .before .required-ranks .ensures in
+    let p = c .before .before .before .before .before .before .before .before .before .before .before .before .before .before .before .before .before .entries-at .ensures in
+    let q = c .before .before .before .before .before .before .before .before .before .before .before .before .before .before .entries-at2 .ensures in
+    let one = first-placed s t K x y z _ _ _ _ _ _ _ h _ r _ _ _ p q f in
+    let two = second-placed s t K x y z _ _ _ _ _ _ _ h _ r _ _ _ p q f in
+    let three = third-placed s t K x y z _ _ _ _ _ _ _ h _ r _ _ _ p q f in
     three-places K x y z _ _ _ (c .before .before .before .before .before .before .place-at .ensures ∙ one .place) (c .before .before .before .place-at2 .ensures ∙ two .place) (c .place-at3 .ensures ∙ three .place)
 
 pub clash-places-spec : {M : Type 1} → statement M
@@ -62,8 +67,8 @@ clash-places-spec =
     tie.close
     (tie.spec
     required-ranks-requires
-    leaves-at-requires
-    leaves-at-requires-2
+    entries-at-requires
+    entries-at-requires-2
     first-clash-requires
     place-at-requires
     place-at-requires-2

@@ -1,0 +1,111 @@
+use Prim.Native.Nat.{ℕ, _-_, _<_, _≤_}
+use mathlib.Core.Path.{_≡_, _∙_, sym, ap, subst}
+use mathlib.Core.List.{List}
+use lib.ListN.{length, length-set, length-replicate}
+use native.Mathlib.Omega.{arith}
+use borrow.Author.Needs.{needs}
+use Rattle.trees.specs.Label.{Label}
+use Rattle.trees.specs.Tree.{Tree}
+use Rattle.mast.specs.Engine.{OwnLeaves}
+use Rattle.mast.specs.Ranks.{Partners, PartnerIs}
+use Rattle.mast.proofs.RankLaws.{partners-none, partners-next, own-part, own-leaf-at}
+use Rattle.mast.proofs.ranks.partners.Statement.{statement}
+use Rattle.mast.proofs.ranks.partners.Tie as tie
+use Rattle.mast.proofs.ranks.partners.Reads as reads
+use Rattle.mast.proofs.ranks.partners.Lts as lts
+use Rattle.mast.proofs.ranks.look_up.Reads as look-up-reads
+use Rattle.trees.proofs.leaf_label.Reads as leaf-label-reads
+
+abbrev Inv-loop : tie.InvT-loop
+Inv-loop first tree1 second tree2 start1 size1 left2 start2 size2 partner₀ u₀ partner u =
+    (u ≤ tree1 .nodes) × (length partner ≡ 159) × ((s t : Tree) (left1 : List ℕ) → OwnLeaves s first left1 start1 size1 (tree1 .nodes)
+    → OwnLeaves t second left2 start2 size2 (tree2 .nodes) → Partners u s t partner)
+
+abbrev μ-loop : tie.MeasureT-loop
+μ-loop first tree1 second tree2 start1 size1 left2 start2 size2 partner₀ u₀ partner u =
+    tree1 .nodes - u
+
+-- src/ranks.rt:63:5
+loop-holds : tie.Need-loop-holds Inv-loop μ-loop
+loop-holds c =
+    (omega arith, length-replicate {A = ℕ} 159 159, λ s t left1 o q. partners-none s t _)
+
+-- src/ranks.rt:64:46
+slice-aggregate-leaf-label : tie.Need-slice-aggregate-leaf-label Inv-loop μ-loop
+slice-aggregate-leaf-label c =
+    search needs
+
+-- src/ranks.rt:64:55
+slice-aggregate-leaf-label-2 : tie.Need-slice-aggregate-leaf-label-2 Inv-loop μ-loop
+slice-aggregate-leaf-label-2 c =
+    search needs
+
+-- src/ranks.rt:64:13
+leaf-label-requires : tie.Need-leaf-label-requires Inv-loop μ-loop
+leaf-label-requires c κs =
+    search needs
+
+-- src/ranks.rt:65:22
+look-up-requires : tie.Need-look-up-requires Inv-loop μ-loop
+look-up-requires c κs =
+    search needs
+
+-- src/ranks.rt:65:9
+mul-partner : tie.Need-mul-partner Inv-loop μ-loop
+mul-partner c =
+    omega arith
+
+-- src/ranks.rt:65:9
+array-write-partner : tie.Need-array-write-partner Inv-loop μ-loop
+array-write-partner c =
+    omega arith
+
+-- src/ranks.rt:66:9
+add-u : tie.Need-add-u Inv-loop μ-loop
+add-u c =
+    omega arith
+
+-- src/ranks.rt:63:5
+loop-less : tie.Need-loop-less Inv-loop μ-loop
+loop-less c =
+    omega arith
+
+-- src/ranks.rt:63:5
+loop-again : tie.Need-loop-again Inv-loop μ-loop
+loop-again c =
+    let i = c .before .before .before .before .before .before .before .before .before .loop .inv in (
+      omega (arith, c .before .before .before .before .before .before .before .if1 .taken),
+      length-set {A = ℕ} (c .before .before .before .before .before .before .before .before .before .loop .partner) _ _ ∙ i .1,
+      λ s t left1 o q.
+          partners-next (c .before .before .before .before .before .before .before .before .before .loop .u) s t (c .before .before .before .before .before .before .before .before .before .loop .partner) _ (omega (arith, c .before .before .before .before .before .before .before .if1 .taken)) (i .1)
+          (λ x e.
+          subst (λ (y : Label). PartnerIs t y (c .look-up .result)) (c .before .before .before .before .leaf-label .ensures ∙ own-part o (c .before .before .before .before .before .before .before .before .before .loop .u) x (own-leaf-at o (c .before .before .before .before .before .before .before .before .before .loop .u) x (c .before .before .before .before .before .before .before .if1 .taken) e))
+          (c .look-up .ensures t q))
+          (i .2 s t left1 o q),
+    )
+
+-- src/ranks.rt:44:1
+returns : tie.Need-returns Inv-loop μ-loop
+returns c =
+    λ s t o q.
+    let i = c .before .before .loop .inv in
+    let e : c .before .before .loop .u ≡ c .before .before .before .before .before .before .before .before .before .before .args .tree1 .nodes = omega (arith, c .if1 .left, i .0) in
+    subst (λ (n : ℕ). Partners n s t (c .before .before .loop .partner)) e (i .2 s t _ o q)
+
+pub partners-spec : {M : Type 1} → statement M
+partners-spec =
+    tie.close
+    (tie.spec
+    Inv-loop
+    μ-loop
+    loop-holds
+    slice-aggregate-leaf-label
+    slice-aggregate-leaf-label-2
+    leaf-label-requires
+    look-up-requires
+    mul-partner
+    array-write-partner
+    add-u
+    loop-less
+    loop-again
+    returns)
