@@ -5,7 +5,8 @@ use mathlib.Core.List.{List}
 use lib.ListN.{length}
 use Rattle.trees.specs.declared.Reason.{Reason}
 use Rattle.trees.specs.declared.Body.{Body}
-use Rattle.trees.specs.Bytes.{kindOf, bytesOf}
+use Rattle.trees.specs.Bytes.{kindOf}
+use Rattle.trees.specs.Words.{bytesOf}
 use Rattle.trees.specs.Label.{isIn, sameLabel}
 use Rattle.trees.specs.Tree.{Tree, leaves, Valid}
 use Rattle.trees.specs.Text.{textOf}

@@ -6,7 +6,7 @@ use mathlib.Core.List.{List}
 use lib.ListN.{replicate}
 use Rattle.trees.specs.declared.Body.{Body}
 use Rattle.trees.specs.declared.Body.the-variants.{S}
-use Rattle.trees.specs.Bytes.{bytesOf}
+use Rattle.trees.specs.Words.{bytesOf}
 use Rattle.trees.specs.Refusals.{Said, value, row, rowOf}
 use Rattle.newick.specs.declared.TreeAnswer.{TreeAnswer}
 use Rattle.newick.specs.declared.TreeAnswer.the-variants.{Leaves, Refused}

@@ -2,15 +2,15 @@
 -- parts are known. Assumes nothing.
 use Prim.Native.Nat.{ℕ, zero, suc, _+_, _-_, _<_, _≤_}
 use mathlib.Core.Path.{_≡_, refl, ap, sym, _∙_}
-use mathlib.Core.Bool.{Bool, true, false, _&&_, _||_, or-assoc}
+use mathlib.Core.Bool.{Bool, true, false, cond, _&&_, _||_, and-false, or-assoc}
 use mathlib.Core.Logic.{_⊎_, inl, inr}
 use mathlib.Core.List.{List, [], _∷_, _++_}
 use native.Mathlib.Omega.{arith}
 use native.Mathlib.Nat.{suc-inj}
-use lib.Dec.{eqb}
-use lib.ListN.{length, getD, take, length-append}
+use lib.Dec.{eqb, leb}
+use lib.ListN.{length, getD, take, drop, length-append}
 use lib.Seq.{take-suc, take-at, drop-at, length-take-le}
-use borrow.Author.Tests.{eqb-false, ne-eqb, le-leb}
+use borrow.Author.Tests.{eqb-false, eq-eqb, ne-eqb, le-leb, lt-leb}
 use Rattle.trees.specs.Label.{Label, sameLabel}
 use Rattle.trees.specs.Stored.{partOf, isPart, isAmong}
 use Rattle.trees.proofs.Bools.{bool-cases}
@@ -22,6 +22,33 @@ unfolding partOf
 part-here before x rest p e =
     let h : p + length x ≤ length (before ++ (x ++ rest)) = simp length-append (omega arith) in
     rw (le-leb (p + length x) (length (before ++ (x ++ rest))) h, drop-at before (x ++ rest) p (sym e)) (take-at x rest (length x) refl)
+
+-- the test of one part, step by step
+part-nothing : (text : List ℕ) (p : ℕ) → partOf p 0 text ≡ []
+unfolding partOf
+part-nothing text p = go (leb (p + 0) (length text))
+  where
+    go : (b : Bool) → cond b (take 0 (drop p text)) [] ≡ []
+    go true = refl
+    go false = refl
+
+pub part-empty : (text : List ℕ) (x : Label) (p z : ℕ) → z ≡ length x → length x ≡ 0 → isPart text p z x ≡ true
+unfolding sameLabel
+part-empty text [] p z e h = rw (e, part-nothing text p) refl
+part-empty text (b ∷ x) p z e h = absurd (omega arith)
+
+module _ (text : List ℕ) (x : Label) (p z : ℕ) where
+  pub part-size : (z ≡ length x → ⊥) → isPart text p z x ≡ false
+  part-size h = rw (ne-eqb z (length x) h) refl
+
+  pub part-past : 0 < length x → length text < p + z → isPart text p z x ≡ false
+  unfolding partOf
+  part-past h l =
+      rw (lt-leb (p + z) (length text) l, lengths-differ x [] (λ (e : length x ≡ 0). omega arith)) (and-false (eqb z (length x)))
+
+  pub part-inside : z ≡ length x → p + z ≤ length text → isPart text p z x ≡ sameLabel x (take (length x) (drop p text))
+  unfolding partOf
+  part-inside e l = rw (le-leb (p + z) (length text) l, eq-eqb z (length x) e, e) refl
 
 module _ (text : List ℕ) (x : Label) where
   pub part-same : (y pre post : List ℕ) (p : ℕ) → p ≡ length pre → text ≡ pre ++ (y ++ post) → isPart text p (length y) x ≡ sameLabel x y

@@ -2,8 +2,6 @@
 use Prim.Native.Nat.{ℕ, zero, suc}
 use mathlib.Core.Bool.{Bool, cond, _&&_, _||_}
 use mathlib.Core.List.{List, [], _∷_}
-use Prim.Native.Char.{code}
-use Prim.Native.String.{String, [] as no-text, _∷_ as _then_}
 use lib.Dec.{eqb, leb}
 use Rattle.trees.specs.declared.Kind.{Kind}
 use Rattle.trees.specs.declared.Kind.the-variants.{Label, Open, Close, Comma, Semicolon, Other}
@@ -61,8 +59,3 @@ codesFrom (suc n) b = codeOf (kindOf b) ∷ codesFrom n (suc b)
 unfoldable pub classTable : List ℕ
 unfolding codesFrom
 classTable = codesFrom 256 0
-
--- the bytes of a text that is written out, so that definitions and tables can show the paper's words
-unfoldable pub bytesOf : String → List ℕ
-bytesOf no-text = []
-bytesOf (c then rest) = code c ∷ bytesOf rest

@@ -515,15 +515,26 @@ pub fn leaf_label<'a>(text: &'a [u8], start: &[usize], size: &[usize], u: usize)
     part(text, entry(start, u), entry(size, u))
 }
 
-// Whether the part that entry u of starts and sizes names is the label. The size comes first: of most labels it is another.
+// Whether the part that entry u of starts and sizes names is the label. This is the readers' innermost test: the size comes first,
+// and a part past the end is told without one being made.
 fn is_part(text: &[u8], start: &[usize], size: &[usize], u: usize, label: &[u8]) -> bool
     ensures { λ r. ⌜ r ≡ isPart (now (text .entry)) (getD (now (start .entry)) u 0) (getD (now (size .entry)) u 0) (now (label .entry)) ⌝ }
 {
-    if entry(size, u) == label.len() {
-        same_label(label, leaf_label(text, start, size, u))
-    } else {
-        false
+    let n = label.len();
+    if entry(size, u) != n {
+        return false;
     }
+    if n == 0 {
+        return true;
+    }
+    let from = entry(start, u);
+    if text.len() < from {
+        return false;
+    }
+    if text.len() - from < n {
+        return false;
+    }
+    same_label(label, &text[from..from + n])
 }
 
 // Whether one of the first `count` parts that starts and sizes name is the label.
