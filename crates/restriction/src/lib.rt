@@ -112,6 +112,7 @@ fn within_limit(nodes: usize) -> usize
 // What is left of a tree when only the leaves with a flag are kept; `kept` has a flag for each node number, and an inner
 // node's counts for nothing. Over every text: arrays of a tree give arrays of what is left of it, arrays of no leaf give
 // arrays of no leaf. Where they stand for no tree the result is free, but for its at most 159 nodes.
+// Free in any case are the entries past the result's nodes and the start and size of an inner node: nothing reads them.
 pub fn restrict_tree(tree: TreeArrays, kept: [bool; 159]) -> TreeArrays
     ensures tree { λ r. ⌜ ((text : List ℕ) (t : Tree) → treeOf tree text ≡ oneTree t → treeOf r text ≡ keptStanding tree text kept) ⌝ }
     ensures empty { λ r. ⌜ ((text : List ℕ) → treeOf tree text ≡ noLeaf → treeOf r text ≡ noLeaf) ⌝ }
