@@ -10,7 +10,6 @@ use lib.ListN.{length, getD, set, length-set}
 use lib.Seq.{getD-set-same, getD-set-other}
 use borrow.Author.Tests.{eqb-true, eqb-false, ne-eqb, ltb-true}
 use Rattle.trees.proofs.Bools.{bool-cases}
-use Rattle.trees.specs.Arrays.{nodeLimit}
 use Rattle.restriction.specs.declared.Fate.{Fate}
 use Rattle.restriction.specs.declared.Fate.the-variants.{Known, Fresh}
 use Rattle.restriction.specs.KeptMachine.{Pass, movedTo, joined, fateOf, settled, stepOf, passOf, nodesKept}

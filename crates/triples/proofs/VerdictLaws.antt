@@ -8,7 +8,7 @@ use native.Mathlib.Omega.{arith}
 use Rattle.trees.specs.declared.Reason.{Reason}
 use Rattle.trees.specs.declared.Reason.the-variants.{FirstLacks, SecondLacks}
 use Rattle.trees.specs.declared.Body.the-variants.{S, T, K}
-use Rattle.trees.specs.Refusals.{numberOf, letterOf}
+use Rattle.trees.specs.Refusals.{numberOf}
 use Rattle.trees.specs.Label.{Label, distinct}
 use Rattle.trees.specs.Tree.{Tree, leaves}
 use Rattle.trees.specs.Reading.{good, refused}

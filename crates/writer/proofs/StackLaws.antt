@@ -1,24 +1,22 @@
 -- The stack of things to write: one step of it, what it writes and how many steps are left. Assumes nothing.
 use Prim.Native.Nat.{ℕ, zero, suc, _+_, _*_, _-_, _≤_, _<_}
 use mathlib.Core.Path.{_≡_, refl, sym, _∙_, ap, ap₂, subst}
-use mathlib.Core.Bool.{Bool, true, false, cond, not}
+use mathlib.Core.Bool.{Bool, true, false, cond}
 use mathlib.Core.Logic.{_⊎_, inl, inr}
 use mathlib.Core.List.{List, [], _∷_, _++_, append-assoc, append-nil}
 use native.Mathlib.Omega.{arith}
-use native.Mathlib.Numerals.{add-one}
 use lib.Dec.{eqb, ltb}
 use lib.ListN.{length, getD, set, replicate, length-append, length-set, length-replicate}
 use lib.Seq.{sets, getD-set-same, getD-set-other}
-use borrow.Author.Tests.{eq-eqb, ne-eqb, eqb-true, eqb-false, lt-ltb, le-ltb, ltb-true, ltb-false}
+use borrow.Author.Tests.{eq-eqb, ne-eqb, eqb-true, eqb-false, lt-ltb, le-ltb, ltb-true}
 use Rattle.trees.specs.declared.TreeArrays.{TreeArrays}
 use Rattle.trees.specs.Tree.{Tree, leaf, node, leaves}
 use Rattle.trees.specs.Arrays.{goodNodes, isLeaf, labelAt}
 use Rattle.trees.proofs.Bools.{bool-cases}
-use Rattle.trees.proofs.ArrayLaws.{good-at, children-below}
 use Rattle.writer.specs.Passes.{labelIn, goesFirst, firstAt, below, nodeText, Leasts, Child, own, pair, otherOf, Children}
 use Rattle.writer.specs.Passes.{markOf, thingText, ownText, goesOn, depthAfter, stackAfter, stackText, thingSteps, stackSteps}
 use Rattle.writer.proofs.NodeLaws.{below-leaf, below-node}
-use Rattle.writer.proofs.PassLaws.{Pair, pair-of, leaf-written}
+use Rattle.writer.proofs.PassLaws.{pair-of, leaf-written}
 use Rattle.writer.proofs.WriteLaws.{sets-append}
 
 -- the child that goes first; v is what the code answers

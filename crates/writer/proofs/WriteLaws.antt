@@ -51,20 +51,6 @@ sets-more x l i k h =
     ∙ sym (sets-append (take k x) (getD x k 0 ∷ []) l i)
     ∙ ap (sets l i) (sym (take-suc x k 0 h) ∙ ap (λ (m : ℕ). take m x) (sym (add-one k)))
 
--- an inner node: `(`, a child, `,`, the other child, `)`
-pub sets-node : (x y l p q : List ℕ) (at i j : ℕ) → p ≡ sets (set l at 40) (at + 1) x → i ≡ at + 1 + length x
-    → q ≡ sets (set p i 44) (i + 1) y → j ≡ i + 1 + length y
-    → set q j 41 ≡ sets l at (40 ∷ (x ++ (44 ∷ (y ++ (41 ∷ [])))))
-sets-node x y l p q at i j ep ei eq ej =
-    let p′ : p ≡ sets (set l at 40) (suc at) x = ep ∙ ap (λ (k : ℕ). sets (set l at 40) k x) (add-one at) in
-    let i′ : i ≡ suc at + length x = ei ∙ ap (λ (k : ℕ). k + length x) (add-one at) in
-    let q′ : q ≡ sets (set p i 44) (suc i) y = eq ∙ ap (λ (k : ℕ). sets (set p i 44) k y) (add-one i) in
-    let j′ : j ≡ suc i + length y = ej ∙ ap (λ (k : ℕ). k + length y) (add-one i) in
-    ap₂ (λ (o : List ℕ) (k : ℕ). set o k 41) q′ j′
-    ∙ sym (sets-append y (41 ∷ []) (set p i 44) (suc i))
-    ∙ ap₂ (λ (o : List ℕ) (k : ℕ). sets (set o k 44) (suc k) (y ++ (41 ∷ []))) p′ i′
-    ∙ sym (sets-append x (44 ∷ (y ++ (41 ∷ []))) (set l at 40) (suc at))
-
 -- ---- what arrays stand for
 
 -- the text is the root's and `;`

@@ -1,11 +1,10 @@
 -- `writer::put_own` meets its contract: a mark, a label or `(`. Assumes nothing.
-use mathlib.Core.Path.{_≡_, refl, sym, _∙_, ap, ap₂}
+use mathlib.Core.Path.{_≡_, sym, _∙_, ap, ap₂}
 use mathlib.Core.List.{List, [], _∷_}
-use Prim.Native.Nat.{ℕ, _+_, _≤_}
+use Prim.Native.Nat.{ℕ, _+_}
 use native.Mathlib.Omega.{arith}
 use lib.ListN.{length, getD, take, drop}
 use lib.Seq.{sets}
-use Rattle.writer.specs.Passes.{ownText, labelIn, markOf}
 use Rattle.writer.proofs.StackLaws.{own-mark, own-label, own-open}
 use borrow.Author.Needs.{needs}
 use Rattle.writer.proofs.put_own.Statement.{statement}
