@@ -7,8 +7,8 @@ use native.Mathlib.Nat.{add-zero, add-suc, suc-add}
 use native.Mathlib.Numerals.{add-one}
 use native.Mathlib.Omega.{arith}
 use lib.Dec.{eqb, leb}
-use lib.ListN.{length, getD, set, take, drop, replicate, length-append, length-take, length-drop, drop-of-length-le}
-use lib.Seq.{sets, sets-eq, take-suc, take-all, take-nil}
+use lib.ListN.{length, getD, set, take, drop, replicate, length-append, length-take}
+use lib.Seq.{sets, sets-eq, take-suc}
 use borrow.Author.Tests.{le-leb, lt-leb, eq-eqb, ne-eqb}
 use Rattle.trees.specs.declared.TreeArrays.{TreeArrays}
 use Rattle.trees.specs.Tree.{Tree, leaves, normal}
@@ -19,22 +19,6 @@ use Rattle.writer.specs.declared.WriteAnswer.the-variants.{Written, Refu
 use Rattle.writer.specs.Write.{standingText, outputTooShort, textAnswer, textOutput, writeAnswer, outputAfter}
 use Rattle.writer.specs.Passes.{rootSum, below}
 use Rattle.writer.proofs.PassLaws.{leaves-found, lengths-found, written-bound, normal-length}
-
--- ---- a part of the text
-
-pub part-out : (t : List ℕ) (s n : ℕ) → length t < s → take (length t - length t) (drop (length t) t) ≡ take n (drop s t)
-part-out t s n h =
-    rw (drop-of-length-le t {i = length t} (omega arith), drop-of-length-le t {i = s} (omega arith))
-    (take-nil (length t - length t) ∙ sym (take-nil n))
-
-pub part-short : (t : List ℕ) (s n : ℕ) → length t - s < n → take (length t - s) (drop s t) ≡ take n (drop s t)
-part-short t s n h =
-    take-all (length t - s) (drop s t) (omega (arith, length-drop s t)) ∙ sym (take-all n (drop s t) (omega (arith, length-drop s t)))
-
-pub part-in : (t : List ℕ) (s n : ℕ) → take (s + n - s) (drop s t) ≡ take n (drop s t)
-part-in t s n =
-    let e : s + n - s ≡ n = omega arith in
-    ap (λ (k : ℕ). take k (drop s t)) e
 
 -- ---- runs of stores
 
