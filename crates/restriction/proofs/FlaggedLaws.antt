@@ -20,16 +20,9 @@ use Rattle.trees.proofs.LabelLaws.{same-eq, same-refl}
 use Rattle.trees.proofs.ArrayLaws.{stands}
 use Rattle.trees.proofs.PostorderLaws.{leaf-once}
 use Rattle.agreement.specs.Restrict.{restrict}
-use Rattle.restriction.specs.Flagged.{isThisLeaf, flaggedBelow, flagged}
+use Rattle.restriction.specs.Flagged.{isThisLeaf, flaggedBelow, flagged, FlaggedLeaf}
 use Rattle.restriction.specs.Kept.{standingOf, keptStanding}
 use Rattle.restriction.proofs.RestrictionLaws.{own-kept}
-
--- a node below n that is the leaf x and has a flag
-pub record FlaggedLeaf (n : ℕ) (ts : List Tree) (kept : List Bool) (x : Label) : Type 0 where
-  pub at : ℕ
-  pub below : at < n
-  pub flag : getD kept at false ≡ true
-  pub is : subtree ts at ≡ leaf x
 
 this-leaf : (t : Tree) (x : Label) → isThisLeaf t x ≡ true → t ≡ leaf x
 unfolding isThisLeaf

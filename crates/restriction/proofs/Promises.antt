@@ -12,10 +12,10 @@ use Rattle.trees.specs.Text.{textOf}
 use Rattle.trees.specs.Arrays.{nodesOf, arraysOf, isLeaf, labelAt, treeOf, oneTree}
 use Rattle.trees.specs.Postorder.{postorder, subtree}
 use Rattle.agreement.specs.Restrict.{restrict}
-use Rattle.restriction.specs.Flagged.{flagged}
+use Rattle.restriction.specs.Flagged.{flagged, FlaggedLeaf}
 use Rattle.restriction.specs.Kept.{standingOf, keptStanding}
 use Rattle.restriction.proofs.RestrictionLaws.{kept-standing, own-kept}
-use Rattle.restriction.proofs.FlaggedLaws.{FlaggedLeaf, flagged-iff, kept-flagged, result-flagged}
+use Rattle.restriction.proofs.FlaggedLaws.{flagged-iff, kept-flagged, result-flagged}
 
 -- "Source document 003 defines restriction: drop the other leaves and the inner nodes left with one child.": what the contract of
 -- `restrict_tree` says of its result over a valid tree's arrays is that it stands for the restriction to the flagged labels

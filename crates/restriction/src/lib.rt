@@ -5,6 +5,7 @@ use trees::TreeArrays;
 ghost use mathlib.Core.Path.{_≡_};
 ghost use mathlib.Core.List.{List};
 ghost use Prim.Native.Nat.{ℕ, _<_, _≤_, min};
+ghost use lib.ListN.{getD};
 ghost use Rattle.trees.specs.Tree.{Tree};
 ghost use Rattle.trees.specs.Arrays.{treeOf, noLeaf, oneTree};
 ghost use Rattle.restriction.specs.Kept.{keptStanding};
@@ -111,10 +112,13 @@ fn within_limit(nodes: usize) -> usize
 
 // What is left of a tree when only the leaves with a flag are kept; `kept` has a flag for each node number, and an inner
 // node's counts for nothing. Over every text: arrays of a tree give arrays of what is left of it, arrays of no leaf give
-// arrays of no leaf. Where they stand for no tree the result is free, but for its at most 159 nodes.
+// arrays of no leaf. A leaf of the result is its own left and right child. Where they stand for no tree the result is free, but
+// for that and its at most 159 nodes.
+// Free in any case are the entries past the result's nodes and the start and size of an inner node: nothing reads them.
 pub fn restrict_tree(tree: TreeArrays, kept: [bool; 159]) -> TreeArrays
     ensures tree { λ r. ⌜ ((text : List ℕ) (t : Tree) → treeOf tree text ≡ oneTree t → treeOf r text ≡ keptStanding tree text kept) ⌝ }
     ensures empty { λ r. ⌜ ((text : List ℕ) → treeOf tree text ≡ noLeaf → treeOf r text ≡ noLeaf) ⌝ }
+    ensures leaves { λ r. ⌜ ((u : ℕ) → u < r .nodes → getD (r .left) u 0 ≡ u → getD (r .right) u 0 ≡ u) ⌝ }
     ensures fits { λ r. ⌜ r .nodes ≤ 159 ⌝ }
 {
     let n = within_limit(tree.nodes);

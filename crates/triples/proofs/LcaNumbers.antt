@@ -130,10 +130,6 @@ pub record LcaAt (t : Tree) (a b : Label) (n : ℕ) : Type 0 where
   pub second : holds (subtree (postorder t) n) b ≡ true
   pub least : (m : ℕ) → m < n → holds (subtree (postorder t) m) a ≡ true → holds (subtree (postorder t) m) b ≡ true → ⊥
 
-pub lca-at-swap : (t : Tree) (a b : Label) (n : ℕ) → LcaAt t a b n → LcaAt t b a n
-lca-at-swap t a b n r =
-    record { below = r .below; first = r .second; second = r .first; least = λ m h p q. r .least m h q p }
-
 -- the search finds it
 module _ (t : Tree) (d : distinct (leaves t) ≡ true) (left right low : List ℕ) (laid : Laid left right (postorder t))
     (filled : (u : ℕ) → u < nodesOf t → LowAt left low u) (a b : Label) (u v : ℕ) (below-u : u < nodesOf t)

@@ -6,4 +6,5 @@ pub mod RowLaws
 pub mod ClashSearch
 pub mod Composed
 pub mod Readings
+pub mod VerdictLaws
 pub mod Promises

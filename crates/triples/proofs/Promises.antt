@@ -1,95 +1,64 @@
--- What the verdict promises, in the scope paper's order; the theory of agreement is cited. Assumes nothing.
+-- What the verdict promises, in the scope paper's order; each proof is a name cited. Assumes nothing.
 use Prim.Native.Nat.{ℕ}
-use mathlib.Core.Path.{_≡_, refl, sym, _∙_, ap}
-use mathlib.Core.Bool.{true}
+use mathlib.Core.Path.{_≡_, refl}
 use mathlib.Core.Logic.{_↔_}
-use mathlib.Core.List.{List}
-use native.Mathlib.Omega.{arith}
+use mathlib.Core.List.{List, [], _∷_}
 use Rattle.trees.specs.declared.Reason.{Reason}
-use Rattle.trees.specs.declared.Reason.the-variants.{FirstLacks, SecondLacks}
-use Rattle.trees.specs.declared.Body.the-variants.{S, T, K}
-use Rattle.trees.specs.Label.{Label, distinct}
-use Rattle.trees.specs.Tree.{Tree, leaves}
+use Rattle.trees.specs.declared.Refusal.{Refusal}
+use Rattle.trees.specs.Refusals.{numberOf, letterOf}
+use Rattle.trees.specs.Label.{Label}
+use Rattle.trees.specs.Tree.{Tree}
 use Rattle.trees.specs.Reading.{good, refused}
 use Rattle.newick.specs.ReadTree.{readTree}
-use Rattle.newick.proofs.Accepts.{accepts}
 use Rattle.lists.specs.ReadList.{readList}
-use Rattle.lists.proofs.Accepts.{list-accepts}
 use Rattle.agreement.specs.Closer.{Agree, Common}
 use Rattle.agreement.specs.Sets.{setOf}
-use Rattle.agreement.specs.Answer.{Answer, firstLacks, secondLacks, disagree, largest, largestSet, answer}
 use Rattle.agreement.specs.Demand.{IsDisagreement, IsFirstLacks, IsSecondLacks}
 use Rattle.agreement.specs.Places.{placeOfNumber, placeOfLabel}
-use Rattle.agreement.proofs.AnswerLaws.{agree-no-clash}
-use Rattle.agreement.proofs.DemandLaws.{set-answered, disagree-exactly, largest-exactly, firstLacks-exactly}
-use Rattle.agreement.proofs.DemandLaws.{secondLacks-exactly, allowed-held}
 use Rattle.triples.specs.declared.Agreement.the-variants.{Agreed, Disagree, Refused}
-use Rattle.triples.proofs.Readings.{AllRead, agreed-on}
-use Rattle.triples.specs.Verdict.{verdictOf, verdictOnList, verdictOnSecond, verdictOn, verdict}
+use Rattle.triples.specs.Verdict.{verdict, AllRead, agrees, row, toldBy}
+use Rattle.triples.proofs.VerdictLaws.{first-row, second-row, list-row, six-row, seven-row, eight-row, agreed-told, agreed-bodies}
+
+-- each answer is a row of the table, or that the trees agree
+pub answers-told : (a b c : ℕ) (r : Refusal)
+    → (toldBy Agreed ≡ agrees) × (toldBy (Disagree a b c) ≡ row 8 75 0 (a ∷ b ∷ c ∷ []))
+    × (toldBy (Refused r) ≡ row (numberOf (r .reason)) (letterOf (r .body)) (r .place) [])
+unfolding toldBy
+answers-told a b c r = (refl, refl, refl)
 
 -- "Order: .. S, T, K, then 6 or 7, then 8"; "A body that fails to read ends the job there."
 module _ (first second list : List ℕ) (r : Reason) (i : ℕ) where
-  pub first-refused : readTree first ≡ refused r i → verdict first second list ≡ Refused (record { reason = r; body = S; place = i })
-  unfolding verdict verdictOn
-  first-refused e = rw e refl
+  pub first-refused : readTree first ≡ refused r i → toldBy (verdict first second list) ≡ row (numberOf r) 83 i []
+  first-refused = first-row first second list r i
 
   pub second-refused : (s : Tree) → readTree first ≡ good s → readTree second ≡ refused r i
-      → verdict first second list ≡ Refused (record { reason = r; body = T; place = i })
-  unfolding verdict verdictOn verdictOnSecond
-  second-refused s e d = rw (e, d) refl
+      → toldBy (verdict first second list) ≡ row (numberOf r) 84 i []
+  second-refused = second-row first second list r i
 
   pub list-refused : (s t : Tree) → readTree first ≡ good s → readTree second ≡ good t → readList list ≡ refused r i
-      → verdict first second list ≡ Refused (record { reason = r; body = K; place = i })
-  unfolding verdict verdictOn verdictOnSecond verdictOnList
-  list-refused s t e d f = rw (e, d, f) refl
+      → toldBy (verdict first second list) ≡ row (numberOf r) 75 i []
+  list-refused = list-row first second list r i
 
 module _ (first second list : List ℕ) (s t : Tree) (xs : List Label) (read1 : readTree first ≡ good s)
     (read2 : readTree second ≡ good t) (read3 : readList list ≡ good xs) where
-  on-answer : verdict first second list ≡ verdictOf xs (answer s t xs)
-  unfolding verdict verdictOn verdictOnSecond verdictOnList
-  on-answer = rw (read1, read2, read3) refl
-
-  d1 : distinct (leaves s) ≡ true
-  d1 = accepts first s read1 .1 .different
-
-  d3 : distinct xs ≡ true
-  d3 = list-accepts list xs read3 .2
-
   -- "Numbers 6 and 7 go to the first label in list order that either tree lacks."
-  pub six-promise : (n : ℕ) → IsFirstLacks s t xs n
-      → verdict first second list ≡ Refused (record { reason = FirstLacks; body = K; place = placeOfNumber xs n })
-  unfolding verdictOf
-  six-promise n p = on-answer ∙ ap (verdictOf xs) (firstLacks-exactly s t xs d1 d3 n .1 p)
+  pub six-promise : (n : ℕ) → IsFirstLacks s t xs n → toldBy (verdict first second list) ≡ row 6 75 (placeOfNumber xs n) []
+  six-promise = six-row first second list s t xs read1 read2 read3
 
-  pub seven-promise : (n : ℕ) → IsSecondLacks s t xs n
-      → verdict first second list ≡ Refused (record { reason = SecondLacks; body = K; place = placeOfNumber xs n })
-  unfolding verdictOf
-  seven-promise n p = on-answer ∙ ap (verdictOf xs) (secondLacks-exactly s t xs d1 d3 n .1 p)
+  pub seven-promise : (n : ℕ) → IsSecondLacks s t xs n → toldBy (verdict first second list) ≡ row 7 75 (placeOfNumber xs n) []
+  seven-promise = seven-row first second list s t xs read1 read2 read3
 
   -- "Number 8 names the first such three, sorted, compared label by label."
   pub eight-promise : (a b c : Label) → Common s t (setOf xs) → IsDisagreement s t xs a b c
-      → verdict first second list ≡ Disagree (placeOfLabel xs 0 a) (placeOfLabel xs 0 b) (placeOfLabel xs 0 c)
-  unfolding verdictOf
-  eight-promise a b c h p = on-answer ∙ ap (verdictOf xs) (disagree-exactly s t xs d1 d3 a b c h .1 p)
+      → toldBy (verdict first second list)
+      ≡ row 8 75 0 (placeOfLabel xs 0 a ∷ placeOfLabel xs 0 b ∷ placeOfLabel xs 0 c ∷ [])
+  eight-promise = eight-row first second list s t xs read1 read2 read3
 
   -- "Trees agree on a set of leaves common to both exactly if each three of the set have the same closer pair in both"
   pub agreed-exactly : (verdict first second list ≡ Agreed) ↔ (Common s t (setOf xs) × Agree s t (setOf xs))
-  unfolding verdictOf
-  agreed-exactly = (λ e. there (answer s t xs) refl (sym on-answer ∙ e), λ h. on-answer ∙ ap (verdictOf xs) (back h))
-    where
-      back : Common s t (setOf xs) × Agree s t (setOf xs) → answer s t xs ≡ largest (largestSet s t xs)
-      back (c, a) = set-answered s t xs d1 d3 c (agree-no-clash s t (setOf xs) xs a (λ x m. m))
-
-      there : (A : Answer) → answer s t xs ≡ A → verdictOf xs (answer s t xs) ≡ Agreed → Common s t (setOf xs) × Agree s t (setOf xs)
-      there (firstLacks n) e h = absurd (let d = ap (verdictOf xs) e in let z : _≡_ {A = ℕ} 0 1 = cc in omega arith)
-      there (secondLacks n) e h = absurd (let d = ap (verdictOf xs) e in let z : _≡_ {A = ℕ} 0 1 = cc in omega arith)
-      there (disagree a b c) e h = absurd (let d = ap (verdictOf xs) e in let z : _≡_ {A = ℕ} 0 1 = cc in omega arith)
-      there (largest X) e h =
-          let p = largest-exactly s t xs d1 d3 X .0 e .allowedSet in
-          (allowed-held s t xs X p, λ a b c i j k. p .agreed a b c (p .required a i) (p .required b j) (p .required c k))
+  agreed-exactly = agreed-told first second list s t xs read1 read2 read3
 
 -- where a body cannot be read they do not agree
 pub agreed-read : (first second list : List ℕ) → verdict first second list ≡ Agreed
     → AllRead (readTree first) (readTree second) (readList list)
-unfolding verdict
-agreed-read first second list e = agreed-on (readTree first) (readTree second) (readList list) e
+agreed-read = agreed-bodies

@@ -21,7 +21,7 @@ use Rattle.lists.specs.ReadList.{readList, listRead, placesOf}
 use Rattle.lists.proofs.Accepts.{list-accepts}
 use Rattle.agreement.specs.Answer.{answer}
 use Rattle.triples.specs.declared.Agreement.the-variants.{Agreed}
-use Rattle.triples.specs.Verdict.{verdictOf, verdictOnList, verdictOnSecond, verdictOn, verdict}
+use Rattle.triples.specs.Verdict.{verdictOf, verdictOnList, verdictOnSecond, verdictOn, verdict, AllRead}
 use Rattle.triples.specs.Loops.{treeRefusal, listRefusal, Given}
 
 -- a tree that was read, and a list
@@ -125,14 +125,6 @@ module _ (first second list : List ℕ) where
         few-read = omega (arith, ap (λ (q : LabelPlaces). q .count) (k .places), given-read .few)
 
 -- where the verdict is that the trees agree, all three bodies were read
-pub record AllRead (one two : Reading Tree) (three : Reading (List Label)) : Type 0 where
-  pub first : Tree
-  pub second : Tree
-  pub labels : List Label
-  pub read1 : one ≡ good first
-  pub read2 : two ≡ good second
-  pub read3 : three ≡ good labels
-
 pub agreed-on : (one two : Reading Tree) (three : Reading (List Label)) → verdictOn one two three ≡ Agreed → AllRead one two three
 unfolding verdictOn verdictOnSecond verdictOnList
 agreed-on (good s) (good t) (good xs) h =

@@ -1,6 +1,6 @@
 -- The rows of ancestor numbers of one rank tell which later ranks clash with it: of three leaves the least common ancestors with the
 -- first tell the closer pair. Assumes nothing.
-use Prim.Native.Nat.{ℕ, zero, suc, _%_, _<_, _≤_, min}
+use Prim.Native.Nat.{ℕ, zero, suc, _%_, _<_, min}
 use mathlib.Core.Path.{_≡_, refl, sym, _∙_, ap, subst}
 use mathlib.Core.Bool.{Bool, true, false, not, _||_}
 use mathlib.Core.Logic.{inl, inr}
@@ -8,7 +8,7 @@ use mathlib.Core.List.{List, [], _∷_}
 use native.Mathlib.Omega.{arith}
 use lib.ListN.{length, getD}
 use Rattle.trees.specs.Label.{Label, sameLabel, isIn, distinct}
-use Rattle.trees.specs.Tree.{Tree, leaves}
+use Rattle.trees.specs.Tree.{Tree}
 use Rattle.trees.specs.Arrays.{arraysOf, nodesOf}
 use Rattle.trees.specs.Postorder.{postorder, subtree}
 use Rattle.trees.proofs.Bools.{clash}

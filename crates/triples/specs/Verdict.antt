@@ -1,8 +1,10 @@
 -- The verdict on two tree texts and a list of labels. Scope paper, "Agreement" and rows 1 to 8 of "Why a job is turned down".
 use Prim.Native.Nat.{ℕ}
-use mathlib.Core.List.{List}
+use mathlib.Core.Path.{_≡_}
+use mathlib.Core.List.{List, [], _∷_}
 use Rattle.trees.specs.declared.Reason.the-variants.{FirstLacks, SecondLacks}
 use Rattle.trees.specs.declared.Body.the-variants.{S, T, K}
+use Rattle.trees.specs.Refusals.{numberOf, letterOf}
 use Rattle.trees.specs.Label.{Label}
 use Rattle.trees.specs.Tree.{Tree}
 use Rattle.trees.specs.Reading.{Reading, good, refused}
@@ -39,3 +41,24 @@ verdictOn (refused r i) second list = Refused (record { reason = r; body = S; pl
 unfoldable pub verdict : List ℕ → List ℕ → List ℕ → Agreement
 unfolding verdictOn
 verdict first second list = verdictOn (readTree first) (readTree second) (readList list)
+
+-- all three bodies were read
+pub record AllRead (one two : Reading Tree) (three : Reading (List Label)) : Type 0 where
+  pub first : Tree
+  pub second : Tree
+  pub labels : List Label
+  pub read1 : one ≡ good first
+  pub read2 : two ≡ good second
+  pub read3 : three ≡ good labels
+
+-- an answer in the scope paper's terms: that the trees agree, or a row of "Why a job is turned down" with its number, the letter's
+-- byte, the place and, for number 8, the places of its three labels in K
+pub data Told : Type 0 where
+  agrees : Told
+  row : ℕ → ℕ → ℕ → List ℕ → Told
+
+unfoldable pub toldBy : Agreement → Told
+unfolding numberOf letterOf
+toldBy Agreed = agrees
+toldBy (Disagree a b c) = row 8 75 0 (a ∷ b ∷ c ∷ [])
+toldBy (Refused r) = row (numberOf (r .reason)) (letterOf (r .body)) (r .place) []

@@ -3,4 +3,5 @@ pub mod PassLaws
 pub mod StepLaws
 pub mod WriteLaws
 pub mod StackLaws
+pub mod AnswerLaws
 pub mod Promises

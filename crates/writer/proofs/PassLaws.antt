@@ -8,7 +8,7 @@ use mathlib.Core.List.{List, [], _∷_, _++_}
 use native.Mathlib.Nat.{le-of-suc-le-suc, not-suc-le-zero, eq-or-lt-of-le}
 use native.Mathlib.Numerals.{add-one}
 use native.Mathlib.Omega.{arith}
-use borrow.Author.Tests.{ne-eqb}
+use borrow.Author.Tests.{ne-eqb, le-leb}
 use lib.ListN.{length, getD, set, replicate, length-append, length-set, length-take, length-drop, getD-replicate}
 use lib.Seq.{getD-set-same, getD-set-other}
 use Rattle.trees.specs.declared.TreeArrays.{TreeArrays}
@@ -16,6 +16,7 @@ use Rattle.trees.specs.Label.{Label, labelLess}
 use Rattle.trees.specs.Tree.{Tree, leaf, node, leaves, smallest, normal}
 use Rattle.trees.specs.Text.{written}
 use Rattle.trees.specs.Arrays.{isLeaf, labelAt, goodNodes}
+use Rattle.trees.specs.Stored.{partOf}
 use Rattle.trees.proofs.Bools.{bool-cases}
 use Rattle.trees.proofs.ArrayLaws.{good-at, label-inside, children-below}
 use Rattle.writer.specs.Passes.{pass, sumAt, labelIn, goesFirst, leastAt, below, nodeText, Leasts}
@@ -88,6 +89,12 @@ module _ (a : TreeArrays) (text : List ℕ) (n : ℕ) (g : goodNodes a text n �
   label-length u h e =
       simp (length-take, length-drop) (omega (arith, label-inside a text u (good-at a text n g u h) e .inside))
 
+  -- a leaf's label lies in the text
+  pub label-part : (u : ℕ) → u < n → isLeaf a u ≡ true → labelIn text (a .start) (a .size) u ≡ labelAt a text u
+  unfolding partOf labelAt
+  label-part u h e =
+      rw (le-leb (getD (a .start) u 0 + getD (a .size) u 0) (length text) (label-inside a text u (good-at a text n g u h) e .inside)) refl
+
   pub leaves-found : (t : List ℕ) → n ≤ length t → n ≤ 159
       → (u : ℕ) → u < n
       → getD (pass (sumAt (a .left) (a .right) (replicate 159 0) 1 81) t n) u 0 ≡ min 81 (length (leaves (below a text u)))
@@ -130,7 +137,7 @@ module _ (a : TreeArrays) (text : List ℕ) (n : ℕ) (g : goodNodes a text n �
           ))
 
   pub leasts-found : (t : List ℕ) → n ≤ length t → Leasts a text (pass (leastAt text (a .left) (a .right) (a .start) (a .size)) t n) n
-  unfolding leastAt isLeaf labelAt smallest goesFirst
+  unfolding leastAt isLeaf smallest goesFirst
   leasts-found t l =
       pass-holds (λ u v. labelIn text (a .start) (a .size) v ≡ smallest (below a text u))
       (leastAt text (a .left) (a .right) (a .start) (a .size)) t n l
@@ -144,7 +151,7 @@ module _ (a : TreeArrays) (text : List ℕ) (n : ℕ) (g : goodNodes a text n �
       go : (s : List ℕ) (u : ℕ) → u < n → ((k : ℕ) → k < u → labelIn text (a .start) (a .size) (getD s k 0) ≡ smallest (below a text k))
           → (isLeaf a u ≡ true) ⊎ (isLeaf a u ≡ false)
           → labelIn text (a .start) (a .size) (leastAt text (a .left) (a .right) (a .start) (a .size) s u) ≡ smallest (below a text u)
-      go s u h all (inl e) = rw (e, below-leaf a text u e) refl
+      go s u h all (inl e) = rw (e, below-leaf a text u e) (label-part u h e)
       go s u h all (inr e) =
           let x : ℕ = getD (a .left) u 0 in
           let y : ℕ = getD (a .right) u 0 in

@@ -1,24 +1,22 @@
 -- The stack of things to write: one step of it, what it writes and how many steps are left. Assumes nothing.
 use Prim.Native.Nat.{ℕ, zero, suc, _+_, _*_, _-_, _≤_, _<_}
 use mathlib.Core.Path.{_≡_, refl, sym, _∙_, ap, ap₂, subst}
-use mathlib.Core.Bool.{Bool, true, false, cond, not}
+use mathlib.Core.Bool.{Bool, true, false, cond}
 use mathlib.Core.Logic.{_⊎_, inl, inr}
 use mathlib.Core.List.{List, [], _∷_, _++_, append-assoc, append-nil}
 use native.Mathlib.Omega.{arith}
-use native.Mathlib.Numerals.{add-one}
 use lib.Dec.{eqb, ltb}
 use lib.ListN.{length, getD, set, replicate, length-append, length-set, length-replicate}
 use lib.Seq.{sets, getD-set-same, getD-set-other}
-use borrow.Author.Tests.{eq-eqb, ne-eqb, eqb-true, eqb-false, lt-ltb, le-ltb, ltb-true, ltb-false}
+use borrow.Author.Tests.{eq-eqb, ne-eqb, eqb-true, eqb-false, lt-ltb, le-ltb, ltb-true}
 use Rattle.trees.specs.declared.TreeArrays.{TreeArrays}
 use Rattle.trees.specs.Tree.{Tree, leaf, node, leaves}
 use Rattle.trees.specs.Arrays.{goodNodes, isLeaf, labelAt}
 use Rattle.trees.proofs.Bools.{bool-cases}
-use Rattle.trees.proofs.ArrayLaws.{good-at, children-below}
 use Rattle.writer.specs.Passes.{labelIn, goesFirst, firstAt, below, nodeText, Leasts, Child, own, pair, otherOf, Children}
 use Rattle.writer.specs.Passes.{markOf, thingText, ownText, goesOn, depthAfter, stackAfter, stackText, thingSteps, stackSteps}
 use Rattle.writer.proofs.NodeLaws.{below-leaf, below-node}
-use Rattle.writer.proofs.PassLaws.{Pair, pair-of, leaf-written}
+use Rattle.writer.proofs.PassLaws.{pair-of, leaf-written, label-part}
 use Rattle.writer.proofs.WriteLaws.{sets-append}
 
 -- the child that goes first; v is what the code answers
@@ -74,7 +72,7 @@ module _ (a : TreeArrays) (text : List ℕ) (n : ℕ) (g : goodNodes a text n �
       r = getD (a .right) u 0
 
       go : (isLeaf a u ≡ true) ⊎ (isLeaf a u ≡ false) → Child a text u (getD first u 0) (otherOf (a .left) (a .right) (getD first u 0) u)
-      go (inl e) = own (found u h ∙ rw e refl) e
+      go (inl e) = own (found u h ∙ rw e refl) e (leaf-written a text u e ∙ sym (label-part a text n g u h e))
       go (inr e) =
           let b = goesFirst text (a .start) (a .size) t l r in
           let ef : getD first u 0 ≡ cond b l r = found u h ∙ rw e refl in
@@ -250,13 +248,14 @@ module _ (a : TreeArrays) (text first : List ℕ) (n : ℕ) (children : Children
   unfolding ownText stackAfter depthAfter goesOn thingText thingSteps
   step-mark e = record { writes = rw e refl; counts = rw e (omega arith); things = rw e all; long = rw e refl }
 
-  step-leaf : ltb k 159 ≡ true → getD first k 0 ≡ k → isLeaf a k ≡ true → Step a text first n stack d k
-  unfolding ownText stackAfter depthAfter goesOn thingText thingSteps labelAt
-  step-leaf e f l =
+  step-leaf : ltb k 159 ≡ true → getD first k 0 ≡ k → isLeaf a k ≡ true → nodeText a text k ≡ labelIn text (a .start) (a .size) k
+      → Step a text first n stack d k
+  unfolding ownText stackAfter depthAfter goesOn thingText thingSteps
+  step-leaf e f l made =
       let own-leaf = eq-eqb (getD first k 0) k f in
       let one : length (leaves (below a text k)) ≡ 1 = ap (λ (t : Tree). length (leaves t)) (below-leaf a text k l) ∙ leaf-one (labelAt a text k) in
       record {
-        writes = rw (e, own-leaf) (ap (λ (x : List ℕ). x ++ stackText a text stack d) (leaf-written a text k l));
+        writes = rw (e, own-leaf) (ap (λ (x : List ℕ). x ++ stackText a text stack d) made);
         counts = rw (e, own-leaf) (omega (arith, one));
         things = rw (e, own-leaf) all;
         long = rw (e, own-leaf) refl;
@@ -307,7 +306,7 @@ module _ (a : TreeArrays) (text first : List ℕ) (n : ℕ) (children : Children
     where
       node-step : ltb k 159 ≡ true → Child a text k (getD first k 0) (otherOf (a .left) (a .right) (getD first k 0) k)
           → Step a text first n stack d k
-      node-step e (own f l) = step-leaf e f l
+      node-step e (own f l made) = step-leaf e f l made
       node-step e (pair f s made count) =
           let h = below-n (ltb-true k 159 e) in
           step-pair e (λ (z : getD first k 0 ≡ k). omega arith) (omega arith) (omega arith) made count

@@ -7,8 +7,8 @@ use native.Mathlib.Nat.{add-zero, add-suc, suc-add}
 use native.Mathlib.Numerals.{add-one}
 use native.Mathlib.Omega.{arith}
 use lib.Dec.{eqb, leb}
-use lib.ListN.{length, getD, set, take, drop, replicate, length-append, length-take, length-drop, drop-of-length-le}
-use lib.Seq.{sets, sets-eq, take-suc, take-all, take-nil}
+use lib.ListN.{length, getD, set, take, drop, replicate, length-append, length-take}
+use lib.Seq.{sets, sets-eq, take-suc}
 use borrow.Author.Tests.{le-leb, lt-leb, eq-eqb, ne-eqb}
 use Rattle.trees.specs.declared.TreeArrays.{TreeArrays}
 use Rattle.trees.specs.Tree.{Tree, leaves, normal}
@@ -19,22 +19,6 @@ use Rattle.writer.specs.declared.WriteAnswer.the-variants.{Written, Refu
 use Rattle.writer.specs.Write.{standingText, outputTooShort, textAnswer, textOutput, writeAnswer, outputAfter}
 use Rattle.writer.specs.Passes.{rootSum, below}
 use Rattle.writer.proofs.PassLaws.{leaves-found, lengths-found, written-bound, normal-length}
-
--- ---- a part of the text
-
-pub part-out : (t : List ℕ) (s n : ℕ) → length t < s → take (length t - length t) (drop (length t) t) ≡ take n (drop s t)
-part-out t s n h =
-    rw (drop-of-length-le t {i = length t} (omega arith), drop-of-length-le t {i = s} (omega arith))
-    (take-nil (length t - length t) ∙ sym (take-nil n))
-
-pub part-short : (t : List ℕ) (s n : ℕ) → length t - s < n → take (length t - s) (drop s t) ≡ take n (drop s t)
-part-short t s n h =
-    take-all (length t - s) (drop s t) (omega (arith, length-drop s t)) ∙ sym (take-all n (drop s t) (omega (arith, length-drop s t)))
-
-pub part-in : (t : List ℕ) (s n : ℕ) → take (s + n - s) (drop s t) ≡ take n (drop s t)
-part-in t s n =
-    let e : s + n - s ≡ n = omega arith in
-    ap (λ (k : ℕ). take k (drop s t)) e
 
 -- ---- runs of stores
 
@@ -50,20 +34,6 @@ sets-more x l i k h =
     ap (λ (m : ℕ). set (sets l i (take k x)) (i + m) (getD x k 0)) (omega (arith, length-take k x))
     ∙ sym (sets-append (take k x) (getD x k 0 ∷ []) l i)
     ∙ ap (sets l i) (sym (take-suc x k 0 h) ∙ ap (λ (m : ℕ). take m x) (sym (add-one k)))
-
--- an inner node: `(`, a child, `,`, the other child, `)`
-pub sets-node : (x y l p q : List ℕ) (at i j : ℕ) → p ≡ sets (set l at 40) (at + 1) x → i ≡ at + 1 + length x
-    → q ≡ sets (set p i 44) (i + 1) y → j ≡ i + 1 + length y
-    → set q j 41 ≡ sets l at (40 ∷ (x ++ (44 ∷ (y ++ (41 ∷ [])))))
-sets-node x y l p q at i j ep ei eq ej =
-    let p′ : p ≡ sets (set l at 40) (suc at) x = ep ∙ ap (λ (k : ℕ). sets (set l at 40) k x) (add-one at) in
-    let i′ : i ≡ suc at + length x = ei ∙ ap (λ (k : ℕ). k + length x) (add-one at) in
-    let q′ : q ≡ sets (set p i 44) (suc i) y = eq ∙ ap (λ (k : ℕ). sets (set p i 44) k y) (add-one i) in
-    let j′ : j ≡ suc i + length y = ej ∙ ap (λ (k : ℕ). k + length y) (add-one i) in
-    ap₂ (λ (o : List ℕ) (k : ℕ). set o k 41) q′ j′
-    ∙ sym (sets-append y (41 ∷ []) (set p i 44) (suc i))
-    ∙ ap₂ (λ (o : List ℕ) (k : ℕ). sets (set o k 44) (suc k) (y ++ (41 ∷ []))) p′ i′
-    ∙ sym (sets-append x (44 ∷ (y ++ (41 ∷ []))) (set l at 40) (suc at))
 
 -- ---- what arrays stand for
 

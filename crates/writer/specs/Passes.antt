@@ -4,12 +4,13 @@ use mathlib.Core.Path.{_≡_}
 use mathlib.Core.Bool.{Bool, true, false, cond, not}
 use mathlib.Core.List.{List, [], _∷_, _++_}
 use lib.Dec.{eqb, ltb}
-use lib.ListN.{length, getD, set, take, drop, replicate}
+use lib.ListN.{length, getD, set, replicate}
 use Rattle.trees.specs.declared.TreeArrays.{TreeArrays}
 use Rattle.trees.specs.Label.{Label, labelLess}
 use Rattle.trees.specs.Tree.{Tree, leaves, normal, smallest}
 use Rattle.trees.specs.Text.{written}
 use Rattle.trees.specs.Arrays.{treeAt, isLeaf}
+use Rattle.trees.specs.Stored.{partOf}
 
 abbrev pub arraysFrom : ℕ → List ℕ → List ℕ → List ℕ → List ℕ → TreeArrays
 arraysFrom n l r s z = record { nodes = n; left = l; right = r; start = s; size = z }
@@ -31,7 +32,7 @@ rootSum l r w plus cap n = getD (pass (sumAt l r w plus cap) (replicate 159 0) n
 
 -- the label of leaf u
 abbrev pub labelIn : List ℕ → List ℕ → List ℕ → ℕ → Label
-labelIn text s z u = take (getD z u 0) (drop (getD s u 0) text)
+labelIn text s z u = partOf (getD s u 0) (getD z u 0) text
 
 -- t names for a node the leaf with the smallest label below it: that of i is less than that of j
 unfoldable pub goesFirst : List ℕ → List ℕ → List ℕ → List ℕ → ℕ → ℕ → Bool
@@ -65,7 +66,7 @@ Leasts a text t n = (u : ℕ) → u < n → labelIn text (a .start) (a .size) (g
 
 -- node u is a leaf, or has child f written first and child s after it
 pub data Child (a : TreeArrays) (text : List ℕ) (u f s : ℕ) : Type 0 where
-  own : f ≡ u → isLeaf a u ≡ true → Child a text u f s
+  own : f ≡ u → isLeaf a u ≡ true → nodeText a text u ≡ labelIn text (a .start) (a .size) u → Child a text u f s
   pair : f < u → s < u
       → nodeText a text u ≡ 40 ∷ (nodeText a text f ++ (44 ∷ (nodeText a text s ++ (41 ∷ []))))
       → length (leaves (below a text u)) ≡ length (leaves (below a text f)) + length (leaves (below a text s))

@@ -1,5 +1,6 @@
 -- What writing a tree answers and what the output then holds. Scope paper, "Why a job is turned down".
-use Prim.Native.Nat.{ℕ}
+use Prim.Native.Nat.{ℕ, _<_}
+use mathlib.Core.Path.{_≡_}
 use mathlib.Core.Bool.{cond}
 use mathlib.Core.List.{List, [], _++_}
 use mathlib.Core.Option.{Option, none, some}
@@ -8,6 +9,7 @@ use lib.ListN.{length, drop}
 use Rattle.trees.specs.declared.Refusal.{Refusal}
 use Rattle.trees.specs.declared.Reason.the-variants.{TooShort}
 use Rattle.trees.specs.declared.Body.the-variants.{O}
+use Rattle.trees.specs.Refusals.{numberOf, letterOf}
 use Rattle.trees.specs.Text.{normalText}
 use Rattle.trees.specs.Arrays.{Standing, noLeaf, oneTree, noTree}
 use Rattle.writer.specs.declared.WriteAnswer.{WriteAnswer}
@@ -43,3 +45,23 @@ writeAnswer s n = textAnswer (standingText s) n
 unfoldable pub outputAfter : Standing → List ℕ → List ℕ
 unfolding standingText textOutput
 outputAfter s out = textOutput (standingText s) out
+
+-- an answer in the scope paper's terms: so many bytes; a row of "Why a job is turned down" with its number, the letter's byte and the
+-- place; or that the arrays stand for no tree, for which the paper has no row, since it speaks of texts alone
+pub data Told : Type 0 where
+  bytes : ℕ → Told
+  row : ℕ → ℕ → ℕ → Told
+  noRow : Told
+
+unfoldable pub toldBy : WriteAnswer → Told
+unfolding numberOf letterOf
+toldBy (Written n) = bytes n
+toldBy (Refused r) = row (numberOf (r .reason)) (letterOf (r .body)) (r .place)
+toldBy NoTree = noRow
+
+-- "9 stands only for a real lack": a text belongs in the output, and is longer than it
+pub record Lack (o : Option (List ℕ)) (n : ℕ) (r : Refusal) : Type 0 where
+  pub text : List ℕ
+  pub belongs : o ≡ some text
+  pub longer : n < length text
+  pub told : r ≡ outputTooShort

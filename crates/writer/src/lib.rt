@@ -8,7 +8,7 @@ use trees::TreeArrays;
 ghost use Prim.Native.Nat.{ℕ, _+_, _-_, _<_, _≤_, min};
 ghost use mathlib.Core.Path.{_≡_};
 ghost use mathlib.Core.Bool.{true, cond};
-ghost use lib.ListN.{length, getD, take, drop};
+ghost use lib.ListN.{length, getD};
 ghost use lib.Seq.{sets};
 ghost use Rattle.trees.specs.Tree.{leaves};
 ghost use Rattle.trees.specs.Arrays.{goodNode, goodNodes, treeOf};
@@ -49,20 +49,6 @@ fn capped(a: usize, b: usize, cap: usize) -> usize
         return cap;
     }
     a + b
-}
-
-// The bytes of the text from `start`, at most `size` of them.
-fn part<'a>(text: &'a [u8], start: usize, size: usize) -> &'a [u8]
-    ensures { λ r. ⌜ now r ≡ take size (drop start (now (text .entry))) ⌝ }
-{
-    let n = text.len();
-    if n < start {
-        return &text[n..n];
-    }
-    if n - start < size {
-        return &text[start..n];
-    }
-    &text[start..start + size]
 }
 
 // Whether node u is a leaf whose label lies in the text and is not too long, or has two children with smaller
@@ -194,8 +180,8 @@ fn goes_first(
 {
     let x = entry(least, i);
     let y = entry(least, j);
-    let a = part(text, entry(start, x), entry(size, x));
-    let b = part(text, entry(start, y), entry(size, y));
+    let a = trees::part(text, entry(start, x), entry(size, x));
+    let b = trees::part(text, entry(start, y), entry(size, y));
     trees::comes_before(a, b)
 }
 
@@ -340,7 +326,7 @@ fn put_own(
         return at + 1;
     }
     if entry(first, k) == k {
-        let label = part(text, entry(start, k), entry(size, k));
+        let label = trees::part(text, entry(start, k), entry(size, k));
         return put_bytes(label, out, at);
     }
     out[at] = b'(';

@@ -7,6 +7,7 @@ use lib.ListN.{length}
 use borrow.Author.Needs.{needs}
 use Rattle.restriction.specs.KeptMachine.{Pass, passAt, startOf, passOf}
 use Rattle.restriction.proofs.PassLaws.{sized-start, pass-count}
+use Rattle.restriction.proofs.LeafLaws.{owned-start, result-own}
 use Rattle.restriction.proofs.RestrictionLaws.{nodes-fit, pass-stands, pass-empty}
 use Rattle.restriction.proofs.restrict_tree.Statement.{statement}
 use Rattle.restriction.proofs.restrict_tree.Tie as tie
@@ -71,7 +72,11 @@ returns c =
       pass-stands (a .tree) (a .t2) y s (n .result) (m .result) (n .ensures) e (m .ensures),
       (
         pass-empty (a .tree) (a .t2) y s (n .result) (m .result) (n .ensures) e (m .ensures),
-        omega (arith, m .ensures, nodes-fit (k .moved) (n .result)),
+        (
+          result-own (startOf (a .tree)) (a .t2) (owned-start (startOf (a .tree)) refl y) (n .result) (m .result) (omega (arith, n .ensures)) s e
+              (m .ensures),
+          omega (arith, m .ensures, nodes-fit (k .moved) (n .result)),
+        ),
       ),
     )
 

@@ -1,9 +1,8 @@
 -- The invariant: the search from rank i on finds what the search of all ranks finds. Assumes nothing.
-use Rattle.triples.specs.declared.Three.{Three}
 use Rattle.triples.specs.Clash.{RankedTree, Ranks}
 use Rattle.triples.proofs.ClashSearch.{second-later, ranks-found, ranks-none, found-is, none-is}
 use borrow.Author.Needs.{needs}
-use Prim.Native.Nat.{ℕ, _-_, _<_, _≤_, _+_}
+use Prim.Native.Nat.{ℕ, _-_, _≤_}
 use mathlib.Core.Path.{_≡_, refl, sym, _∙_, ap, subst}
 use mathlib.Core.Bool.{Bool, true}
 use mathlib.Core.List.{List}
@@ -17,7 +16,7 @@ use Rattle.agreement.specs.Sets.{increasing}
 use Rattle.agreement.proofs.SetLaws.{inc-distinct}
 use Rattle.leaves.specs.Find.{leafFrom}
 use Rattle.leaves.proofs.FindLaws.{from-hit, from-miss, from-end}
-use Rattle.triples.specs.Loops.{apartOf, clashAt, Tells, secondOf, firstOf}
+use Rattle.triples.specs.Loops.{apartOf, clashAt, secondOf, firstOf}
 use Rattle.triples.proofs.RowLaws.{rows-tell}
 use Rattle.triples.proofs.first_clash.Statement.{statement}
 use Rattle.triples.proofs.first_clash.Tie as tie

@@ -1,8 +1,5 @@
 -- `writer::first_at` meets its contract: a leaf, or the child that goes first. Assumes nothing.
-use mathlib.Core.Path.{refl, sym, _∙_, ap₂}
-use Prim.Native.Nat.{ℕ}
-use borrow.Author.Tests.{eq-eqb, ne-eqb}
-use Rattle.writer.specs.Passes.{firstAt}
+use mathlib.Core.Path.{sym, _∙_}
 use Rattle.writer.proofs.StackLaws.{first-leaf, first-node}
 use borrow.Author.Needs.{needs}
 use Rattle.writer.proofs.first_at.Statement.{statement}

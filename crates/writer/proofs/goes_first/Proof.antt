@@ -1,9 +1,10 @@
 -- `writer::goes_first` meets its contract. Assumes nothing.
 use Prim.Native.Nat.{ℕ}
 use mathlib.Core.Path.{_≡_, _∙_, ap, ap₂}
-use lib.ListN.{getD, take, drop}
+use lib.ListN.{getD}
 use Rattle.trees.specs.Label.{labelLess}
 use Rattle.writer.specs.Passes.{labelIn, goesFirst}
+use Rattle.trees.specs.Stored.{partOf}
 use borrow.Author.Needs.{needs}
 use Rattle.writer.proofs.goes_first.Statement.{statement}
 use Rattle.writer.proofs.goes_first.Tie as tie
@@ -42,13 +43,13 @@ returns c =
     let x : c .before .before .before .before .part .result .now
     ≡ labelIn (a .text .now) (a .start .now) (a .size .now) (getD (a .least .now) (a .i) 0) =
     c .before .before .before .before .part .ensures
-    ∙ ap₂ (λ (s n : ℕ). take n (drop s (a .text .now))) (c .before .before .before .before .before .before .entry3 .ensures)
+    ∙ ap₂ (λ (s n : ℕ). partOf s n (a .text .now)) (c .before .before .before .before .before .before .entry3 .ensures)
     (c .before .before .before .before .before .entry4 .ensures)
     ∙ ap (labelIn (a .text .now) (a .start .now) (a .size .now))
     (c .before .before .before .before .before .before .before .before .entry .ensures) in
     let y : c .before .part2 .result .now ≡ labelIn (a .text .now) (a .start .now) (a .size .now) (getD (a .least .now) (a .j) 0) =
     c .before .part2 .ensures
-    ∙ ap₂ (λ (s n : ℕ). take n (drop s (a .text .now))) (c .before .before .before .entry5 .ensures) (c .before .before .entry6 .ensures)
+    ∙ ap₂ (λ (s n : ℕ). partOf s n (a .text .now)) (c .before .before .before .entry5 .ensures) (c .before .before .entry6 .ensures)
     ∙ ap (labelIn (a .text .now) (a .start .now) (a .size .now))
     (c .before .before .before .before .before .before .before .entry2 .ensures) in
     c .comes-before .ensures ∙ ap₂ labelLess x y

@@ -1,5 +1,5 @@
 -- `writer::push` meets its contract: a mark or a leaf leaves the stack as it is, an inner node puts four things on it. Assumes nothing.
-use mathlib.Core.Path.{refl, sym, _∙_}
+use mathlib.Core.Path.{sym, _∙_}
 use native.Mathlib.Omega.{arith}
 use lib.ListN.{length-set}
 use Rattle.writer.proofs.StackLaws.{stays-mark, stays-leaf, grows}

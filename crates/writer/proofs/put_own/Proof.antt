@@ -1,12 +1,12 @@
 -- `writer::put_own` meets its contract: a mark, a label or `(`. Assumes nothing.
-use mathlib.Core.Path.{_≡_, refl, sym, _∙_, ap, ap₂}
+use mathlib.Core.Path.{_≡_, sym, _∙_, ap, ap₂}
 use mathlib.Core.List.{List, [], _∷_}
-use Prim.Native.Nat.{ℕ, _+_, _≤_}
+use Prim.Native.Nat.{ℕ, _+_}
 use native.Mathlib.Omega.{arith}
-use lib.ListN.{length, getD, take, drop}
+use lib.ListN.{length, getD}
 use lib.Seq.{sets}
-use Rattle.writer.specs.Passes.{ownText, labelIn, markOf}
 use Rattle.writer.proofs.StackLaws.{own-mark, own-label, own-open}
+use Rattle.trees.specs.Stored.{partOf}
 use borrow.Author.Needs.{needs}
 use Rattle.writer.proofs.put_own.Statement.{statement}
 use Rattle.writer.proofs.put_own.Tie as tie
@@ -55,7 +55,7 @@ put-bytes-requires c κs =
     let c12 = c5 .before .before .before .before .before .before .before in
     let a = c12 .args in
     let e = own-label (a .text .now) (a .start .now) (a .size .now) (a .first .now) (a .k) (omega arith) (sym (c5 .entry .ensures) ∙ c4 .if2 .taken) in
-    let p = c .before .part .ensures ∙ ap₂ (λ (s n : ℕ). take n (drop s (a .text .now))) (c3 .entry2 .ensures) (c .before .before .entry3 .ensures) ∙ sym e in
+    let p = c .before .part .ensures ∙ ap₂ (λ (s n : ℕ). partOf s n (a .text .now)) (c3 .entry2 .ensures) (c .before .before .entry3 .ensures) ∙ sym e in
     omega (arith, ap length p)
 
 same-length-2 : tie.Need-same-length-2
@@ -71,7 +71,7 @@ returns-2 c =
     let c15 = c8 .before .before .before .before .before .before .before in
     let a = c15 .args in
     let e = own-label (a .text .now) (a .start .now) (a .size .now) (a .first .now) (a .k) (omega arith) (sym (c8 .entry .ensures) ∙ c7 .if2 .taken) in
-    let p = c4 .part .ensures ∙ ap₂ (λ (s n : ℕ). take n (drop s (a .text .now))) (c6 .entry2 .ensures) (c5 .entry3 .ensures) ∙ sym e in (
+    let p = c4 .part .ensures ∙ ap₂ (λ (s n : ℕ). partOf s n (a .text .now)) (c6 .entry2 .ensures) (c5 .entry3 .ensures) ∙ sym e in (
       c .before .before .put-bytes .ensures .0 ∙ ap (λ (x : List ℕ). a .at + length x) p,
       c .before .before .put-bytes .ensures .1 ∙ ap (sets (a .out .now) (a .at)) p,
     )

@@ -1,11 +1,8 @@
 -- `writer::put_tree` meets its contract. The invariant: what is stored and what the stack will store is the whole text; the measure is
 -- the number of steps that are left. Assumes nothing.
-use Prim.Native.Nat.{ℕ, _-_, _≤_, _<_}
-use mathlib.Core.Path.{_≡_, refl, sym, _∙_, subst}
-use mathlib.Core.List.{List}
+use Prim.Native.Nat.{ℕ, _-_}
+use mathlib.Core.Path.{_≡_, sym, subst}
 use native.Mathlib.Omega.{arith}
-use lib.ListN.{length, getD}
-use Rattle.trees.specs.declared.TreeArrays.{TreeArrays}
 use Rattle.writer.specs.Passes.{arraysFrom, nodeText, stackSteps}
 use Rattle.writer.proofs.StackLaws.{Writing, depth-few, writing-start, has-room, own-fits, writing-next, fewer-steps, writing-end}
 use Rattle.writer.proofs.put_tree.Statement.{statement}

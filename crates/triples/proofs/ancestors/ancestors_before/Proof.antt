@@ -1,7 +1,7 @@
 -- The invariant: each node passed, from u down, has its ancestor with u, and lower ones search on from w. Assumes nothing.
 use borrow.Author.Needs.{needs}
-use Prim.Native.Nat.{ℕ, _≤_, _<_, _-_, _+_, _%_}
-use mathlib.Core.Path.{_≡_, refl, sym, _∙_, ap}
+use Prim.Native.Nat.{ℕ, _≤_, _<_, _-_, _%_}
+use mathlib.Core.Path.{_≡_, refl, _∙_, ap}
 use native.Mathlib.Omega.{arith}
 use lib.ListN.{length, getD, length-set, length-replicate}
 use Rattle.triples.specs.Loops.{spanFrom}

@@ -1,7 +1,7 @@
 -- The invariant: each rank passed has its number, by the side of u that its leaf is on. Assumes nothing.
 use Rattle.triples.proofs.SpanLaws.{on-side-is}
 use Rattle.triples.specs.Loops.{LcaRow, lcaNumber}
-use Prim.Native.Nat.{ℕ, _≤_, _<_, _-_, _+_, _%_}
+use Prim.Native.Nat.{ℕ, _≤_, _<_, _-_, _%_}
 use mathlib.Core.Path.{_≡_, _∙_, ap₂}
 use native.Mathlib.Omega.{arith}
 use lib.ListN.{length, getD, length-set, length-replicate}

@@ -1,5 +1,5 @@
 -- By the two differences. Assumes nothing.
-use mathlib.Core.Path.{_≡_, refl, _∙_, ap₂}
+use mathlib.Core.Path.{_∙_, ap₂}
 use mathlib.Core.Bool.{Bool, _||_}
 use Rattle.triples.specs.Loops.{apartOf}
 use borrow.Author.Needs.{needs}

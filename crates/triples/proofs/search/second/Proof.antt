@@ -1,5 +1,5 @@
 -- The invariant: the search from here on finds what the search of all later ranks finds. Assumes nothing.
-use Prim.Native.Nat.{ℕ, _-_, _<_, _≤_, _+_}
+use Prim.Native.Nat.{ℕ, _-_, _<_, _≤_}
 use mathlib.Core.Path.{_≡_, refl, sym, _∙_}
 use mathlib.Core.Bool.{Bool}
 use native.Mathlib.Omega.{arith}

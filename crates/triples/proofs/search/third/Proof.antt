@@ -1,6 +1,6 @@
 -- The invariant: the search from here on finds what the search of all later ranks finds. Assumes nothing.
 use borrow.Author.Needs.{needs}
-use Prim.Native.Nat.{ℕ, _-_, _<_, _≤_, _+_}
+use Prim.Native.Nat.{ℕ, _-_, _<_}
 use mathlib.Core.Path.{_≡_, refl, sym, _∙_, ap₂}
 use mathlib.Core.Bool.{Bool}
 use native.Mathlib.Omega.{arith}

@@ -1,0 +1,123 @@
+-- The verdict taken apart: each body's refusal, numbers 6, 7 and 8, and agreement; the theory of agreement is cited. Assumes nothing.
+use Prim.Native.Nat.{ℕ}
+use mathlib.Core.Path.{_≡_, refl, sym, _∙_, ap}
+use mathlib.Core.Bool.{true}
+use mathlib.Core.Logic.{_↔_}
+use mathlib.Core.List.{List, [], _∷_}
+use native.Mathlib.Omega.{arith}
+use Rattle.trees.specs.declared.Reason.{Reason}
+use Rattle.trees.specs.declared.Reason.the-variants.{FirstLacks, SecondLacks}
+use Rattle.trees.specs.declared.Body.the-variants.{S, T, K}
+use Rattle.trees.specs.Refusals.{numberOf}
+use Rattle.trees.specs.Label.{Label, distinct}
+use Rattle.trees.specs.Tree.{Tree, leaves}
+use Rattle.trees.specs.Reading.{good, refused}
+use Rattle.newick.specs.ReadTree.{readTree}
+use Rattle.newick.proofs.Accepts.{accepts}
+use Rattle.lists.specs.ReadList.{readList}
+use Rattle.lists.proofs.Accepts.{list-accepts}
+use Rattle.agreement.specs.Closer.{Agree, Common}
+use Rattle.agreement.specs.Sets.{setOf}
+use Rattle.agreement.specs.Answer.{Answer, firstLacks, secondLacks, disagree, largest, largestSet, answer}
+use Rattle.agreement.specs.Demand.{IsDisagreement, IsFirstLacks, IsSecondLacks}
+use Rattle.agreement.specs.Places.{placeOfNumber, placeOfLabel}
+use Rattle.agreement.proofs.AnswerLaws.{agree-no-clash}
+use Rattle.agreement.proofs.DemandLaws.{set-answered, disagree-exactly, largest-exactly, firstLacks-exactly}
+use Rattle.agreement.proofs.DemandLaws.{secondLacks-exactly, allowed-held}
+use Rattle.triples.specs.declared.Agreement.the-variants.{Agreed, Disagree, Refused}
+use Rattle.triples.specs.Verdict.{verdictOf, verdictOnList, verdictOnSecond, verdictOn, verdict, AllRead, row, toldBy}
+use Rattle.triples.proofs.Readings.{agreed-on}
+
+-- "Order: .. S, T, K, then 6 or 7, then 8"; "A body that fails to read ends the job there."
+module _ (first second list : List ℕ) (r : Reason) (i : ℕ) where
+  first-turned-down : readTree first ≡ refused r i → verdict first second list ≡ Refused (record { reason = r; body = S; place = i })
+  unfolding verdict verdictOn
+  first-turned-down e = rw e refl
+
+  second-turned-down : (s : Tree) → readTree first ≡ good s → readTree second ≡ refused r i
+      → verdict first second list ≡ Refused (record { reason = r; body = T; place = i })
+  unfolding verdict verdictOn verdictOnSecond
+  second-turned-down s e d = rw (e, d) refl
+
+  list-turned-down : (s t : Tree) → readTree first ≡ good s → readTree second ≡ good t → readList list ≡ refused r i
+      → verdict first second list ≡ Refused (record { reason = r; body = K; place = i })
+  unfolding verdict verdictOn verdictOnSecond verdictOnList
+  list-turned-down s t e d f = rw (e, d, f) refl
+
+  pub first-row : readTree first ≡ refused r i → toldBy (verdict first second list) ≡ row (numberOf r) 83 i []
+  unfolding toldBy
+  first-row e = ap toldBy (first-turned-down e)
+
+  pub second-row : (s : Tree) → readTree first ≡ good s → readTree second ≡ refused r i
+      → toldBy (verdict first second list) ≡ row (numberOf r) 84 i []
+  unfolding toldBy
+  second-row s e d = ap toldBy (second-turned-down s e d)
+
+  pub list-row : (s t : Tree) → readTree first ≡ good s → readTree second ≡ good t → readList list ≡ refused r i
+      → toldBy (verdict first second list) ≡ row (numberOf r) 75 i []
+  unfolding toldBy
+  list-row s t e d f = ap toldBy (list-turned-down s t e d f)
+
+module _ (first second list : List ℕ) (s t : Tree) (xs : List Label) (read1 : readTree first ≡ good s)
+    (read2 : readTree second ≡ good t) (read3 : readList list ≡ good xs) where
+  on-answer : verdict first second list ≡ verdictOf xs (answer s t xs)
+  unfolding verdict verdictOn verdictOnSecond verdictOnList
+  on-answer = rw (read1, read2, read3) refl
+
+  d1 : distinct (leaves s) ≡ true
+  d1 = accepts first s read1 .1 .different
+
+  d3 : distinct xs ≡ true
+  d3 = list-accepts list xs read3 .2
+
+  -- "Numbers 6 and 7 go to the first label in list order that either tree lacks."
+  six-told : (n : ℕ) → IsFirstLacks s t xs n
+      → verdict first second list ≡ Refused (record { reason = FirstLacks; body = K; place = placeOfNumber xs n })
+  unfolding verdictOf
+  six-told n p = on-answer ∙ ap (verdictOf xs) (firstLacks-exactly s t xs d1 d3 n .1 p)
+
+  seven-told : (n : ℕ) → IsSecondLacks s t xs n
+      → verdict first second list ≡ Refused (record { reason = SecondLacks; body = K; place = placeOfNumber xs n })
+  unfolding verdictOf
+  seven-told n p = on-answer ∙ ap (verdictOf xs) (secondLacks-exactly s t xs d1 d3 n .1 p)
+
+  -- "Number 8 names the first such three, sorted, compared label by label."
+  eight-told : (a b c : Label) → Common s t (setOf xs) → IsDisagreement s t xs a b c
+      → verdict first second list ≡ Disagree (placeOfLabel xs 0 a) (placeOfLabel xs 0 b) (placeOfLabel xs 0 c)
+  unfolding verdictOf
+  eight-told a b c h p = on-answer ∙ ap (verdictOf xs) (disagree-exactly s t xs d1 d3 a b c h .1 p)
+
+  -- "Trees agree on a set of leaves common to both exactly if each three of the set have the same closer pair in both"
+  pub agreed-told : (verdict first second list ≡ Agreed) ↔ (Common s t (setOf xs) × Agree s t (setOf xs))
+  unfolding verdictOf
+  agreed-told = (λ e. there (answer s t xs) refl (sym on-answer ∙ e), λ h. on-answer ∙ ap (verdictOf xs) (back h))
+    where
+      back : Common s t (setOf xs) × Agree s t (setOf xs) → answer s t xs ≡ largest (largestSet s t xs)
+      back (c, a) = set-answered s t xs d1 d3 c (agree-no-clash s t (setOf xs) xs a (λ x m. m))
+
+      there : (A : Answer) → answer s t xs ≡ A → verdictOf xs (answer s t xs) ≡ Agreed → Common s t (setOf xs) × Agree s t (setOf xs)
+      there (firstLacks n) e h = absurd (let d = ap (verdictOf xs) e in let z : _≡_ {A = ℕ} 0 1 = cc in omega arith)
+      there (secondLacks n) e h = absurd (let d = ap (verdictOf xs) e in let z : _≡_ {A = ℕ} 0 1 = cc in omega arith)
+      there (disagree a b c) e h = absurd (let d = ap (verdictOf xs) e in let z : _≡_ {A = ℕ} 0 1 = cc in omega arith)
+      there (largest X) e h =
+          let p = largest-exactly s t xs d1 d3 X .0 e .allowedSet in
+          (allowed-held s t xs X p, λ a b c i j k. p .agreed a b c (p .required a i) (p .required b j) (p .required c k))
+
+  pub six-row : (n : ℕ) → IsFirstLacks s t xs n → toldBy (verdict first second list) ≡ row 6 75 (placeOfNumber xs n) []
+  unfolding toldBy
+  six-row n p = ap toldBy (six-told n p)
+
+  pub seven-row : (n : ℕ) → IsSecondLacks s t xs n → toldBy (verdict first second list) ≡ row 7 75 (placeOfNumber xs n) []
+  unfolding toldBy
+  seven-row n p = ap toldBy (seven-told n p)
+
+  pub eight-row : (a b c : Label) → Common s t (setOf xs) → IsDisagreement s t xs a b c
+      → toldBy (verdict first second list)
+      ≡ row 8 75 0 (placeOfLabel xs 0 a ∷ placeOfLabel xs 0 b ∷ placeOfLabel xs 0 c ∷ [])
+  unfolding toldBy
+  eight-row a b c h p = ap toldBy (eight-told a b c h p)
+
+pub agreed-bodies : (first second list : List ℕ) → verdict first second list ≡ Agreed
+    → AllRead (readTree first) (readTree second) (readList list)
+unfolding verdict
+agreed-bodies first second list e = agreed-on (readTree first) (readTree second) (readList list) e
