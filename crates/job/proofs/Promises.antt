@@ -1,5 +1,5 @@
 -- What jobs promise, in the scope paper's order; each theorem cites one name. Assumes nothing.
-use Prim.Native.Nat.{ℕ, _<_}
+use Prim.Native.Nat.{ℕ, _+_, _<_}
 use mathlib.Core.Path.{_≡_}
 use mathlib.Core.Logic.{_↔_}
 use mathlib.Core.List.{List}
@@ -8,8 +8,10 @@ use Rattle.trees.specs.declared.Refusal.{Refusal}
 use Rattle.trees.specs.Refusals.{numberOf}
 use Rattle.trees.specs.Label.{Label}
 use Rattle.trees.specs.Tree.{Tree}
+use Rattle.trees.specs.Words.{Within}
+use Rattle.agreement.specs.Places.{placeOfLabel}
 use Rattle.contents.specs.Contents.{layoutOf, listPlace}
-use Rattle.mast.specs.Largest.{Solution, solved, turned, solve}
+use Rattle.mast.specs.Largest.{Solution, solved, clashed, turned, solve}
 use Rattle.job.specs.declared.JobAnswer.the-variants as job-answer
 use Rattle.job.specs.declared.Named.{Named}
 use Rattle.job.specs.Printed.{treeRoom, solveJob, printedOf, printed}
@@ -58,3 +60,10 @@ nine-when-short = RoomLaws.short-output
 -- "Number 8 adds a space and its three labels joined by commas.": the line from the answer's places and sizes is the printed one
 pub eight-line : (job : List ℕ) (room : ℕ) (n : Named) → answerTo job room ≡ job-answer.Disagree n → namedLine job n ≡ printed job
 eight-line = ClashLaws.clash-line
+
+-- and each of its labels stands in the job where the answer says
+pub eight-places : (job : List ℕ) (xs : List Label) (a b c : Label) → solveJob job ≡ clashed xs a b c
+    → Within job (listPlace (layoutOf job) + placeOfLabel xs 0 a) a
+    × Within job (listPlace (layoutOf job) + placeOfLabel xs 0 b) b
+    × Within job (listPlace (layoutOf job) + placeOfLabel xs 0 c) c
+eight-places = ClashLaws.clash-shown
