@@ -4,17 +4,12 @@ use mathlib.Core.Path.{_≡_, refl}
 use native.Mathlib.Omega.{arith}
 use lib.ListN.{length}
 use Rattle.trees.specs.declared.Refusal.{Refusal}
-use Rattle.trees.specs.Refusals.{numberOf, letterOf}
 use Rattle.agreement.specs.Places.{placeOfLabel}
 use Rattle.mast.specs.declared.LargestAnswer.the-variants.{Found, Disagree, Refused}
 use Rattle.mast.specs.Largest.{Solution, solved, clashed, turned, largestOf}
-use Rattle.cabi.specs.declared.AgreeResult.{AgreeResult}
-use Rattle.cabi.specs.Numbers.{numbersOf}
+use Rattle.cabi.specs.Numbers.{succeeded, disagreed, refusedWith, numbersOf}
 
-abbrev numbers : ℕ → ℕ → ℕ → ℕ → ℕ → ℕ → ℕ → ℕ → AgreeResult
-numbers n b p s l x y z = record { number = n; letter = b; place = p; size = s; length = l; first = x; second = y; third = z }
-
-pub found-numbers : (sol : Solution) (n m : ℕ) → largestOf sol .answer ≡ Found n m → numbers 0 0 0 n m 0 0 0 ≡ numbersOf sol
+pub found-numbers : (sol : Solution) (n m : ℕ) → largestOf sol .answer ≡ Found n m → succeeded n m ≡ numbersOf sol
 unfolding largestOf numbersOf
 found-numbers (solved s X text) n m e =
     let f : n ≡ length X = cc in
@@ -23,8 +18,8 @@ found-numbers (solved s X text) n m e =
 found-numbers (clashed xs a b c) n m e = let z : _≡_ {A = ℕ} 0 1 = cc in absurd (omega arith)
 found-numbers (turned q) n m e = let z : _≡_ {A = ℕ} 0 1 = cc in absurd (omega arith)
 
-pub clash-numbers : (sol : Solution) (x y z : ℕ) → largestOf sol .answer ≡ Disagree x y z → numbers 8 75 0 0 0 x y z ≡ numbersOf sol
-unfolding largestOf numbersOf numberOf letterOf
+pub clash-numbers : (sol : Solution) (x y z : ℕ) → largestOf sol .answer ≡ Disagree x y z → disagreed x y z ≡ numbersOf sol
+unfolding largestOf numbersOf
 clash-numbers (solved s X text) x y z e = let w : _≡_ {A = ℕ} 0 1 = cc in absurd (omega arith)
 clash-numbers (clashed xs a b c) x y z e =
     let f : x ≡ placeOfLabel xs 0 a = cc in
@@ -34,7 +29,7 @@ clash-numbers (clashed xs a b c) x y z e =
 clash-numbers (turned q) x y z e = let w : _≡_ {A = ℕ} 0 1 = cc in absurd (omega arith)
 
 pub turned-numbers : (sol : Solution) (q : Refusal) → largestOf sol .answer ≡ Refused q
-    → numbers (numberOf (q .reason)) (letterOf (q .body)) (q .place) 0 0 0 0 0 ≡ numbersOf sol
+    → refusedWith q ≡ numbersOf sol
 unfolding largestOf numbersOf
 turned-numbers (solved s X text) q e = let w : _≡_ {A = ℕ} 0 1 = cc in absurd (omega arith)
 turned-numbers (clashed xs a b c) q e = let w : _≡_ {A = ℕ} 0 1 = cc in absurd (omega arith)

@@ -7,9 +7,10 @@ ghost use lib.ListN.{length};
 ghost use Rattle.mast.specs.Largest.{solve, outputOf};
 ghost use Rattle.job.specs.Printed.{solveJob};
 ghost use Rattle.job.specs.Answered.{answerTo, jobOutput};
-ghost use Rattle.cabi.specs.Numbers.{numbersOf, jobNumbers};
+ghost use Rattle.cabi.specs.Numbers.{succeeded, disagreed, refusedWith, numbersOf, jobNumbers};
 use job::JobAnswer;
 use mast::LargestAnswer;
+use trees::Refusal;
 
 // The refusal's number (0 on success), its letter and place; on success the length of the text in the output and, of
 // `agree_largest`, the size of the set; for number 8 where the three labels stand, in the list or, of `agree_job`, in the job.
@@ -25,6 +26,58 @@ pub struct AgreeResult {
     pub third: usize,
 }
 
+// Success: number 0.
+fn succeeded(size: usize, length: usize) -> AgreeResult
+    ensures { λ r. ⌜ r ≡ succeeded size length ⌝ }
+{
+    AgreeResult {
+        number: 0,
+        letter: 0,
+        place: 0,
+        size,
+        length,
+        first: 0,
+        second: 0,
+        third: 0,
+    }
+}
+
+// Number 8 with the places of its three labels.
+fn disagreed(a: usize, b: usize, c: usize) -> AgreeResult
+    ensures { λ r. ⌜ r ≡ disagreed a b c ⌝ }
+{
+    AgreeResult {
+        number: 8,
+        letter: 75,
+        place: 0,
+        size: 0,
+        length: 0,
+        first: a,
+        second: b,
+        third: c,
+    }
+}
+
+// Any other row of the table.
+fn refused_with(refusal: Refusal) -> AgreeResult
+    ensures { λ r. ⌜ r ≡ refusedWith refusal ⌝ }
+{
+    let reason = refusal.reason;
+    let body = refusal.body;
+    let number = trees::number(reason) as usize;
+    let letter = trees::letter(body) as usize;
+    AgreeResult {
+        number,
+        letter,
+        place: refusal.place,
+        size: 0,
+        length: 0,
+        first: 0,
+        second: 0,
+        third: 0,
+    }
+}
+
 // The largest agreement set; its tree's text goes into `out`.
 #[no_mangle]
 pub extern "C" fn agree_largest(
@@ -33,48 +86,20 @@ pub extern "C" fn agree_largest(
     required: &[u8],
     out: &mut [u8],
 ) -> AgreeResult
-    ensures numbers { λ r. ⌜ r ≡ numbersOf (solve (now (first .entry)) (now (second .entry)) (now (required .entry)) (length (now (out .entry)))) ⌝ }
-    ensures output { λ r. ⌜ now (out .exit) ≡ outputOf (solve (now (first .entry)) (now (second .entry)) (now (required .entry)) (length (now (out .entry)))) (now (out .entry)) ⌝ }
+    ensures numbers { λ r.
+        ⌜ r ≡ numbersOf
+        (solve (now (first .entry)) (now (second .entry)) (now (required .entry)) (length (now (out .entry)))) ⌝ }
+    ensures output { λ r.
+        ⌜ now (out .exit) ≡ outputOf
+        (solve (now (first .entry)) (now (second .entry)) (now (required .entry)) (length (now (out .entry))))
+        (now (out .entry)) ⌝ }
 {
     let result = mast::largest(first, second, required, out);
     let answer = result.answer;
     match answer {
-        LargestAnswer::Found(size, length) => AgreeResult {
-            number: 0,
-            letter: 0,
-            place: 0,
-            size,
-            length,
-            first: 0,
-            second: 0,
-            third: 0,
-        },
-        LargestAnswer::Disagree(a, b, c) => AgreeResult {
-            number: 8,
-            letter: 75,
-            place: 0,
-            size: 0,
-            length: 0,
-            first: a,
-            second: b,
-            third: c,
-        },
-        LargestAnswer::Refused(refusal) => {
-            let reason = refusal.reason;
-            let body = refusal.body;
-            let number = trees::number(reason) as usize;
-            let letter = trees::letter(body) as usize;
-            AgreeResult {
-                number,
-                letter,
-                place: refusal.place,
-                size: 0,
-                length: 0,
-                first: 0,
-                second: 0,
-                third: 0,
-            }
-        }
+        LargestAnswer::Found(size, length) => succeeded(size, length),
+        LargestAnswer::Disagree(a, b, c) => disagreed(a, b, c),
+        LargestAnswer::Refused(refusal) => refused_with(refusal),
     }
 }
 
@@ -86,46 +111,13 @@ pub extern "C" fn agree_job(bytes: &[u8], out: &mut [u8]) -> AgreeResult
 {
     let answer = job::answer_job(bytes, out);
     match answer {
-        JobAnswer::Written(length) => AgreeResult {
-            number: 0,
-            letter: 0,
-            place: 0,
-            size: 0,
-            length,
-            first: 0,
-            second: 0,
-            third: 0,
-        },
+        JobAnswer::Written(length) => succeeded(0, length),
         JobAnswer::Disagree(named) => {
             let one = named.first;
             let two = named.second;
             let three = named.third;
-            AgreeResult {
-                number: 8,
-                letter: 75,
-                place: 0,
-                size: 0,
-                length: 0,
-                first: one.start,
-                second: two.start,
-                third: three.start,
-            }
+            disagreed(one.start, two.start, three.start)
         }
-        JobAnswer::Refused(refusal) => {
-            let reason = refusal.reason;
-            let body = refusal.body;
-            let number = trees::number(reason) as usize;
-            let letter = trees::letter(body) as usize;
-            AgreeResult {
-                number,
-                letter,
-                place: refusal.place,
-                size: 0,
-                length: 0,
-                first: 0,
-                second: 0,
-                third: 0,
-            }
-        }
+        JobAnswer::Refused(refusal) => refused_with(refusal),
     }
 }

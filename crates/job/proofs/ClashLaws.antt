@@ -55,12 +55,16 @@ module _ (job : List ℕ) (xs : List Label) (a b c : Label) (w : ClashedJob job 
   abbrev base : ℕ
   base = listPlace (layoutOf job)
 
+  label-shown : (x : Label) → isIn x xs ≡ true → Within job (base + placeOfLabel xs 0 x) x
+  label-shown x h =
+      within-part job base (w .bodies .list) (placeOfLabel xs 0 x) x (w .stands)
+      (label-listed (w .bodies .first) (w .bodies .list) xs a b c (w .by) x h .0 .shown)
+
   label-named : (x : Label) → isIn x xs ≡ true → labelIn job (partOfLabel base xs x .start) (partOfLabel base xs x .size) ≡ x
   unfolding partOfLabel
   label-named x h =
       let l = label-listed (w .bodies .first) (w .bodies .list) xs a b c (w .by) x h in
-      shown-label job (base + placeOfLabel xs 0 x) x
-      (within-part job base (w .bodies .list) (placeOfLabel xs 0 x) x (w .stands) (l .0 .shown)) (good-short x (l .1))
+      shown-label job (base + placeOfLabel xs 0 x) x (label-shown x h) (good-short x (l .1))
 
   abbrev named : Named
   named = record { first = partOfLabel base xs a; second = partOfLabel base xs b; third = partOfLabel base xs c }
@@ -86,3 +90,13 @@ clash-line job room n e = go (solveJob job) refl e
     go (turned q) f h =
         let z : _≡_ {A = ℕ} 0 1 = cc in
         absurd (omega arith)
+
+-- the three labels stand in the job where the answer's places say
+pub clash-shown : (job : List ℕ) (xs : List Label) (a b c : Label) → solveJob job ≡ clashed xs a b c
+    → Within job (listPlace (layoutOf job) + placeOfLabel xs 0 a) a
+    × Within job (listPlace (layoutOf job) + placeOfLabel xs 0 b) b
+    × Within job (listPlace (layoutOf job) + placeOfLabel xs 0 c) c
+clash-shown job xs a b c e =
+    let w = clashed-job job xs a b c e in
+    let l = eight (w .bodies .first) (w .bodies .list) xs a b c (w .by) in
+    (label-shown job xs a b c w a (l .0), label-shown job xs a b c w b (l .1), label-shown job xs a b c w c (l .2))

@@ -5,6 +5,7 @@ pub mod DigitLaws
 pub mod LineLaws
 pub mod OutcomeLaws
 pub mod PrintLaws
+pub mod ProgramLaws
 pub mod Promises
 pub mod RecordLaws
 pub mod RoomLaws

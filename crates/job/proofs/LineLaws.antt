@@ -18,9 +18,9 @@ use Rattle.job.specs.declared.LineAnswer.{LineAnswer}
 use Rattle.contents.specs.Decimal.{decimalOf}
 use Rattle.trees.specs.Words.{bytesOf}
 use Rattle.contents.specs.Contents.{line}
-use Rattle.job.specs.Printed.{refusedWords, recordLines, printedOf}
+use Rattle.job.specs.Printed.{itemRoom, wordsRoom, refusedWords, recordLines, printedOf}
 use Rattle.job.specs.Answered.{lineAnswer, lineOutput, labelIn, namedLine}
-use Rattle.job.specs.Areas.{Put, item, itemRoom, wordsRoom}
+use Rattle.job.specs.Areas.{Put, item}
 
 words-of : (d p : List ℕ) (l : ℕ)
     → bytesOf "refused " ++ d ++ (32 ∷ []) ++ (l ∷ []) ++ (32 ∷ []) ++ p ≡ bytesOf "refused " ++ (d ++ (32 ∷ l ∷ 32 ∷ p))

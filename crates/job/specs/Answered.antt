@@ -37,6 +37,12 @@ lineAnswer text room = cond (fits text room) (Written (length text)) (TooShort o
 unfoldable pub lineOutput : List ℕ → List ℕ → List ℕ
 lineOutput text out = cond (fits text (length out)) (text ++ drop (length text) out) out
 
+-- the part of the output that the answer speaks of
+unfoldable pub writtenPart : List ℕ → LineAnswer → List ℕ
+unfolding partOf
+writtenPart out (Written n) = partOf 0 n out
+writtenPart out (TooShort q) = []
+
 -- the label of `size` bytes at a place of a text, cut after 16 bytes; nothing where it runs past the end
 unfoldable pub labelIn : List ℕ → ℕ → ℕ → Label
 labelIn text start size = partOf start (min size labelLimit) text

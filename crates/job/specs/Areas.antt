@@ -1,31 +1,12 @@
 -- Lines put together in an area, part by part. Intermediate: nothing public rests on this text.
-use Prim.Native.Nat.{ℕ, zero, suc, _+_, _*_}
+use Prim.Native.Nat.{ℕ, zero, suc, _+_}
 use mathlib.Core.Path.{_≡_}
 use mathlib.Core.Bool.{cond}
 use lib.Dec.{eqb}
 use mathlib.Core.List.{List, [], _∷_, _++_}
 use lib.ListN.{length, getD, take, drop}
-use Rattle.trees.specs.Label.{Label, labelLimit}
-use Rattle.trees.specs.Tree.{leafLimit}
-use Rattle.contents.specs.Decimal.{digitRoom}
-use Rattle.job.specs.Printed.{treeRoom}
+use Rattle.trees.specs.Label.{Label}
 use Rattle.job.specs.Answered.{labelIn}
-
--- a label and a comma
-abbrev pub itemRoom : ℕ
-itemRoom = labelLimit + 1
-
--- `refused`, number, letter and place, with three blanks
-abbrev pub wordsRoom : ℕ
-wordsRoom = 11 + 2 * digitRoom
-
--- a refusal's line, with three labels
-abbrev pub lineRoom : ℕ
-lineRoom = wordsRoom + 2 + 3 * itemRoom
-
--- `size `, `set ` and `tree `, three line ends, and what stands between them
-abbrev pub recordRoom : ℕ
-recordRoom = 17 + digitRoom + leafLimit * itemRoom + treeRoom
 
 -- a text was put into an area from `at` on: the next byte goes to `next`, and what stood before `at` stands there still
 pub record Put (area : List ℕ) (at : ℕ) (text : List ℕ) (next : ℕ) (after : List ℕ) : Type 0 where

@@ -13,7 +13,7 @@ use Rattle.trees.specs.Label.{Label, labelLimit}
 use Rattle.trees.specs.Tree.{leafLimit}
 use Rattle.trees.specs.Words.{bytesOf}
 use Rattle.lists.specs.ReadList.{joined}
-use Rattle.contents.specs.Decimal.{decimalOf}
+use Rattle.contents.specs.Decimal.{digitRoom, decimalOf}
 use Rattle.contents.specs.Contents.{Bodies, bodiesOf, line}
 use Rattle.mast.specs.Largest.{Solution, solved, clashed, turned, solve}
 
@@ -24,6 +24,22 @@ jobLimit = 8192
 -- the longest text that a tree can have, its labels, `(` `,` `)` of each inner node and `;`; the library's own area for it
 abbrev pub treeRoom : ℕ
 treeRoom = leafLimit * labelLimit + 3 * (leafLimit - 1) + 1
+
+-- a label and a comma
+abbrev pub itemRoom : ℕ
+itemRoom = labelLimit + 1
+
+-- `refused`, number, letter and place, with three blanks
+abbrev pub wordsRoom : ℕ
+wordsRoom = 11 + 2 * digitRoom
+
+-- a refusal's line, with three labels
+abbrev pub lineRoom : ℕ
+lineRoom = wordsRoom + 2 + 3 * itemRoom
+
+-- `size `, `set ` and `tree `, three line ends, and what stands between them
+abbrev pub recordRoom : ℕ
+recordRoom = 17 + digitRoom + leafLimit * itemRoom + treeRoom
 
 unfoldable pub solveBodies : Option Bodies → Solution
 unfolding solve

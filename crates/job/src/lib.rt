@@ -10,20 +10,23 @@ use trees::Refusal;
 ghost use mathlib.Core.Path.{_≡_};
 ghost use lib.ListN.{length};
 ghost use Prim.Native.Nat.{_+_, _≤_};
-ghost use lib.ListN.{drop};
+ghost use lib.ListN.{drop, replicate};
 ghost use Rattle.mast.specs.Largest.{turned, solve};
 ghost use Rattle.job.specs.declared.JobAnswer as JobAnswer;
 ghost use Rattle.trees.specs.declared.Body.the-variants.{J};
 ghost use Rattle.trees.specs.Tree.{leafLimit};
 ghost use Rattle.job.specs.Printed.{printedOf, printed, recordLines, solveJob, treeRoom, jobLimit};
 ghost use Rattle.job.specs.Areas.{labelsIn, untilComma};
-ghost use Rattle.job.specs.Answered.{lineAnswer, lineOutput, namedLine, answered, answerTo, jobOutput, recordAnswer};
+ghost use Rattle.job.specs.Answered.{lineAnswer, lineOutput, writtenPart, namedLine, answered, answerTo, jobOutput, recordAnswer};
 
 mod decimal;
 mod lines;
 
 // "A job has at most 8,192 bytes"
 const JOB_LIMIT: usize = 8192;
+
+// A byte more than that.
+const JOB_AREA: usize = JOB_LIMIT + 1;
 
 // The longest text that a tree can have: 80 labels of 16 bytes, 79 inner nodes of 3 bytes, and `;`.
 const TREE_ROOM: usize = 80 * 16 + 3 * 79 + 1;
@@ -59,6 +62,24 @@ pub enum JobAnswer {
     Written(usize),
     Disagree(Named),
     Refused(Refusal),
+}
+
+// An area to take a job in: one byte more than a job may have, so that a longer one is known by its length.
+pub fn job_area() -> [u8; JOB_AREA]
+    ensures zeros { λ r. ⌜ r ≡ replicate (jobLimit + 1) 0 ⌝ }
+    ensures room { λ r. ⌜ jobLimit + 1 ≡ length r ⌝ }
+{
+    [0; JOB_AREA]
+}
+
+// The part of an output that the answer speaks of: its lines, or nothing.
+pub fn written<'a>(out: &'a [u8], answer: LineAnswer) -> &'a [u8]
+    ensures { λ r. ⌜ now r ≡ writtenPart (now (out .entry)) answer ⌝ }
+{
+    match answer {
+        LineAnswer::Written(bytes) => trees::part(out, 0, bytes),
+        LineAnswer::TooShort(_) => trees::part(out, 0, 0),
+    }
 }
 
 // The line of a refusal into `out`.

@@ -13,9 +13,9 @@ ghost use Rattle.contents.specs.Decimal.{decimalOf, digitRoom};
 ghost use Rattle.trees.specs.Tree.{leafLimit};
 ghost use Rattle.lists.specs.ReadList.{joined};
 ghost use Rattle.mast.specs.Largest.{turned};
-ghost use Rattle.job.specs.Printed.{refusedWords, recordLines, printedOf, treeRoom};
+ghost use Rattle.job.specs.Printed.{refusedWords, recordLines, printedOf, treeRoom, itemRoom, wordsRoom, lineRoom, recordRoom};
 ghost use Rattle.job.specs.Answered.{lineAnswer, lineOutput, labelIn, namedLine};
-ghost use Rattle.job.specs.Areas.{Put, item, labelsIn, itemRoom, wordsRoom, lineRoom, recordRoom};
+ghost use Rattle.job.specs.Areas.{Put, item, labelsIn};
 
 // The bytes that a label may have.
 const LABEL_LIMIT: usize = 16;

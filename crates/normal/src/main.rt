@@ -8,16 +8,10 @@ use trees::Refusal;
 use writer::WriteAnswer;
 
 fn print_refusal(refusal: Refusal) {
-    let reason = refusal.reason;
-    let body = refusal.body;
-    let letter = [trees::letter(body)];
-    io::write_all(1, b"refused ");
-    io::print_decimal(1, trees::number(reason) as u64);
-    io::write_all(1, b" ");
-    io::write_all(1, &letter);
-    io::write_all(1, b" ");
-    io::print_decimal(1, refusal.place as u64);
-    io::write_all(1, b"\n");
+    let mut area = io::buffer();
+    let out: &mut [u8] = &mut area;
+    let answer = job::refusal_line(refusal, out);
+    io::write_all(1, job::written(out, answer));
 }
 
 // The line for a text. The writer has room for every tree that was read, so it always writes.

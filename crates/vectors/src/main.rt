@@ -1,6 +1,5 @@
 // Runs a stored stream of jobs through `job` and writes each answer as `agree` would. A case is the job's length as two bytes,
 // and the job.
-use job::LineAnswer;
 ghost use Prim.Native.Nat.{_<_};
 
 fn wide(b: u8) -> usize
@@ -13,10 +12,8 @@ fn wide(b: u8) -> usize
 fn run_job(text: &[u8]) {
     let mut area = io::buffer();
     let out: &mut [u8] = &mut area;
-    let printed = job::print_job(text, out);
-    if let LineAnswer::Written(bytes) = printed {
-        io::write_all(1, trees::part(out, 0, bytes));
-    }
+    let answer = job::print_job(text, out);
+    io::write_all(1, job::written(out, answer));
 }
 
 // The next case of the stream; false where there is none.

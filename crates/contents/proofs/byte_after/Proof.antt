@@ -30,10 +30,12 @@ add-t8 c =
 
 returns-3 : tie.Need-returns-3
 returns-3 c =
-    let g = c .before .before .before .state .given in
+    let s1 = c .before .before .before in
+    let s2 = s1 .before .before .before in
+    let g = s1 .state .given in
     let s = c .before .stands-at .ensures in (
       from-at _ _ _ _ (g .0 .0) (g .0 .1 .0) (g .1) (stood s (g .0 .0) (c .if1 .left)),
-      (small-at _ _ (g .0 .0) (g .0 .1 .0) (g .1) (c .before .before .before .before .before .before .pre) .0, omega (arith, s .inside (not-false _ (c .if1 .left)))),
+      (small-at _ _ (g .0 .0) (g .0 .1 .0) (g .1) (s2 .pre) .0, omega (arith, s .inside (not-false _ (c .if1 .left)))),
     )
 
 pub byte-after-spec : {M : Type 1} → statement M

@@ -22,7 +22,10 @@ laid-out-requires c κs = search needs
 
 returns : tie.Need-returns
 returns c =
-    c .laid-out .ensures ∙ table-steps _ _ _ _ _ (c .before .before .before .before .entry-after .ensures .0) (c .before .before .before .entry-after2 .ensures .0) (c .before .before .entry-after3 .ensures .0) (c .before .byte-after .ensures .0)
+    let s1 = c .before .before in
+    let s2 = s1 .before in
+    let s3 = s2 .before in
+    c .laid-out .ensures ∙ table-steps _ _ _ _ _ (s3 .entry-after .ensures .0) (s2 .entry-after2 .ensures .0) (s1 .entry-after3 .ensures .0) (c .before .byte-after .ensures .0)
 
 pub contents-spec : {M : Type 1} → statement M
 contents-spec =

@@ -34,23 +34,34 @@ refused-requires-2 c κs = search needs
 returns-2 : tie.Need-returns-2
 unfolding answerTo
 returns-2 c =
-    let f = job-broken (c .before .before .before .before .before .before .before .args .job .now) (omega arith) (sym (c .before .enum-told .given .1) ∙ c .before .before .before .contents .ensures) in
+    let s1 = c .before .before .before in
+    let s2 = s1 .before .before .before .before in
+    let f = job-broken (s2 .args .job .now) (omega arith) (sym (c .before .enum-told .given .1) ∙ s1 .contents .ensures) in
     (c .refused2 .ensures ∙ answered-turned _ _ _ _ f, output-turned _ _ _ f)
 
 add-second-at : tie.Need-add-second-at
 add-second-at c =
-    let g = c .before .before .layout .given in
-    omega (arith, laid-inside (c .before .before .before .before .before .before .before .before .args .job .now) (g .0 .0) (g .0 .1 .0) (sym (g .1) ∙ c .before .before .before .before .contents .ensures))
+    let s1 = c .before .before in
+    let s2 = s1 .before .before in
+    let s3 = s2 .before .before .before .before in
+    let g = s1 .layout .given in
+    omega (arith, laid-inside (s3 .args .job .now) (g .0 .0) (g .0 .1 .0) (sym (g .1) ∙ s2 .contents .ensures))
 
 add-list-at : tie.Need-add-list-at
 add-list-at c =
-    let g = c .before .before .before .layout .given in
-    omega (arith, laid-inside (c .before .before .before .before .before .before .before .before .before .args .job .now) (g .0 .0) (g .0 .1 .0) (sym (g .1) ∙ c .before .before .before .before .before .contents .ensures))
+    let s1 = c .before .before .before in
+    let s2 = s1 .before .before in
+    let s3 = s2 .before .before .before .before in
+    let g = s1 .layout .given in
+    omega (arith, laid-inside (s3 .args .job .now) (g .0 .0) (g .0 .1 .0) (sym (g .1) ∙ s2 .contents .ensures))
 
 add-end : tie.Need-add-end
 add-end c =
-    let g = c .before .before .before .before .layout .given in
-    omega (arith, laid-inside (c .before .before .before .before .before .before .before .before .before .before .args .job .now) (g .0 .0) (g .0 .1 .0) (sym (g .1) ∙ c .before .before .before .before .before .before .contents .ensures))
+    let s1 = c .before .before .before .before in
+    let s2 = s1 .before .before in
+    let s3 = s2 .before .before .before .before in
+    let g = s1 .layout .given in
+    omega (arith, laid-inside (s3 .args .job .now) (g .0 .0) (g .0 .1 .0) (sym (g .1) ∙ s2 .contents .ensures))
 
 sub-answer-bodies : tie.Need-sub-answer-bodies
 sub-answer-bodies c = search needs
@@ -60,8 +71,11 @@ part-answer-bodies-start c = search needs
 
 part-answer-bodies-end : tie.Need-part-answer-bodies-end
 part-answer-bodies-end c =
-    let g = c .before .before .before .before .layout .given in
-    omega (arith, laid-inside (c .before .before .before .before .before .before .before .before .before .before .args .job .now) (g .0 .0) (g .0 .1 .0) (sym (g .1) ∙ c .before .before .before .before .before .before .contents .ensures))
+    let s1 = c .before .before .before .before in
+    let s2 = s1 .before .before in
+    let s3 = s2 .before .before .before .before in
+    let g = s1 .layout .given in
+    omega (arith, laid-inside (s3 .args .job .now) (g .0 .0) (g .0 .1 .0) (sym (g .1) ∙ s2 .contents .ensures))
 
 sub-answer-bodies-2 : tie.Need-sub-answer-bodies-2
 sub-answer-bodies-2 c = search needs
@@ -71,8 +85,11 @@ part-answer-bodies-start-2 c = search needs
 
 part-answer-bodies-end-2 : tie.Need-part-answer-bodies-end-2
 part-answer-bodies-end-2 c =
-    let g = c .before .before .before .before .before .layout .given in
-    omega (arith, laid-inside (c .before .before .before .before .before .before .before .before .before .before .before .args .job .now) (g .0 .0) (g .0 .1 .0) (sym (g .1) ∙ c .before .before .before .before .before .before .before .contents .ensures))
+    let s1 = c .before .before .before .before .before in
+    let s2 = s1 .before .before in
+    let s3 = s2 .before .before .before .before in
+    let g = s1 .layout .given in
+    omega (arith, laid-inside (s3 .args .job .now) (g .0 .0) (g .0 .1 .0) (sym (g .1) ∙ s2 .contents .ensures))
 
 sub-answer-bodies-3 : tie.Need-sub-answer-bodies-3
 sub-answer-bodies-3 c = search needs
@@ -82,15 +99,21 @@ part-answer-bodies-start-3 c = search needs
 
 part-answer-bodies-end-3 : tie.Need-part-answer-bodies-end-3
 part-answer-bodies-end-3 c =
-    let g = c .before .before .before .before .before .before .layout .given in
-    omega (arith, laid-inside (c .before .before .before .before .before .before .before .before .before .before .before .before .args .job .now) (g .0 .0) (g .0 .1 .0) (sym (g .1) ∙ c .before .before .before .before .before .before .before .before .contents .ensures))
+    let s1 = c .before .before .before .before .before .before in
+    let s2 = s1 .before .before in
+    let s3 = s2 .before .before .before .before in
+    let g = s1 .layout .given in
+    omega (arith, laid-inside (s3 .args .job .now) (g .0 .0) (g .0 .1 .0) (sym (g .1) ∙ s2 .contents .ensures))
 
 answer-bodies-requires : tie.Need-answer-bodies-requires
 answer-bodies-requires c κs =
-    let g = c .before .before .before .before .before .before .before .before .layout .given in
+    let s1 = c .before .before .before .before .before .before .before .before in
+    let s2 = s1 .before .before in
+    let s3 = s2 .before .before .before .before in
+    let g = s1 .layout .given in
     let t = g .0 .1 .0 in
     let l = g .0 .0 + t .first + t .second in
-    omega (arith, laid-inside (c .before .before .before .before .before .before .before .before .before .before .before .before .before .before .args .job .now) (g .0 .0) t (sym (g .1) ∙ c .before .before .before .before .before .before .before .before .before .before .contents .ensures), length-take (t .required) (drop l (c .before .before .before .before .before .before .before .before .before .before .before .before .before .before .args .job .now)))
+    omega (arith, laid-inside (s3 .args .job .now) (g .0 .0) t (sym (g .1) ∙ s2 .contents .ensures), length-take (t .required) (drop l (s3 .args .job .now)))
 
 same-length : tie.Need-same-length
 same-length c = search needs
@@ -98,14 +121,18 @@ same-length c = search needs
 returns-3 : tie.Need-returns-3
 unfolding answerTo
 returns-3 c =
-    let g = c .before .before .before .before .before .before .before .before .before .before .before .layout .given in
+    let s1 = c .before .before in
+    let s2 = s1 .before .before .before .before .before .before .before .before .before in
+    let s3 = s2 .before .before in
+    let s4 = s3 .before .before .before .before in
+    let g = s2 .layout .given in
     let t = g .0 .1 .0 in
-    let job = c .before .before .before .before .before .before .before .before .before .before .before .before .before .before .before .before .before .args .job .now in
-    let out = c .before .before .before .before .before .before .before .before .before .before .before .before .before .before .before .before .before .args .out .now in
-    let l = sym (g .1) ∙ c .before .before .before .before .before .before .before .before .before .before .before .before .before .contents .ensures in
+    let job = s4 .args .job .now in
+    let out = s4 .args .out .now in
+    let l = sym (g .1) ∙ s3 .contents .ensures in
     let e = job-solved job (g .0 .0) t l (omega arith) in (
-      c .before .before .answer-bodies .ensures .0 ∙ ap₂ (λ (n : ℕ) (x : Solution). answered n (length out) x) (list-base job (g .0 .0) t l) e,
-      c .before .before .answer-bodies .ensures .1 ∙ ap (λ (x : Solution). jobOutput x out) e,
+      s1 .answer-bodies .ensures .0 ∙ ap₂ (λ (n : ℕ) (x : Solution). answered n (length out) x) (list-base job (g .0 .0) t l) e,
+      s1 .answer-bodies .ensures .1 ∙ ap (λ (x : Solution). jobOutput x out) e,
     )
 
 pub answer-job-spec : {M : Type 1} → statement M

@@ -1,0 +1,69 @@
+-- The numbers that a host gets for each outcome. Assumes nothing.
+use Prim.Native.Nat.{ℕ, _+_, _≤_, _<_}
+use mathlib.Core.Path.{_≡_, refl, _∙_, ap}
+use mathlib.Core.List.{List}
+use lib.ListN.{length}
+use borrow.Author.Tests.{le-leb, lt-leb}
+use Rattle.trees.specs.declared.Refusal.{Refusal}
+use Rattle.trees.specs.Label.{Label}
+use Rattle.trees.specs.Tree.{Tree}
+use Rattle.agreement.specs.Closer.{Common}
+use Rattle.agreement.specs.Sets.{setOf}
+use Rattle.agreement.specs.Places.{placeOfLabel}
+use Rattle.agreement.specs.Answer.{disagree}
+use Rattle.agreement.specs.Demand.{IsDisagreement}
+use Rattle.contents.specs.Contents.{layoutOf, listPlace}
+use Rattle.mast.specs.Given.{Reads, SetGiven}
+use Rattle.mast.specs.Largest.{Solution, solved, clashed, turned, solutionOf, solve}
+use Rattle.mast.proofs.Promises as mast
+use Rattle.job.specs.Printed.{recordLines}
+use Rattle.job.specs.Answered.{outputShort, lineAnswer, linesAnswer, recordAnswer, partOfLabel, answered, answerTo}
+use Rattle.job.specs.Outcome.{JobOutcome}
+use Rattle.job.proofs.Promises as job
+use Rattle.cabi.specs.declared.AgreeResult.{AgreeResult}
+use Rattle.cabi.specs.Numbers.{succeeded, disagreed, refusedWith, numbersOf, jobNumbers}
+
+module _ (first second list : List ℕ) (room : ℕ) where
+  pub refusal-numbers : (q : Refusal) → solve first second list room ≡ turned q → numbersOf (solve first second list room) ≡ refusedWith q
+  unfolding numbersOf
+  refusal-numbers q e = ap numbersOf e
+
+  module _ (s t : Tree) (xs : List Label) (reads : Reads first second list s t xs) where
+    pub set-numbers : (X : List Label) (text : List ℕ) → SetGiven s t xs X text room
+        → numbersOf (solve first second list room) ≡ succeeded (length X) (length text)
+    unfolding numbersOf
+    set-numbers X text g = ap numbersOf (mast.set-promise first second list room s t xs reads X text .1 g)
+
+    pub eight-numbers : (a b c : Label) → Common s t (setOf xs) → IsDisagreement s t xs a b c
+        → numbersOf (solve first second list room) ≡ disagreed (placeOfLabel xs 0 a) (placeOfLabel xs 0 b) (placeOfLabel xs 0 c)
+    unfolding numbersOf solutionOf
+    eight-numbers a b c held d =
+        ap numbersOf (mast.outcome-promise first second list room s t xs reads (disagree a b c) (held, d))
+
+module _ (bytes : List ℕ) (room : ℕ) where
+  told : (x : Solution) → JobOutcome bytes x → answerTo bytes room ≡ answered (listPlace (layoutOf bytes)) room x
+  unfolding answerTo
+  told x o = ap (answered (listPlace (layoutOf bytes)) room) (job.outcome-promise bytes x .1 o)
+
+  pub job-numbers : (s : Tree) (X : List Label) (text : List ℕ) → JobOutcome bytes (solved s X text) → length (recordLines X text) ≤ room
+      → jobNumbers (answerTo bytes room) ≡ succeeded 0 (length (recordLines X text))
+  unfolding answered recordAnswer linesAnswer lineAnswer jobNumbers
+  job-numbers s X text o h =
+      ap jobNumbers (told (solved s X text) o) ∙ rw (le-leb (length (recordLines X text)) room h) refl
+
+  pub job-nine-numbers : (s : Tree) (X : List Label) (text : List ℕ) → JobOutcome bytes (solved s X text) → room < length (recordLines X text)
+      → jobNumbers (answerTo bytes room) ≡ refusedWith outputShort
+  unfolding answered recordAnswer linesAnswer lineAnswer jobNumbers
+  job-nine-numbers s X text o h =
+      ap jobNumbers (told (solved s X text) o) ∙ rw (lt-leb (length (recordLines X text)) room h) refl
+
+  pub job-eight-numbers : (xs : List Label) (a b c : Label) → JobOutcome bytes (clashed xs a b c)
+      → jobNumbers (answerTo bytes room)
+      ≡ disagreed (listPlace (layoutOf bytes) + placeOfLabel xs 0 a) (listPlace (layoutOf bytes) + placeOfLabel xs 0 b)
+      (listPlace (layoutOf bytes) + placeOfLabel xs 0 c)
+  unfolding answered partOfLabel jobNumbers
+  job-eight-numbers xs a b c o = ap jobNumbers (told (clashed xs a b c) o)
+
+  pub job-refusal-numbers : (q : Refusal) → JobOutcome bytes (turned q) → jobNumbers (answerTo bytes room) ≡ refusedWith q
+  unfolding answered jobNumbers
+  job-refusal-numbers q o = ap jobNumbers (told (turned q) o)
