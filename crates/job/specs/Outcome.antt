@@ -80,3 +80,13 @@ pub data JobOutcome (job : List ℕ) : Solution → Type 0 where
   -- demand 3: the set, and "the normal text of the common restriction"
   largest-set : (s t : Tree) (xs : List Label) → Asks job s t xs → (X : List Label) → IsAnswer s t xs X
       → JobOutcome job (solved s X (keptText (restrict (setOf X) s)))
+
+-- demand 3 of a set and a text that are printed: the bodies are read, the set is the answer, the text that of the common restriction
+pub record SetAnswered (job : List ℕ) (X : List Label) (text : List ℕ) : Type 0 where
+  pub s : Tree
+  pub t : Tree
+  pub xs : List Label
+  pub asked : Asks job s t xs
+  pub isAnswer : IsAnswer s t xs X
+  pub first-text : text ≡ keptText (restrict (setOf X) s)
+  pub second-text : text ≡ keptText (restrict (setOf X) t)
