@@ -3,11 +3,11 @@ use Prim.Native.Nat.{ℕ}
 use mathlib.Core.Path.{_≡_, refl, sym, _∙_, ap, subst}
 use mathlib.Core.Bool.{true}
 use mathlib.Core.Logic.{_↔_}
-use mathlib.Core.List.{List, []}
+use mathlib.Core.List.{List, [], _∷_}
 use native.Mathlib.Omega.{arith}
 use lib.ListN.{length, getD}
 use Rattle.trees.specs.declared.Refusal.{Refusal}
-use Rattle.trees.specs.Label.{Label, isIn, goodLabels}
+use Rattle.trees.specs.Label.{Label, isIn, goodLabel, goodLabels}
 use Rattle.trees.specs.Tree.{Tree, leaves}
 use Rattle.trees.specs.Words.{bytesOf}
 use Rattle.agreement.specs.Closer.{holds}
@@ -20,10 +20,10 @@ use Rattle.agreement.proofs.SetLaws.{within-few}
 use Rattle.contents.specs.Contents.{line}
 use Rattle.mast.specs.Largest.{Solution, solved, clashed, turned}
 use Rattle.job.specs.Printed.{refusedWords, recordLines, solveJob, printedOf, printed}
-use Rattle.job.specs.Outcome.{Asks, SetAnswered, JobOutcome}
+use Rattle.job.specs.Outcome.{Asks, SetAnswered, EightAnswered, JobOutcome}
 use Rattle.job.specs.Outcome.{too-long, no-contents, first-fault, second-fault, list-fault, first-lacks, second-lacks, disagreement, largest-set}
 use Rattle.job.proofs.OutcomeLaws.{outcome-exactly}
-use Rattle.job.proofs.ReadBack.{kept-line, lines-back}
+use Rattle.job.proofs.ReadBack.{kept-line, lines-back, refusal-no-eight, eight-back}
 use Rattle.job.proofs.ShownLaws.{good-in, all-good}
 
 -- a refusal's line begins with another byte
@@ -83,4 +83,48 @@ module _ (job : List ℕ) (X : List Label) (text : List ℕ) where
         ap printedOf (outcome-exactly job _ .1 (largest-set (a .s) (a .t) (a .xs) (a .asked) X (a .isAnswer)))
         ∙ set-printed (a .s) X (keptText (restrict (setOf X) (a .s)))
         ∙ ap (recordLines X) (sym (a .first-text)),
+  )
+
+good-of : (xs : List Label) → goodLabels xs ≡ true → (y : Label) → isIn y xs ≡ true → goodLabel y ≡ true
+good-of xs g y h = good-in xs y g h
+
+good-three : (p q r : Label) → goodLabel p ≡ true → goodLabel q ≡ true → goodLabel r ≡ true → goodLabels (p ∷ q ∷ r ∷ []) ≡ true
+unfolding goodLabels
+good-three p q r a b c = rw (a, b, c) refl
+
+eight-same : (xs ys : List Label) (a b c : Label) → printedOf (clashed xs a b c) ≡ printedOf (clashed ys a b c)
+unfolding printedOf
+eight-same xs ys a b c = refl
+
+module _ (job : List ℕ) (a b c : Label) where
+  eight-from : (x : Solution) → JobOutcome job x → printedOf x ≡ printedOf (clashed [] a b c) → EightAnswered job a b c
+  eight-from x (too-long h) e = absurd (refusal-no-eight _ [] a b c e)
+  eight-from x (no-contents h never) e = absurd (refusal-no-eight _ [] a b c e)
+  eight-from x (first-fault d held r i f) e = absurd (refusal-no-eight _ [] a b c e)
+  eight-from x (second-fault d held s p r i f) e = absurd (refusal-no-eight _ [] a b c e)
+  eight-from x (list-fault d held s t p q r i f) e = absurd (refusal-no-eight _ [] a b c e)
+  eight-from x (first-lacks s t xs asks n o) e = absurd (refusal-no-eight _ [] a b c e)
+  eight-from x (second-lacks s t xs asks n o) e = absurd (refusal-no-eight _ [] a b c e)
+  eight-from x (disagreement s t xs asks p q r held o) e =
+      let low : (y : Label) → isIn y xs ≡ true → goodLabel y ≡ true = good-of xs (asks .required .labels) in
+      let g = good-three p q r (low p (o .clash .inOne)) (low q (o .clash .inTwo)) (low r (o .clash .inThree)) in
+      let w = eight-back [] xs a b c p q r g (sym e) in
+      record {
+        s = s;
+        t = t;
+        xs = xs;
+        asked = asks;
+        common = held;
+        isDisagreement = rw (w .0, w .1, w .2) o;
+      }
+  eight-from x (largest-set s t xs asks Y o) e =
+      absurd (eight-other [] a b c Y _ (sym e ∙ set-printed s Y (keptText (restrict (setOf Y) s))))
+
+  pub eight-lines : (printed job ≡ printedOf (clashed [] a b c)) ↔ EightAnswered job a b c
+  unfolding printed
+  eight-lines = (
+    λ (e : printedOf (solveJob job) ≡ printedOf (clashed [] a b c)). eight-from (solveJob job) (outcome-exactly job (solveJob job) .0 refl) e,
+    λ (k : EightAnswered job a b c).
+        ap printedOf (outcome-exactly job _ .1 (disagreement (k .s) (k .t) (k .xs) (k .asked) a b c (k .common) (k .isDisagreement)))
+        ∙ eight-same (k .xs) [] a b c,
   )

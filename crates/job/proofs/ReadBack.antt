@@ -9,6 +9,12 @@ use native.Mathlib.Omega.{arith}
 use lib.Dec.{eqb}
 use lib.ListN.{length, drop}
 use borrow.Author.Tests.{eq-eqb, eqb-true}
+use lib.Seq.{drop-append-seam}
+use Rattle.trees.specs.declared.Reason.the-variants.{Disagree}
+use Rattle.trees.specs.declared.Body.{Body}
+use Rattle.trees.specs.declared.Body.the-variants.{S, T, K, J, O}
+use Rattle.trees.specs.declared.Refusal.{Refusal}
+use Rattle.trees.specs.Refusals.{numberOf, letterOf}
 use Rattle.trees.specs.Bytes.{isLabelByte}
 use Rattle.trees.specs.Label.{Label, allLabelBytes, goodLabel, goodLabels}
 use Rattle.trees.specs.Tree.{Tree, leaf, node, leafLimit, leaves, normal, Valid}
@@ -26,7 +32,8 @@ use Rattle.agreement.proofs.RestrictText.{restrict-valid}
 use Rattle.contents.specs.Contents.{line}
 use Rattle.contents.specs.Decimal.{isDigit, valueFrom, decimalOf, digitRoom}
 use Rattle.contents.proofs.DecimalLaws.{allDigits, from-digits, decimal-value}
-use Rattle.job.specs.Printed.{recordLines}
+use Rattle.mast.specs.Largest.{clashed, turned}
+use Rattle.job.specs.Printed.{refusedWords, recordLines, printedOf}
 use Rattle.job.proofs.ShownLaws.{good-bytes}
 
 -- ---- bytes that do not stand in a text
@@ -277,3 +284,95 @@ lines-back X Y p q good few plain e =
     let n : length X ≡ length Y =
     sym (decimal-value (length X) small) ∙ ap (valueFrom 0) (size-back X Y (a .0)) ∙ decimal-value (length Y) (omega arith) in
     (joined-back X Y good n j, tree-back p q (c .0))
+
+-- ---- the line of number 8
+
+letter-plain : (b : Body) → eqb 32 (letterOf b) ≡ false
+unfolding letterOf
+letter-plain S = refl
+letter-plain T = refl
+letter-plain K = refl
+letter-plain J = refl
+letter-plain O = refl
+
+blank-free : (n : ℕ) → occurrences 32 (decimalOf n) ≡ 0
+unfolding decimalOf
+blank-free n = digit-free 32 no-digit-blank (decimalOf n) (from-digits digitRoom n)
+  where
+    no-digit-blank : isDigit 32 ≡ false
+    no-digit-blank = unfold isDigit in refl
+
+refused-blank : (l : List ℕ) → occurrences 32 (bytesOf "refused " ++ l) ≡ suc (occurrences 32 l)
+unfolding bytesOf occurrences
+refused-blank l = refl
+
+words-blanks : (q : Refusal) → occurrences 32 (refusedWords q) ≡ 3
+unfolding refusedWords
+words-blanks q =
+    let place : List ℕ = decimalOf (q .place) in
+    let rest : List ℕ = 32 ∷ letterOf (q .body) ∷ 32 ∷ place in
+    omega (
+      arith,
+      refused-blank (decimalOf (numberOf (q .reason)) ++ rest),
+      occurrences-append 32 (decimalOf (numberOf (q .reason))) rest,
+      blank-free (numberOf (q .reason)),
+      one-more 32 (letterOf (q .body) ∷ 32 ∷ place),
+      other-more 32 (letterOf (q .body)) (32 ∷ place) (letter-plain (q .body)),
+      one-more 32 place,
+      blank-free (q .place),
+    )
+
+line-blanks : (w : List ℕ) → occurrences 32 (line w) ≡ occurrences 32 w
+unfolding line occurrences
+line-blanks w = omega (arith, occurrences-append 32 w (10 ∷ []))
+
+pub refusal-no-eight : (q : Refusal) (xs : List Label) (a b c : Label) → printedOf (turned q) ≡ printedOf (clashed xs a b c) → ⊥
+unfolding printedOf
+refusal-no-eight q xs a b c e =
+    let w : List ℕ = refusedWords (record { reason = Disagree; body = K; place = 0 }) in
+    let j : List ℕ = joined (a ∷ b ∷ c ∷ []) in
+    omega (
+      arith,
+      ap (occurrences 32) e,
+      line-blanks (refusedWords q),
+      words-blanks q,
+      line-blanks (w ++ (32 ∷ j)),
+      occurrences-append 32 w (32 ∷ j),
+      words-blanks (record { reason = Disagree; body = K; place = 0 }),
+      one-more 32 j,
+    )
+
+after-words : (w r : List ℕ) → drop (length w) (line (w ++ r)) ≡ r ++ (10 ∷ [])
+unfolding line
+after-words w r = ap (drop (length w)) (append-assoc w r (10 ∷ [])) ∙ drop-append-seam w (r ++ (10 ∷ []))
+
+eight-joined : (xs ys : List Label) (a b c x y z : Label) → printedOf (clashed xs a b c) ≡ printedOf (clashed ys x y z)
+    → joined (a ∷ b ∷ c ∷ []) ++ (10 ∷ []) ≡ joined (x ∷ y ∷ z ∷ []) ++ (10 ∷ [])
+unfolding printedOf
+eight-joined xs ys a b c x y z e =
+    let w : List ℕ = refusedWords (record { reason = Disagree; body = K; place = 0 }) in
+    let j : List ℕ = joined (a ∷ b ∷ c ∷ []) in
+    let k : List ℕ = joined (x ∷ y ∷ z ∷ []) in
+    let f : 32 ∷ (j ++ (10 ∷ [])) ≡ 32 ∷ (k ++ (10 ∷ [])) =
+    sym (after-words w (32 ∷ j)) ∙ ap (drop (length w)) e ∙ after-words w (32 ∷ k) in
+    heads 32 32 (j ++ (10 ∷ [])) (k ++ (10 ∷ [])) f .1
+
+pub eight-back : (xs ys : List Label) (a b c x y z : Label) → goodLabels (x ∷ y ∷ z ∷ []) ≡ true
+    → printedOf (clashed xs a b c) ≡ printedOf (clashed ys x y z) → (a ≡ x) × (b ≡ y) × (c ≡ z)
+eight-back xs ys a b c x y z good e =
+    let one : List Label = a ∷ b ∷ c ∷ [] in
+    let two : List Label = x ∷ y ∷ z ∷ [] in
+    let j = eight-joined xs ys a b c x y z e in
+    let plain : occurrences 10 (joined one) ≡ 0 =
+    omega (
+      arith,
+      ap (occurrences 10) j,
+      joined-line two good,
+      occurrences-append 10 (joined one) (10 ∷ []),
+      occurrences-append 10 (joined two) (10 ∷ []),
+    ) in
+    let same : one ≡ two = joined-back one two good refl (cut-at 10 (joined one) (joined two) [] [] plain (joined-line two good) j .0) in
+    let p : a ≡ x = cc in
+    let q : b ≡ y = cc in
+    let r : c ≡ z = cc in
+    (p, q, r)

@@ -90,3 +90,12 @@ pub record SetAnswered (job : List ℕ) (X : List Label) (text : List ℕ) : Typ
   pub isAnswer : IsAnswer s t xs X
   pub first-text : text ≡ keptText (restrict (setOf X) s)
   pub second-text : text ≡ keptText (restrict (setOf X) t)
+
+-- number 8 of three labels: the bodies are read, both trees hold what is required, and these are the first three that disagree
+pub record EightAnswered (job : List ℕ) (a b c : Label) : Type 0 where
+  pub s : Tree
+  pub t : Tree
+  pub xs : List Label
+  pub asked : Asks job s t xs
+  pub common : Common s t (setOf xs)
+  pub isDisagreement : IsDisagreement s t xs a b c
