@@ -11,7 +11,7 @@ use Rattle.trees.specs.Tree.{Tree}
 use Rattle.trees.specs.Words.{Within}
 use Rattle.agreement.specs.Places.{placeOfLabel}
 use Rattle.contents.specs.Contents.{layoutOf, listPlace}
-use Rattle.mast.specs.Largest.{Solution, solved, clashed, turned, solve}
+use Rattle.mast.specs.Largest.{Solution, solved, clashed, turned, task, solve}
 use Rattle.job.specs.declared.JobAnswer.the-variants as job-answer
 use Rattle.job.specs.declared.Named.{Named}
 use Rattle.job.specs.Printed.{jobLimit, treeRoom, recordRoom, solveJob, recordLines, printedOf, printed}
@@ -53,7 +53,7 @@ line-rows-promise = RowLaws.line-said
 
 -- "An output is too short exactly if it has fewer bytes than the text that belongs in it": the engine's own area for a tree's text never
 -- is, so number 9 says that the caller's output has fewer bytes than the printed lines
-pub area-fits : (first second list : List ℕ) (q : Refusal) → solve first second list treeRoom ≡ turned q → numberOf (q .reason) ≡ 9 → ⊥
+pub area-fits : (first second list : List ℕ) (q : Refusal) → solve (task first second list) treeRoom ≡ turned q → numberOf (q .reason) ≡ 9 → ⊥
 area-fits = RoomLaws.engine-fits
 
 pub job-area-fits : (job : List ℕ) (q : Refusal) → solveJob job ≡ turned q → numberOf (q .reason) ≡ 9 → ⊥
