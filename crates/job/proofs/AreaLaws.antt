@@ -98,14 +98,6 @@ output-short text out h = rw (lt-leb (length text) (length out) h) refl
 
 -- ---- labels
 
-pub label-whole : (text : List ℕ) (start size : ℕ) → size < labelLimit → partOf start size text ≡ labelIn text start size
-unfolding labelIn
-label-whole text start size h = let e : size ≡ min size labelLimit = omega arith in ap (λ (k : ℕ). partOf start k text) e
-
-pub label-cut : (text : List ℕ) (start size : ℕ) → labelLimit ≤ size → partOf start labelLimit text ≡ labelIn text start size
-unfolding labelIn
-label-cut text start size h = let e : labelLimit ≡ min size labelLimit = omega arith in ap (λ (k : ℕ). partOf start k text) e
-
 pub label-short : (text : List ℕ) (start size : ℕ) → length (labelIn text start size) ≤ labelLimit
 unfolding labelIn partOf
 label-short text start size = go (leb (start + min size labelLimit) (length text))

@@ -1,26 +1,37 @@
--- `job::lines::label_in` meets its contract: whole, or cut after 16 bytes. Assumes nothing.
-use Rattle.job.proofs.AreaLaws.{label-whole, label-cut}
-use native.Mathlib.Omega.{arith}
-use mathlib.Core.Path.{_∙_}
+use mathlib.Core.Path.{_≡_, refl, _∙_, ap}
+use Prim.Native.Nat.{ℕ}
+use Rattle.trees.specs.Stored.{partOf, storedBytes, storedOf}
+use Rattle.trees.proofs.StoredLaws.{stored-back}
+use Rattle.job.specs.Answered.{labelIn}
+use Rattle.job.proofs.AreaLaws.{label-short}
 use borrow.Author.Needs.{needs}
 use Rattle.job.proofs.lines.label_in.Statement.{statement}
 use Rattle.job.proofs.lines.label_in.Tie as tie
+use Rattle.job.proofs.lines.label_in.Reads as reads
+use Rattle.job.proofs.lines.label_in.Lts as lts
+use Rattle.trees.proofs.least.Reads as least-reads
+use Rattle.trees.proofs.part.Reads as part-reads
+use Rattle.trees.proofs.stored.Reads as stored-reads
 
+-- src/lines.rt:60:44
+least-requires : tie.Need-least-requires
+least-requires c κs = search needs
+
+-- src/lines.rt:60:19
 part-requires : tie.Need-part-requires
 part-requires c κs = search needs
 
+-- src/lines.rt:60:5
+stored-requires : tie.Need-stored-requires
+stored-requires c κs = search needs
+
+-- src/lines.rt:57:1
 returns : tie.Need-returns
+unfolding labelIn
 returns c =
-    let a = c .before .before .before .args in
-    c .part .ensures ∙ label-whole (a .text .now) (a .start) (a .size) (c .before .if1 .taken)
-
-part-requires-2 : tie.Need-part-requires-2
-part-requires-2 c κs = search needs
-
-returns-2 : tie.Need-returns-2
-returns-2 c =
-    let a = c .before .before .before .args in
-    c .part2 .ensures ∙ label-cut (a .text .now) (a .start) (a .size) (omega arith)
+    let a = c .before .before .before .before .args in
+    let e = c .before .part .ensures ∙ ap (λ (n : ℕ). partOf (a .start) n (a .text .now)) (c .before .before .least .ensures) in
+    ap storedBytes (c .stored .ensures ∙ ap storedOf e) ∙ stored-back _ (label-short (a .text .now) (a .start) (a .size))
 
 pub label-in-spec : {M : Type 1} → statement M
-label-in-spec = tie.close (tie.spec part-requires returns part-requires-2 returns-2)
+label-in-spec = tie.close (tie.spec least-requires part-requires stored-requires returns)
