@@ -14,7 +14,7 @@ use Rattle.agreement.specs.Answer.{disagree}
 use Rattle.agreement.specs.Demand.{IsDisagreement}
 use Rattle.contents.specs.Contents.{layoutOf, listPlace}
 use Rattle.mast.specs.Given.{Reads, SetGiven}
-use Rattle.mast.specs.Largest.{Solution, solved, clashed, turned, solutionOf, solve}
+use Rattle.mast.specs.Largest.{Solution, solved, clashed, turned, solutionOf, task, solve}
 use Rattle.mast.proofs.Promises as mast
 use Rattle.job.specs.Printed.{recordLines}
 use Rattle.job.specs.Answered.{outputShort, lineAnswer, linesAnswer, recordAnswer, partOfLabel, answered, answerTo}
@@ -24,18 +24,18 @@ use Rattle.cabi.specs.declared.AgreeResult.{AgreeResult}
 use Rattle.cabi.specs.Numbers.{succeeded, disagreed, refusedWith, numbersOf, jobNumbers}
 
 module _ (first second list : List ℕ) (room : ℕ) where
-  pub refusal-numbers : (q : Refusal) → solve first second list room ≡ turned q → numbersOf (solve first second list room) ≡ refusedWith q
+  pub refusal-numbers : (q : Refusal) → solve (task first second list) room ≡ turned q → numbersOf (solve (task first second list) room) ≡ refusedWith q
   unfolding numbersOf
   refusal-numbers q e = ap numbersOf e
 
   module _ (s t : Tree) (xs : List Label) (reads : Reads first second list s t xs) where
     pub set-numbers : (X : List Label) (text : List ℕ) → SetGiven s t xs X text room
-        → numbersOf (solve first second list room) ≡ succeeded (length X) (length text)
+        → numbersOf (solve (task first second list) room) ≡ succeeded (length X) (length text)
     unfolding numbersOf
     set-numbers X text g = ap numbersOf (mast.set-promise first second list room s t xs reads X text .1 g)
 
     pub eight-numbers : (a b c : Label) → Common s t (setOf xs) → IsDisagreement s t xs a b c
-        → numbersOf (solve first second list room) ≡ disagreed (placeOfLabel xs 0 a) (placeOfLabel xs 0 b) (placeOfLabel xs 0 c)
+        → numbersOf (solve (task first second list) room) ≡ disagreed (placeOfLabel xs 0 a) (placeOfLabel xs 0 b) (placeOfLabel xs 0 c)
     unfolding numbersOf solutionOf
     eight-numbers a b c held d =
         ap numbersOf (mast.outcome-promise first second list room s t xs reads (disagree a b c) (held, d))

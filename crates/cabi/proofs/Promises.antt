@@ -12,7 +12,7 @@ use Rattle.agreement.specs.Places.{placeOfLabel}
 use Rattle.agreement.specs.Demand.{IsDisagreement}
 use Rattle.contents.specs.Contents.{layoutOf, listPlace}
 use Rattle.mast.specs.Given.{Reads, SetGiven}
-use Rattle.mast.specs.Largest.{solved, clashed, turned, solve}
+use Rattle.mast.specs.Largest.{solved, clashed, turned, task, solve}
 use Rattle.job.specs.Printed.{recordLines}
 use Rattle.job.specs.Answered.{outputShort, answerTo}
 use Rattle.job.specs.Outcome.{JobOutcome}
@@ -23,16 +23,16 @@ use Rattle.cabi.proofs.HostLaws
 module _ (first second list : List ℕ) (room : ℕ) where
   module _ (s t : Tree) (xs : List Label) (reads : Reads first second list s t xs) where
     pub set-promise : (X : List Label) (text : List ℕ) → SetGiven s t xs X text room
-        → numbersOf (solve first second list room) ≡ succeeded (length X) (length text)
+        → numbersOf (solve (task first second list) room) ≡ succeeded (length X) (length text)
     set-promise = HostLaws.set-numbers first second list room s t xs reads
 
     -- number 8 with the places of the first three in the list
     pub eight-promise : (a b c : Label) → Common s t (setOf xs) → IsDisagreement s t xs a b c
-        → numbersOf (solve first second list room) ≡ disagreed (placeOfLabel xs 0 a) (placeOfLabel xs 0 b) (placeOfLabel xs 0 c)
+        → numbersOf (solve (task first second list) room) ≡ disagreed (placeOfLabel xs 0 a) (placeOfLabel xs 0 b) (placeOfLabel xs 0 c)
     eight-promise = HostLaws.eight-numbers first second list room s t xs reads
 
   -- any other row: its number, letter and place
-  pub refusal-promise : (q : Refusal) → solve first second list room ≡ turned q → numbersOf (solve first second list room) ≡ refusedWith q
+  pub refusal-promise : (q : Refusal) → solve (task first second list) room ≡ turned q → numbersOf (solve (task first second list) room) ≡ refusedWith q
   refusal-promise = HostLaws.refusal-numbers first second list room
 
 -- a job: the length of its lines, or number 9 where the output has fewer bytes

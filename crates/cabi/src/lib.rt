@@ -4,7 +4,7 @@
 // then reads them by name; a packed number would have to be taken apart.
 ghost use mathlib.Core.Path.{_≡_};
 ghost use lib.ListN.{length};
-ghost use Rattle.mast.specs.Largest.{solve, outputOf};
+ghost use Rattle.mast.specs.Largest.{task, solve, outputOf};
 ghost use Rattle.job.specs.Printed.{solveJob};
 ghost use Rattle.job.specs.Answered.{answerTo, jobOutput};
 ghost use Rattle.cabi.specs.Numbers.{succeeded, disagreed, refusedWith, numbersOf, jobNumbers};
@@ -88,10 +88,10 @@ pub extern "C" fn agree_largest(
 ) -> AgreeResult
     ensures numbers { λ r.
         ⌜ r ≡ numbersOf
-        (solve (now (first .entry)) (now (second .entry)) (now (required .entry)) (length (now (out .entry)))) ⌝ }
+        (solve (task (now (first .entry)) (now (second .entry)) (now (required .entry))) (length (now (out .entry)))) ⌝ }
     ensures output { λ r.
         ⌜ now (out .exit) ≡ outputOf
-        (solve (now (first .entry)) (now (second .entry)) (now (required .entry)) (length (now (out .entry))))
+        (solve (task (now (first .entry)) (now (second .entry)) (now (required .entry))) (length (now (out .entry))))
         (now (out .entry)) ⌝ }
 {
     let result = mast::largest(first, second, required, out);

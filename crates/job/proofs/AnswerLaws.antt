@@ -17,7 +17,7 @@ use Rattle.lists.specs.declared.LabelPlaces.{LabelPlaces}
 use Rattle.agreement.specs.Places.{placeIn, placeOfLabel}
 use Rattle.mast.specs.declared.LargestAnswer.the-variants.{Found, Disagree, Refused}
 use Rattle.mast.specs.declared.LargestResult.{LargestResult}
-use Rattle.mast.specs.Largest.{Solution, solved, clashed, turned, solve, setPlaces, largestOf, outputOf}
+use Rattle.mast.specs.Largest.{Solution, solved, clashed, turned, task, solve, setPlaces, largestOf, outputOf}
 use Rattle.job.specs.declared.JobAnswer.the-variants as job-answer
 use Rattle.job.specs.declared.Part.{Part}
 use Rattle.contents.specs.declared.Table.{Table}
@@ -67,7 +67,7 @@ pub record SetFound (first second list area : List ℕ) (places : LabelPlaces) (
   pub s : Tree
   pub X : List Label
   pub text : List ℕ
-  pub solution : solve first second list treeRoom ≡ solved s X text
+  pub solution : solve (task first second list) treeRoom ≡ solved s X text
   pub short : length text ≤ treeRoom
   pub front : take k area ≡ text
   pub inside : k ≤ length area
@@ -84,7 +84,7 @@ pub record EightFound (first second list : List ℕ) (i j k : ℕ) : Type 0 wher
   pub a : Label
   pub b : Label
   pub c : Label
-  pub solution : solve first second list treeRoom ≡ clashed xs a b c
+  pub solution : solve (task first second list) treeRoom ≡ clashed xs a b c
   pub one : Clasher list xs a i
   pub two : Clasher list xs b j
   pub three : Clasher list xs c k
@@ -106,17 +106,17 @@ module _ (first list : List ℕ) (xs : List Label) (a b c : Label) (w : ClashedB
       }
 
 module _ (first second list blank area : List ℕ) (r : LargestResult) (roomy : length blank ≡ treeRoom)
-    (told : r ≡ largestOf (solve first second list (length blank)))
-    (kept : area ≡ outputOf (solve first second list (length blank)) blank) where
-  in-room : (x : Solution) → solve first second list (length blank) ≡ x → solve first second list treeRoom ≡ x
-  in-room x e = ap (solve first second list) (sym roomy) ∙ e
+    (told : r ≡ largestOf (solve (task first second list) (length blank)))
+    (kept : area ≡ outputOf (solve (task first second list) (length blank)) blank) where
+  in-room : (x : Solution) → solve (task first second list) (length blank) ≡ x → solve (task first second list) treeRoom ≡ x
+  in-room x e = ap (solve (task first second list)) (sym roomy) ∙ e
 
   pub found-set : (n k : ℕ) → r .answer ≡ Found n k → SetFound first second list area (r .set) k
   unfolding largestOf outputOf setPlaces
   found-set n k e =
-      go (solve first second list (length blank)) refl (solution-from first second list (length blank)) told kept
+      go (solve (task first second list) (length blank)) refl (solution-from first second list (length blank)) told kept
     where
-      go : (x : Solution) → solve first second list (length blank) ≡ x → From first list (length blank) x → r ≡ largestOf x
+      go : (x : Solution) → solve (task first second list) (length blank) ≡ x → From first list (length blank) x → r ≡ largestOf x
           → area ≡ outputOf x blank → SetFound first second list area (r .set) k
       go (solved s X text) q f t o =
           let h : Found n k ≡ Found (length X) (length text) = sym e ∙ ap (λ (z : LargestResult). z .answer) t in
@@ -145,9 +145,9 @@ module _ (first second list blank area : List ℕ) (r : LargestResult) (roomy : 
 
   pub found-eight : (i j k : ℕ) → r .answer ≡ Disagree i j k → EightFound first second list i j k
   unfolding largestOf
-  found-eight i j k e = go (solve first second list (length blank)) refl (solution-from first second list (length blank)) told
+  found-eight i j k e = go (solve (task first second list) (length blank)) refl (solution-from first second list (length blank)) told
     where
-      go : (x : Solution) → solve first second list (length blank) ≡ x → From first list (length blank) x → r ≡ largestOf x
+      go : (x : Solution) → solve (task first second list) (length blank) ≡ x → From first list (length blank) x → r ≡ largestOf x
           → EightFound first second list i j k
       go (solved s X text) q f t =
           let h : Disagree i j k ≡ Found (length X) (length text) = sym e ∙ ap (λ (z : LargestResult). z .answer) t in
@@ -175,11 +175,11 @@ module _ (first second list blank area : List ℕ) (r : LargestResult) (roomy : 
           let z : _≡_ {A = ℕ} 0 1 = cc in
           absurd (omega arith)
 
-  pub found-refusal : (p : Refusal) → r .answer ≡ Refused p → solve first second list treeRoom ≡ turned p
+  pub found-refusal : (p : Refusal) → r .answer ≡ Refused p → solve (task first second list) treeRoom ≡ turned p
   unfolding largestOf
-  found-refusal p e = go (solve first second list (length blank)) refl told
+  found-refusal p e = go (solve (task first second list) (length blank)) refl told
     where
-      go : (x : Solution) → solve first second list (length blank) ≡ x → r ≡ largestOf x → solve first second list treeRoom ≡ turned p
+      go : (x : Solution) → solve (task first second list) (length blank) ≡ x → r ≡ largestOf x → solve (task first second list) treeRoom ≡ turned p
       go (solved s X text) q t =
           let h : Refused p ≡ Found (length X) (length text) = sym e ∙ ap (λ (z : LargestResult). z .answer) t in
           let z : _≡_ {A = ℕ} 0 1 = cc in
@@ -218,8 +218,8 @@ module _ (job : List ℕ) (at : ℕ) (t : Table) (e : layout.Bodies at t ≡ lay
   list-base = ap listPlace e
 
   pub job-solved : length job ≤ jobLimit
-      → solve (take (at + t .first - at) (drop at job)) (take (at + t .first + t .second - (at + t .first)) (drop (at + t .first) job))
-      (take (at + t .first + t .second + t .required - (at + t .first + t .second)) (drop (at + t .first + t .second) job)) treeRoom
+      → solve (task (take (at + t .first - at) (drop at job)) (take (at + t .first + t .second - (at + t .first)) (drop (at + t .first) job))
+      (take (at + t .first + t .second + t .required - (at + t .first + t .second)) (drop (at + t .first + t .second) job))) treeRoom
       ≡ solveJob job
   unfolding solveBodies bodiesOf bodiesIn
   job-solved h =

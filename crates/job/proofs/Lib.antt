@@ -1,12 +1,14 @@
 pub mod AnswerLaws
 pub mod AreaLaws
 pub mod ClashLaws
+pub mod DemandLaws
 pub mod DigitLaws
 pub mod LineLaws
 pub mod OutcomeLaws
 pub mod PrintLaws
 pub mod ProgramLaws
 pub mod Promises
+pub mod ReadBack
 pub mod RecordLaws
 pub mod RoomLaws
 pub mod RowLaws

@@ -25,7 +25,7 @@ use Rattle.contents.specs.Contents.{Bodies, bodiesOf}
 use Rattle.contents.proofs.Promises as contents
 use Rattle.contents.proofs.StepLaws.{none-some}
 use Rattle.mast.specs.Given.{Reads}
-use Rattle.mast.specs.Largest.{Solution, solutionOf, solveList, solveSecond, solveFirst, solve}
+use Rattle.mast.specs.Largest.{Solution, solutionOf, solveList, solveSecond, solveFirst, task, solve}
 use Rattle.mast.proofs.Promises as mast
 use Rattle.job.specs.Printed.{jobLimit, treeRoom, solveBodies, solveJob, printedOf, printed}
 use Rattle.job.specs.Outcome.{Follows, Holds, TreeBody, ListBody, Asks, refusal, JobOutcome}
@@ -57,7 +57,7 @@ bodies-follow job b e = let w = contents.bodies-promise job b .0 e in record { t
 -- ---- each job has an outcome
 
 module _ (job : List ℕ) (b : Bodies) (held : Holds job b) where
-  bodies-outcome : JobOutcome job (solve (b .first) (b .second) (b .list) treeRoom)
+  bodies-outcome : JobOutcome job (solve (task (b .first) (b .second) (b .list)) treeRoom)
   unfolding solve solveFirst solveSecond solveList solutionOf
   bodies-outcome = go (readTree (b .first)) (readTree (b .second)) (readList (b .list)) refl refl refl
     where
@@ -108,7 +108,7 @@ outcome job = sized (bool-cases (leb (length job) jobLimit))
 -- ---- and one only
 
 module _ (job : List ℕ) (b : Bodies) (held : Holds job b) where
-  job-solve : solveJob job ≡ solve (b .first) (b .second) (b .list) treeRoom
+  job-solve : solveJob job ≡ solve (task (b .first) (b .second) (b .list)) treeRoom
   unfolding solveJob solveBodies
   job-solve = rw (le-leb (length job) jobLimit (held .size)) (ap solveBodies (holds-bodies job b held))
 

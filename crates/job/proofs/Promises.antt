@@ -2,7 +2,7 @@
 use Prim.Native.Nat.{ℕ, _+_, _<_, _≤_}
 use mathlib.Core.Path.{_≡_}
 use mathlib.Core.Logic.{_↔_}
-use mathlib.Core.List.{List}
+use mathlib.Core.List.{List, []}
 use lib.ListN.{length, take}
 use Rattle.trees.specs.declared.Refusal.{Refusal}
 use Rattle.trees.specs.Refusals.{numberOf}
@@ -11,22 +11,31 @@ use Rattle.trees.specs.Tree.{Tree}
 use Rattle.trees.specs.Words.{Within}
 use Rattle.agreement.specs.Places.{placeOfLabel}
 use Rattle.contents.specs.Contents.{layoutOf, listPlace}
-use Rattle.mast.specs.Largest.{Solution, solved, clashed, turned, solve}
+use Rattle.mast.specs.Largest.{Solution, solved, clashed, turned, task, solve}
 use Rattle.job.specs.declared.JobAnswer.the-variants as job-answer
 use Rattle.job.specs.declared.Named.{Named}
-use Rattle.job.specs.Printed.{jobLimit, treeRoom, recordRoom, solveJob, printedOf, printed}
+use Rattle.job.specs.Printed.{jobLimit, treeRoom, recordRoom, solveJob, recordLines, printedOf, printed}
 use Rattle.job.specs.Answered.{outputShort, lineAnswer, lineOutput, writtenPart, namedLine, answerTo}
-use Rattle.job.specs.Outcome.{JobOutcome}
+use Rattle.job.specs.Outcome.{SetAnswered, EightAnswered, JobOutcome}
 use Rattle.job.specs.Rows.{saidOfLine, saidOfJob, saidOfText, saidOfOutcome}
 use Rattle.job.proofs.ClashLaws
+use Rattle.job.proofs.DemandLaws
 use Rattle.job.proofs.OutcomeLaws
 use Rattle.job.proofs.ProgramLaws
 use Rattle.job.proofs.RoomLaws
 use Rattle.job.proofs.RowLaws
 
+-- demand 3 from the bytes of a job: the lines of X and its text are printed exactly if the bodies are read and X is the answer
+pub demand-promise : (job : List ℕ) (X : List Label) (text : List ℕ) → (printed job ≡ recordLines X text) ↔ SetAnswered job X text
+demand-promise = DemandLaws.set-lines
+
+-- number 8's line is printed exactly if the three are the first required labels with different closer pairs
+pub eight-promise : (job : List ℕ) (a b c : Label) → (printed job ≡ printedOf (clashed [] a b c)) ↔ EightAnswered job a b c
+eight-promise = DemandLaws.eight-lines
+
 -- from the bytes of a job to demand 3, one row after another: what is printed is what belongs to the outcome that the papers give the
--- job. The lines of X and its text exactly if the bodies are read and X is the answer; number 8's line exactly if three required labels
--- have different closer pairs and these are the first; 6, 7, 10, 11 and the bodies' refusals likewise
+-- job: number 8's line where three required labels have different closer pairs, with the first such three; 6, 7, 10, 11 and the bodies'
+-- refusals likewise
 pub job-promise : (job out : List ℕ) → (printed job ≡ out) ↔ ((x : Solution) × JobOutcome job x × (printedOf x ≡ out))
 job-promise = OutcomeLaws.printed-exactly
 
@@ -44,7 +53,7 @@ line-rows-promise = RowLaws.line-said
 
 -- "An output is too short exactly if it has fewer bytes than the text that belongs in it": the engine's own area for a tree's text never
 -- is, so number 9 says that the caller's output has fewer bytes than the printed lines
-pub area-fits : (first second list : List ℕ) (q : Refusal) → solve first second list treeRoom ≡ turned q → numberOf (q .reason) ≡ 9 → ⊥
+pub area-fits : (first second list : List ℕ) (q : Refusal) → solve (task first second list) treeRoom ≡ turned q → numberOf (q .reason) ≡ 9 → ⊥
 area-fits = RoomLaws.engine-fits
 
 pub job-area-fits : (job : List ℕ) (q : Refusal) → solveJob job ≡ turned q → numberOf (q .reason) ≡ 9 → ⊥

@@ -30,7 +30,7 @@ use Rattle.agreement.specs.Restrict.{restrict}
 use Rattle.agreement.specs.Answer.{Answer, firstLacks, secondLacks, disagree, largest, answer}
 use Rattle.agreement.specs.Places.{keptText}
 use Rattle.agreement.proofs.RestrictText.{restrict-valid}
-use Rattle.mast.specs.Largest.{Solution, solved, clashed, turned, fitted, solutionOf, solveList, solveSecond, solveFirst, solve}
+use Rattle.mast.specs.Largest.{Solution, solved, clashed, turned, fitted, solutionOf, solveList, solveSecond, solveFirst, task, solve}
 use Rattle.job.specs.declared.JobAnswer.the-variants as job-answer
 use Rattle.contents.specs.Contents.{Bodies, bodiesOf, layoutOf, listPlace}
 use Rattle.job.specs.Printed.{jobLimit, treeRoom, solveBodies, solveJob, recordLines, printedOf, printed}
@@ -70,7 +70,7 @@ NotNine (clashed xs a b c) = Prim.Unit {0}
 NotNine (turned q) = numberOf (q .reason) ≡ 9 → ⊥
 
 module _ (first second list : List ℕ) where
-  never-nine : NotNine (solve first second list treeRoom)
+  never-nine : NotNine (solve (task first second list) treeRoom)
   unfolding solve solveFirst solveSecond solveList solutionOf numberOf
   never-nine = go (readTree first) (readTree second) (readList list) refl refl refl
     where
@@ -91,7 +91,7 @@ module _ (first second list : List ℕ) where
           answers (largest X) = subst NotNine (sym (text-fits s X (accepts first s ea .1))) tt
 
   -- whatever the three texts are
-  pub engine-fits : (q : Refusal) → solve first second list treeRoom ≡ turned q → numberOf (q .reason) ≡ 9 → ⊥
+  pub engine-fits : (q : Refusal) → solve (task first second list) treeRoom ≡ turned q → numberOf (q .reason) ≡ 9 → ⊥
   engine-fits q e = subst NotNine e never-nine
 
 job-never-nine : (job : List ℕ) → NotNine (solveJob job)

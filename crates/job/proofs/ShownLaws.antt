@@ -14,10 +14,11 @@ use Rattle.trees.specs.Bytes.{isLabelByte}
 use Rattle.trees.specs.Label.{Label, labelLimit, sameLabel, isIn, allLabelBytes, goodLabel, goodLabels}
 use Rattle.trees.specs.Stored.{partOf}
 use Rattle.trees.specs.Words.{Within}
-use Rattle.trees.proofs.Bools.{bool-cases, clash, and-left, and-right, or-cases}
+use Rattle.trees.proofs.Bools.{bool-cases, clash, and-left, and-right, and-intro, or-cases}
 use Rattle.trees.proofs.LabelLaws.{same-eq}
 use Rattle.trees.proofs.ListLaws.{at-in}
 use Rattle.lists.specs.ReadList.{joined, padded, listLimit}
+use Rattle.agreement.proofs.SetLaws.{in-head, in-tail}
 use Rattle.mast.proofs.ShownLaws.{Listed}
 use Rattle.job.specs.Answered.{labelIn}
 use Rattle.job.specs.Areas.{labelsIn, untilComma}
@@ -68,6 +69,13 @@ good-in [] x g h = clash h refl
 good-in (y ∷ ys) x g h =
     ⊎-elim (λ (k : sameLabel x y ≡ true). rw (same-eq x y k) (and-left (goodLabel y) (goodLabels ys) g))
     (good-in ys x (and-right (goodLabel y) (goodLabels ys) g)) (or-cases (sameLabel x y) (isIn x ys) h)
+
+pub all-good : (xs : List Label) → ((x : Label) → isIn x xs ≡ true → goodLabel x ≡ true) → goodLabels xs ≡ true
+unfolding goodLabels
+all-good [] h = refl
+all-good (x ∷ xs) h =
+    and-intro (goodLabel x) (goodLabels xs) (h x (in-head x xs))
+    (all-good xs (λ (y : Label) (k : isIn y xs ≡ true). h y (in-tail y x xs k)))
 
 pub good-short : (x : Label) → goodLabel x ≡ true → length x ≤ labelLimit
 unfolding goodLabel

@@ -24,7 +24,7 @@ use Rattle.agreement.specs.Places.{placeIn, placeOfLabel, keptText}
 use Rattle.agreement.specs.Demand.{IsAnswer}
 use Rattle.agreement.proofs.Promises.{set-promise, answer-promise}
 use Rattle.agreement.proofs.SetLaws.{within-few}
-use Rattle.mast.specs.Largest.{Solution, solved, clashed, turned, fitted, solutionOf, solveList, solveSecond, solveFirst, solve}
+use Rattle.mast.specs.Largest.{Solution, solved, clashed, turned, fitted, solutionOf, solveList, solveSecond, solveFirst, task, solve}
 use Rattle.trees.specs.Words.{Within}
 use Rattle.mast.proofs.ShownLaws.{tree-shown, Listed, list-listed}
 use Rattle.job.proofs.ShownLaws.{good-in, good-short}
@@ -51,7 +51,7 @@ From first list room (clashed xs a b c) = ClashedBy first list xs a b c
 From first list room (turned q) = Prim.Unit {0}
 
 module _ (first second list : List ℕ) (room : ℕ) where
-  pub solution-from : From first list room (solve first second list room)
+  pub solution-from : From first list room (solve (task first second list) room)
   unfolding solve solveFirst solveSecond solveList solutionOf fitted
   solution-from = go (readTree first) (readTree second) (readList list) refl refl
     where

@@ -80,3 +80,22 @@ pub data JobOutcome (job : List ℕ) : Solution → Type 0 where
   -- demand 3: the set, and "the normal text of the common restriction"
   largest-set : (s t : Tree) (xs : List Label) → Asks job s t xs → (X : List Label) → IsAnswer s t xs X
       → JobOutcome job (solved s X (keptText (restrict (setOf X) s)))
+
+-- demand 3 of a set and a text that are printed: the bodies are read, the set is the answer, the text that of the common restriction
+pub record SetAnswered (job : List ℕ) (X : List Label) (text : List ℕ) : Type 0 where
+  pub s : Tree
+  pub t : Tree
+  pub xs : List Label
+  pub asked : Asks job s t xs
+  pub isAnswer : IsAnswer s t xs X
+  pub first-text : text ≡ keptText (restrict (setOf X) s)
+  pub second-text : text ≡ keptText (restrict (setOf X) t)
+
+-- number 8 of three labels: the bodies are read, both trees hold what is required, and these are the first three that disagree
+pub record EightAnswered (job : List ℕ) (a b c : Label) : Type 0 where
+  pub s : Tree
+  pub t : Tree
+  pub xs : List Label
+  pub asked : Asks job s t xs
+  pub common : Common s t (setOf xs)
+  pub isDisagreement : IsDisagreement s t xs a b c

@@ -15,7 +15,7 @@ use Rattle.trees.specs.Words.{bytesOf}
 use Rattle.lists.specs.ReadList.{joined}
 use Rattle.contents.specs.Decimal.{digitRoom, decimalOf}
 use Rattle.contents.specs.Contents.{Bodies, bodiesOf, line}
-use Rattle.mast.specs.Largest.{Solution, solved, clashed, turned, solve}
+use Rattle.mast.specs.Largest.{Solution, solved, clashed, turned, task, solve}
 
 -- "A job has at most 8,192 bytes"
 abbrev pub jobLimit : ℕ
@@ -44,7 +44,7 @@ recordRoom = 17 + digitRoom + leafLimit * itemRoom + treeRoom
 unfoldable pub solveBodies : Option Bodies → Solution
 unfolding solve
 solveBodies none = turned (record { reason = Contents; body = J; place = 0 })
-solveBodies (some b) = solve (b .first) (b .second) (b .list) treeRoom
+solveBodies (some b) = solve (task (b .first) (b .second) (b .list)) treeRoom
 
 -- "Order: .. 11, 10, S, T, K, then 6 or 7, then 8"
 unfoldable pub solveJob : List ℕ → Solution

@@ -11,7 +11,7 @@ ghost use mathlib.Core.Path.{_≡_};
 ghost use lib.ListN.{length};
 ghost use Prim.Native.Nat.{_+_, _≤_};
 ghost use lib.ListN.{drop, replicate};
-ghost use Rattle.mast.specs.Largest.{turned, solve};
+ghost use Rattle.mast.specs.Largest.{turned, task, solve};
 ghost use Rattle.job.specs.declared.JobAnswer as JobAnswer;
 ghost use Rattle.trees.specs.declared.Body.the-variants.{J};
 ghost use Rattle.trees.specs.Tree.{leafLimit};
@@ -168,10 +168,10 @@ fn answer_bodies(first: &[u8], second: &[u8], list: &[u8], base: usize, out: &mu
     requires { ⌜ base + length (now list) ≤ jobLimit ⌝ }
     ensures answer { λ r.
         ⌜ r ≡ answered base (length (now (out .entry)))
-        (solve (now (first .entry)) (now (second .entry)) (now (list .entry)) treeRoom) ⌝ }
+        (solve (task (now (first .entry)) (now (second .entry)) (now (list .entry))) treeRoom) ⌝ }
     ensures output { λ _.
         ⌜ now (out .exit) ≡ jobOutput
-        (solve (now (first .entry)) (now (second .entry)) (now (list .entry)) treeRoom)
+        (solve (task (now (first .entry)) (now (second .entry)) (now (list .entry))) treeRoom)
         (now (out .entry)) ⌝ }
 {
     let mut tree = [0u8; TREE_ROOM];

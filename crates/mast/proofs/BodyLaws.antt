@@ -38,7 +38,7 @@ use Rattle.triples.specs.declared.Three.{Three}
 use Rattle.triples.proofs.Ranks.{place-number}
 use Rattle.mast.specs.declared.LargestAnswer.{LargestAnswer}
 use Rattle.mast.specs.declared.LargestAnswer.the-variants.{Disagree, Refused}
-use Rattle.mast.specs.Largest.{Solution, clashed, turned, solutionOf, solve, largestOf, outputOf}
+use Rattle.mast.specs.Largest.{Solution, clashed, turned, solutionOf, task, solve, largestOf, outputOf}
 use Rattle.leaves.specs.Numbered.{Numbered}
 use Rattle.mast.specs.Weighing.{chosenFrom}
 use Rattle.mast.specs.Engine.{OwnLeaves, OwnList, Ranked}
@@ -140,22 +140,22 @@ list-unread body text r q e h = rw e (unlisted-case body (readList text) q (rw e
 -- a body that is not read ends the job there
 
 module _ (first second list : List ℕ) (room : ℕ) where
-  pub first-unread : (a : LargestAnswer) → Unread Tree (readTree first) S a → (q : Refusal) × (solve first second list room ≡ turned q) × (a ≡ Refused q)
+  pub first-unread : (a : LargestAnswer) → Unread Tree (readTree first) S a → (q : Refusal) × (solve (task first second list) room ≡ turned q) × (a ≡ Refused q)
   unfolding solve
   first-unread a u = (record { reason = u .reason; body = S; place = u .place }, rw (u .is) refl, u .told)
 
   pub second-unread : (s : Tree) → readTree first ≡ good s → (a : LargestAnswer) → Unread Tree (readTree second) T a
-      → (q : Refusal) × (solve first second list room ≡ turned q) × (a ≡ Refused q)
+      → (q : Refusal) × (solve (task first second list) room ≡ turned q) × (a ≡ Refused q)
   unfolding solve
   second-unread s e a u = (record { reason = u .reason; body = T; place = u .place }, rw (e, u .is) refl, u .told)
 
   pub list-not-read : (s t : Tree) → readTree first ≡ good s → readTree second ≡ good t → (a : LargestAnswer) → Unread (List Label) (readList list) K a
-      → (q : Refusal) × (solve first second list room ≡ turned q) × (a ≡ Refused q)
+      → (q : Refusal) × (solve (task first second list) room ≡ turned q) × (a ≡ Refused q)
   unfolding solve
   list-not-read s t e f a u = (record { reason = u .reason; body = K; place = u .place }, rw (e, f, u .is) refl, u .told)
 
   pub solve-reads : (s t : Tree) (xs : List Label) → Reads first second list s t xs
-      → solve first second list room ≡ solutionOf s xs room (answer s t xs)
+      → solve (task first second list) room ≡ solutionOf s xs room (answer s t xs)
   unfolding solve
   solve-reads s t xs r = rw (r .first-is, r .second-is, r .list-is) refl
 

@@ -18,7 +18,7 @@ use Rattle.agreement.specs.Sets.{setOf}
 use Rattle.agreement.specs.Restrict.{restrict}
 use Rattle.agreement.specs.Places.{keptText}
 use Rattle.agreement.specs.Answer.{Answer, firstLacks, secondLacks, disagree, largest, answer}
-use Rattle.mast.specs.Largest.{Solution, solved, clashed, turned, solutionOf, fitted, solve}
+use Rattle.mast.specs.Largest.{Solution, solved, clashed, turned, solutionOf, fitted, task, solve}
 use Rattle.trees.specs.declared.Reason.{Reason}
 use Rattle.newick.proofs.Accepts.{accepts}
 use Rattle.lists.proofs.Accepts.{list-accepts}
@@ -105,16 +105,16 @@ module _ (first second list : List ℕ) (room : ℕ) (s t : Tree) (xs : List Lab
   different : distinct xs ≡ true
   different = list-accepts list xs (reads .list-is) .2
 
-  belonging : Belongs s xs room (answer s t xs) (solve first second list room)
+  belonging : Belongs s xs room (answer s t xs) (solve (task first second list) room)
   belonging = rw (solve-reads first second list room s t xs reads) (belongs s xs room (answer s t xs))
 
-  pub outcome-decides : (A : Answer) → Outcome s t xs A → solve first second list room ≡ solutionOf s xs room A
+  pub outcome-decides : (A : Answer) → Outcome s t xs A → solve (task first second list) room ≡ solutionOf s xs room A
   outcome-decides A h =
       solve-reads first second list room s t xs reads ∙ ap (solutionOf s xs room) (agreement.answer-promise s t xs valid different A .1 h)
 
   pub eight-exactly : Common s t (setOf xs)
       → ((a : Label) × (b : Label) × (c : Label) × Clash s t xs a b c)
-      ↔ ((a : Label) × (b : Label) × (c : Label) × (solve first second list room ≡ clashed xs a b c))
+      ↔ ((a : Label) × (b : Label) × (c : Label) × (solve (task first second list) room ≡ clashed xs a b c))
   unfolding solutionOf
   eight-exactly held = (
     λ k.
@@ -125,7 +125,7 @@ module _ (first second list : List ℕ) (room : ℕ) (s t : Tree) (xs : List Lab
         (k .0, k .1, k .2, clashed-only (k .0) (k .1) (k .2) belonging (k .3)),
   )
 
-  pub set-exactly : (X : List Label) (text : List ℕ) → (solve first second list room ≡ solved s X text) ↔ SetGiven s t xs X text room
+  pub set-exactly : (X : List Label) (text : List ℕ) → (solve (task first second list) room ≡ solved s X text) ↔ SetGiven s t xs X text room
   unfolding solutionOf fitted
   set-exactly X text = (
     λ e.
@@ -144,7 +144,7 @@ module _ (first second list : List ℕ) (room : ℕ) (s t : Tree) (xs : List Lab
         ∙ (rw (← g .first-text, le-leb (length text) room (g .fit)) refl),
   )
 
-  pub nine-exactly : (solve first second list room ≡ turned tooShort)
+  pub nine-exactly : (solve (task first second list) room ≡ turned tooShort)
       ↔ ((X : List Label) × IsAnswer s t xs X × (room < length (keptText (restrict (setOf X) s))))
   unfolding solutionOf fitted
   nine-exactly = (

@@ -14,7 +14,7 @@ use Rattle.agreement.specs.Sets.{setOf}
 use Rattle.agreement.specs.Restrict.{restrict}
 use Rattle.agreement.specs.Places.{placeIn, placeOfNumber, placeOfLabel, keptText}
 use Rattle.agreement.specs.Answer.{Answer, answer}
-use Rattle.mast.specs.Largest.{Solution, solved, clashed, turned, solutionOf, solve, outputOf, largestOf, setPlaces}
+use Rattle.mast.specs.Largest.{Solution, solved, clashed, turned, solutionOf, task, solve, outputOf, largestOf, setPlaces}
 use Rattle.trees.specs.declared.Reason.{Reason}
 use Rattle.trees.specs.Reading.{good, refused}
 use Rattle.newick.specs.ReadTree.{readTree}
@@ -32,37 +32,37 @@ use Rattle.mast.proofs.ShownLaws.{tree-shown, list-shown, number-shown,
 
 -- "Order: .. S, T, K": "A body that fails to read ends the job there"
 module _ (first second list : List ℕ) (room : ℕ) (r : Reason) (i : ℕ) where
-  pub first-body : readTree first ≡ refused r i → solve first second list room ≡ turned (record { reason = r; body = S; place = i })
+  pub first-body : readTree first ≡ refused r i → solve (task first second list) room ≡ turned (record { reason = r; body = S; place = i })
   unfolding solve
   first-body e = rw e refl
 
   pub second-body : (s : Tree) → readTree first ≡ good s → readTree second ≡ refused r i
-      → solve first second list room ≡ turned (record { reason = r; body = T; place = i })
+      → solve (task first second list) room ≡ turned (record { reason = r; body = T; place = i })
   unfolding solve
   second-body s e f = rw (e, f) refl
 
   pub third-body : (s t : Tree) → readTree first ≡ good s → readTree second ≡ good t → readList list ≡ refused r i
-      → solve first second list room ≡ turned (record { reason = r; body = K; place = i })
+      → solve (task first second list) room ≡ turned (record { reason = r; body = K; place = i })
   unfolding solve
   third-body s t e f g = rw (e, f, g) refl
 
 module _ (first second list : List ℕ) (room : ℕ) (s t : Tree) (xs : List Label) (reads : Reads first second list s t xs) where
   -- 6 or 7, then 8, then the set: whatever meets the paper's sentences on two trees and a list decides
-  pub outcome-promise : (A : Answer) → Outcome s t xs A → solve first second list room ≡ solutionOf s xs room A
+  pub outcome-promise : (A : Answer) → Outcome s t xs A → solve (task first second list) room ≡ solutionOf s xs room A
   outcome-promise = outcome-decides first second list room s t xs reads
 
   -- 8 exactly if three required labels clash
   pub eight-promise : Common s t (setOf xs)
       → ((a : Label) × (b : Label) × (c : Label) × Clash s t xs a b c)
-      ↔ ((a : Label) × (b : Label) × (c : Label) × (solve first second list room ≡ clashed xs a b c))
+      ↔ ((a : Label) × (b : Label) × (c : Label) × (solve (task first second list) room ≡ clashed xs a b c))
   eight-promise = eight-exactly first second list room s t xs reads
 
   -- a set exactly if it is the largest, the first among equals, and the text of the common restriction fits
-  pub set-promise : (X : List Label) (text : List ℕ) → (solve first second list room ≡ solved s X text) ↔ SetGiven s t xs X text room
+  pub set-promise : (X : List Label) (text : List ℕ) → (solve (task first second list) room ≡ solved s X text) ↔ SetGiven s t xs X text room
   set-promise = set-exactly first second list room s t xs reads
 
   -- 9 last, and "only for a real lack"
-  pub nine-promise : (solve first second list room ≡ turned tooShort)
+  pub nine-promise : (solve (task first second list) room ≡ turned tooShort)
       ↔ ((X : List Label) × IsAnswer s t xs X × (room < length (keptText (restrict (setOf X) s))))
   nine-promise = nine-exactly first second list room s t xs reads
 

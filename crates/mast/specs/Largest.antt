@@ -56,9 +56,23 @@ unfolding solveSecond
 solveFirst room (good s) second list = solveSecond s room second list
 solveFirst room (refused r i) second list = turned (record { reason = r; body = S; place = i })
 
-unfoldable pub solve : List ℕ → List ℕ → List ℕ → ℕ → Solution
+-- what is asked of the engine beside its texts: nothing so far
+pub data Options : Type 0 where
+  plain : Options
+
+-- what is asked of the engine
+pub record Task : Type 0 where
+  pub options : Options
+  pub first : List ℕ
+  pub second : List ℕ
+  pub required : List ℕ
+
+abbrev pub task : List ℕ → List ℕ → List ℕ → Task
+task first second required = record { options = plain; first = first; second = second; required = required }
+
+unfoldable pub solve : Task → ℕ → Solution
 unfolding solveFirst
-solve first second list room = solveFirst room (readTree first) (readTree second) (readList list)
+solve q room = solveFirst room (readTree (q .first)) (readTree (q .second)) (readList (q .required))
 
 -- where the labels of a set stand in the first tree's text, in label order
 unfoldable pub setPlaces : Tree → List Label → LabelPlaces

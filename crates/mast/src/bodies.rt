@@ -10,7 +10,7 @@ ghost use Rattle.trees.specs.Label.{Label};
 ghost use Rattle.trees.specs.Tree.{Tree};
 ghost use Rattle.trees.specs.declared.Reason.the-variants.{FirstLacks, SecondLacks};
 ghost use Rattle.agreement.specs.Answer.{answer};
-ghost use Rattle.mast.specs.Largest.{clashed, solutionOf, solve, largestOf, outputOf};
+ghost use Rattle.mast.specs.Largest.{clashed, solutionOf, task, solve, largestOf, outputOf};
 ghost use Rattle.mast.specs.Solving.{Rooted, OwnColumns, Solved};
 ghost use Rattle.mast.specs.Asked.{RankedArrays, Asked, Clashes, SomeTree, SomeClash, FirstMissing};
 ghost use Rattle.mast.specs.Bodies.{Bodies, Bounded, OrderedBodies};
@@ -158,9 +158,9 @@ pub(crate) fn answer_bodies(
     requires { ⌜ Bodies (now first) (now second) (now list) tree1 tree2 places ⌝ }
     requires { ⌜ Bounded (now first) (now second) most ⌝ }
     ensures answer { λ r.
-        ⌜ r ≡ largestOf (solve (now (first .entry)) (now (second .entry)) (now (list .entry)) (length (now (out .entry)))) ⌝ }
+        ⌜ r ≡ largestOf (solve (task (now (first .entry)) (now (second .entry)) (now (list .entry))) (length (now (out .entry)))) ⌝ }
     ensures output { λ _. ⌜ now (out .exit)
-        ≡ outputOf (solve (now (first .entry)) (now (second .entry)) (now (list .entry)) (length (now (out .entry)))) (now (out .entry)) ⌝ }
+        ≡ outputOf (solve (task (now (first .entry)) (now (second .entry)) (now (list .entry))) (length (now (out .entry)))) (now (out .entry)) ⌝ }
 {
     let mut order1 = [0usize; 80];
     let mut order2 = [0usize; 80];

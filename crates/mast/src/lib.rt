@@ -11,7 +11,7 @@ ghost use mathlib.Core.Path.{_≡_};
 ghost use mathlib.Core.List.{[]};
 ghost use lib.ListN.{length};
 ghost use Rattle.lists.specs.ReadList.{placesOf};
-ghost use Rattle.mast.specs.Largest.{solve, largestOf, outputOf};
+ghost use Rattle.mast.specs.Largest.{task, solve, largestOf, outputOf};
 ghost use Rattle.mast.specs.Finish.{resultFrom};
 ghost use Rattle.mast.specs.Bodies.{unreadBody, unreadTree, unreadList};
 
@@ -74,9 +74,9 @@ fn unread_list(answer: ListAnswer) -> LargestResult
 // 8, 9, and `out` then keeps every byte.
 pub fn largest(first: &[u8], second: &[u8], required: &[u8], out: &mut [u8]) -> LargestResult
     ensures answer { λ r.
-        ⌜ r ≡ largestOf (solve (now (first .entry)) (now (second .entry)) (now (required .entry)) (length (now (out .entry)))) ⌝ }
+        ⌜ r ≡ largestOf (solve (task (now (first .entry)) (now (second .entry)) (now (required .entry))) (length (now (out .entry)))) ⌝ }
     ensures output { λ _. ⌜ now (out .exit)
-        ≡ outputOf (solve (now (first .entry)) (now (second .entry)) (now (required .entry)) (length (now (out .entry))))
+        ≡ outputOf (solve (task (now (first .entry)) (now (second .entry)) (now (required .entry))) (length (now (out .entry))))
         (now (out .entry)) ⌝ }
 {
     let one = newick::read_tree(first, Body::S);

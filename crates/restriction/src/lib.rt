@@ -103,13 +103,6 @@ fn nodes_kept(moved: &[usize; 159], n: usize) -> usize
     if root < 159 { root + 1 } else { 0 }
 }
 
-// The nodes that the arrays can hold.
-fn within_limit(nodes: usize) -> usize
-    ensures { λ r. ⌜ r ≡ min nodes 159 ⌝ }
-{
-    if nodes < 159 { nodes } else { 159 }
-}
-
 // What is left of a tree when only the leaves with a flag are kept; `kept` has a flag for each node number, and an inner
 // node's counts for nothing. Over every text: arrays of a tree give arrays of what is left of it, arrays of no leaf give
 // arrays of no leaf. A leaf of the result is its own left and right child. Where they stand for no tree the result is free, but
@@ -121,7 +114,7 @@ pub fn restrict_tree(tree: TreeArrays, kept: [bool; 159]) -> TreeArrays
     ensures leaves { λ r. ⌜ ((u : ℕ) → u < r .nodes → getD (r .left) u 0 ≡ u → getD (r .right) u 0 ≡ u) ⌝ }
     ensures fits { λ r. ⌜ r .nodes ≤ 159 ⌝ }
 {
-    let n = within_limit(tree.nodes);
+    let n = trees::least(tree.nodes, 159);
     let mut left = tree.left;
     let mut right = tree.right;
     let mut start = tree.start;

@@ -157,13 +157,6 @@ fn lacking(
     Agreement::Agreed
 }
 
-// The smaller number.
-fn least(a: usize, b: usize) -> usize
-    ensures { λ r. ⌜ r ≡ min a b ⌝ }
-{
-    if a < b { a } else { b }
-}
-
 // The first three labels, in label order, that have different closer pairs in two trees, by their ranks among `count` labels; three
 // times the count where the trees agree on them all. A tree is given by its arrays' left children and how many nodes it has, the
 // labels by the numbers of their leaves in label order. What arrays of no tree give is left free but for `Ranks`.
@@ -182,9 +175,9 @@ pub fn first_clash(
         → RankedTree t xs (now (left2 .entry)) nodes2 (now (leaf2 .entry))
         → r ≡ clashRanks xs (firstClash s t xs)) ⌝ }
 {
-    let most = least(count, 80);
-    let end1 = least(nodes1, 159);
-    let end2 = least(nodes2, 159);
+    let most = trees::least(count, 80);
+    let end1 = trees::least(nodes1, 159);
+    let end2 = trees::least(nodes2, 159);
     let low1 = lows(left1, end1);
     let low2 = lows(left2, end2);
     let mut i: usize = 0;

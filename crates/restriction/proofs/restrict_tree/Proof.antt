@@ -19,8 +19,8 @@ Inv-loop kept n left₀ right₀ start₀ size₀ moved₀ count₀ u₀ left ri
 abbrev μ-loop : tie.MeasureT-loop
 μ-loop kept n left₀ right₀ start₀ size₀ moved₀ count₀ u₀ left right start size moved count u = n - u
 
-within-limit-requires : tie.Need-within-limit-requires Inv-loop μ-loop
-within-limit-requires c κs = search needs
+least-requires : tie.Need-least-requires Inv-loop μ-loop
+least-requires c κs = search needs
 
 loop-holds : tie.Need-loop-holds Inv-loop μ-loop
 unfolding passOf
@@ -29,7 +29,7 @@ loop-holds c = (omega arith, refl)
 keep-node-requires : tie.Need-keep-node-requires Inv-loop μ-loop
 keep-node-requires c κs =
     let a = c .before .before .before .before .before .before .before .before .before .before .before .before .before .args in
-    let n = c .before .before .before .before .before .before .before .before .before .before .before .before .within-limit in
+    let n = c .before .before .before .before .before .before .before .before .before .before .before .before .least in
     let k = c .before .before .before .before .before .before .before .loop in (
       omega (arith, pass-count (startOf (a .tree)) (a .t2) (k .u), ap (λ (s : Pass). s .count) (k .inv .1)),
       omega (arith, k .inv .0, n .ensures),
@@ -37,7 +37,7 @@ keep-node-requires c κs =
 
 add-u : tie.Need-add-u Inv-loop μ-loop
 add-u c =
-    let n = c .before .before .before .before .before .before .before .before .before .before .before .before .before .within-limit in
+    let n = c .before .before .before .before .before .before .before .before .before .before .before .before .before .least in
     let k = c .before .before .before .before .before .before .before .before .loop in
     omega (arith, k .inv .0, n .ensures)
 
@@ -51,7 +51,7 @@ loop-again c =
     (omega arith, rw (add-one (k .u), ← k .inv .1) (c .keep-node .ensures))
 
 nodes-kept-requires : tie.Need-nodes-kept-requires Inv-loop μ-loop
-nodes-kept-requires c κs = omega (arith, c .before .before .before .before .before .before .before .within-limit .ensures)
+nodes-kept-requires c κs = omega (arith, c .before .before .before .before .before .before .before .least .ensures)
 
 returns : tie.Need-returns Inv-loop μ-loop
 returns c =
@@ -61,7 +61,7 @@ returns c =
     let r : length (a .tree .right) ≡ 159 = search needs in
     let b : length (a .tree .start) ≡ 159 = search needs in
     let z : length (a .tree .size) ≡ 159 = search needs in
-    let n = c .before .before .before .before .before .before .before .before .within-limit in
+    let n = c .before .before .before .before .before .before .before .before .least in
     let k = c .before .before .before .loop in
     let s : Pass = passAt (k .count) (k .moved) (k .left) (k .right) (k .start) (k .size) in
     let e : s ≡ passOf (startOf (a .tree)) (a .t2) (n .result) =
@@ -86,7 +86,7 @@ restrict-tree-spec =
     (tie.spec
     Inv-loop
     μ-loop
-    within-limit-requires
+    least-requires
     loop-holds
     keep-node-requires
     add-u
