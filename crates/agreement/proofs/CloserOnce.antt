@@ -4,18 +4,12 @@ use mathlib.Core.Bool.{Bool, true, false}
 use mathlib.Core.Logic.{_⊎_, inl, inr}
 use Rattle.trees.specs.Label.{Label, distinct}
 use Rattle.trees.specs.Tree.{Tree, leaf, node, leaves}
-use Rattle.agreement.specs.Closer.{holds, closer}
+use Rattle.agreement.specs.Closer.{holds, closer, OneOf}
 use Rattle.agreement.proofs.HoldsLaws.{holds-leaf, distinct-node}
 use Rattle.agreement.proofs.Children.{Children, children, flip, closer-apart}
 
--- exactly one of three tests
-abbrev pub OneOf : Bool → Bool → Bool → Type 0
-OneOf x y z =
-    ((x ≡ true) × (y ≡ false) × (z ≡ false))
-    ⊎ (((x ≡ false) × (y ≡ true) × (z ≡ false)) ⊎ ((x ≡ false) × (y ≡ false) × (z ≡ true)))
-
 -- of a, b and c one pair is closer
-abbrev pub Once : Tree → Label → Label → Label → Type 0
+abbrev Once : Tree → Label → Label → Label → Type 0
 Once t a b c = OneOf (closer t a b c) (closer t a c b) (closer t b c a)
 
 one-of : {x y z u v w : Bool} → x ≡ u → y ≡ v → z ≡ w → OneOf u v w → OneOf x y z

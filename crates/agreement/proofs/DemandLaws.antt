@@ -308,10 +308,6 @@ module _ (s t : Tree) (K : List Label) where
         → answer s t K ≡ disagree (r .one) (r .two) (r .three)
     clash-answer h r f = disagree-exactly (r .one) (r .two) (r .three) h .1 (record { clash = f .0; firstThree = f .1 })
 
-    pub firstClash-answer : Common s t (setOf K) → (r : Three) → firstClash s t (sorted K) ≡ some r
-        → answer s t K ≡ disagree (r .one) (r .two) (r .three)
-    firstClash-answer h r e = clash-answer h r (subst (FirstThree (Clash s t K)) e (required-clash dk))
-
     -- 8 exactly if three required labels have different closer pairs
     pub eight-exactly : Common s t (setOf K)
         → ((a : Label) × (b : Label) × (c : Label) × Clash s t K a b c)

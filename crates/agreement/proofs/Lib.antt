@@ -9,6 +9,7 @@ pub mod PowerLaws
 pub mod HoldsLaws
 pub mod KeepLaws
 pub mod PairInduction
+pub mod PlaceLaws
 pub mod Promises
 pub mod Recurrence
 pub mod RestrictLaws

@@ -10,7 +10,7 @@ use lib.Dec.{leb}
 use lib.ListN.{length, getD}
 use borrow.Author.Tests.{le-leb, lt-leb}
 use Rattle.trees.specs.Label.{Label, labelLess, sameLabel, isIn, distinct}
-use Rattle.trees.proofs.Bools.{bool-cases, clash}
+use Rattle.trees.proofs.Bools.{clash}
 use Rattle.trees.proofs.LabelLaws.{same-refl, eq-same, ne-same, same-ne, same-cases}
 use Rattle.trees.proofs.ListLaws.{distinct-head, distinct-tail, at-in}
 use Rattle.agreement.specs.Sets.{increasing, keep, setOf}
@@ -30,7 +30,7 @@ sum-small zero C X = omega arith
 sum-small (suc n) [] X = omega (arith, power-some n)
 sum-small (suc n) (c ∷ C) X = go (X c) (sum-small n C X)
   where
-    go : (b : Bool) → sumIn n C X < power n → cond b (power n) 0 + sumIn n C X < power n + power n
+    go : (b : Bool) → sumIn n C X < power n → cond b (power n) 0 + sumIn n C X < power (suc n)
     go true h = omega arith
     go false h = omega (arith, power-some n)
 

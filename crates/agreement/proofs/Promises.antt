@@ -1,32 +1,39 @@
 -- What the definitions of this crate promise, in the scope paper's order; each theorem cites one name. Assumes nothing.
-use Prim.Native.Nat.{ℕ, _/_, _%_, _≤_}
+use Prim.Native.Nat.{ℕ, _/_, _%_, _≤_, _<_}
 use mathlib.Core.Path.{_≡_}
-use mathlib.Core.Bool.{Bool, true, false, _&&_}
+use mathlib.Core.Bool.{Bool, true, false}
 use mathlib.Core.Logic.{_↔_}
 use mathlib.Core.Option.{some}
-use mathlib.Core.List.{List, map}
-use lib.ListN.{length}
-use Rattle.trees.specs.Label.{Label, distinct}
-use Rattle.trees.specs.Tree.{Tree, leaves, leafLimit, Valid}
-use Rattle.agreement.specs.Closer.{holds, closer, Agree, Common}
+use mathlib.Core.List.{List, [], map}
+use lib.ListN.{length, getD}
+use Rattle.trees.specs.Label.{Label, distinct, isIn}
+use Rattle.trees.specs.Tree.{Tree, leaves, leafLimit, Valid, Proper, normal}
+use Rattle.trees.specs.Text.{textOf, normalText}
+use Rattle.trees.specs.Words.{Within}
+use Rattle.trees.specs.Reading.{good}
+use Rattle.newick.specs.ReadTree.{readTree}
+use Rattle.lists.specs.ReadList.{joined}
+use Rattle.agreement.specs.Closer.{holds, closer, OneOf, Agree, Common}
 use Rattle.agreement.specs.Restrict.{restrict}
 use Rattle.agreement.specs.SameKept.{SameKept}
-use Rattle.agreement.specs.Places.{keptText}
+use Rattle.agreement.specs.Places.{placeIn, placeOfNumber, placeOfLabel, keptText}
 use Rattle.agreement.specs.Sets.{increasing, sorted, common, setOf}
-use Rattle.agreement.specs.Weights.{weightIn, forcing, forcedUnit, best}
+use Rattle.agreement.specs.Weights.{forcedUnit, best}
 use Rattle.agreement.specs.Answer.{Answer, firstLacks, secondLacks, disagree, largest, agreeOn, largestSet, answer}
 use Rattle.agreement.specs.Demand.{IsAnswer, Clash, IsDisagreement, IsFirstLacks, IsSecondLacks}
 use Rattle.agreement.specs.Outcome.{Outcome}
 use Rattle.agreement.specs.Greatest.{Greatest}
 use Rattle.agreement.specs.Powers.{whole, decode, telling}
 use Rattle.agreement.specs.Starred.{Row, answered, rows}
+use Rattle.agreement.specs.OwnCases.{ownRows}
 use Rattle.agreement.proofs.AnswerLaws
 use Rattle.agreement.proofs.DemandLaws
 use Rattle.agreement.proofs.Tells
-use Rattle.agreement.proofs.CloserOnce.{OneOf, closer-once}
+use Rattle.agreement.proofs.CloserOnce.{closer-once}
 use Rattle.agreement.proofs.AgreeRestrict.{agree-iff-same}
-use Rattle.agreement.proofs.RestrictText.{one-text}
-use Rattle.agreement.proofs.Recurrence.{Reach, best-bound, best-reached}
+use Rattle.agreement.proofs.RestrictText.{kept-none, kept-some, kept-read, one-text}
+use Rattle.agreement.proofs.Recurrence.{best-greatest}
+use Rattle.agreement.proofs.PlaceLaws.{tree-shown, list-shown, number-shown}
 use Rattle.agreement.proofs.Table
 
 -- "Of three different leaves in a binary tree, exactly one pair has its least common ancestor below that of all three"
@@ -40,20 +47,27 @@ pub restriction-decides : (s t : Tree) (X : Label → Bool) → distinct (leaves
     → Agree s t X ↔ SameKept (restrict X s) (restrict X t)
 restriction-decides = agree-iff-same
 
+-- the text of a restriction: "The empty set of leaves has a text of no bytes"; any other the normal text of what is left, which reads
+-- as the normal tree
+pub empty-text : (X : Label → Bool) (t : Tree) → ((x : Label) → holds t x ≡ true → X x ≡ false) → keptText (restrict X t) ≡ []
+empty-text = kept-none
+
+pub restriction-text : (X : Label → Bool) (t r : Tree) → restrict X t ≡ some r → keptText (restrict X t) ≡ normalText r
+restriction-text = kept-some
+
+pub restriction-read : (X : Label → Bool) (t r : Tree) → Valid t → restrict X t ≡ some r → readTree (keptText (restrict X t)) ≡ good (normal r)
+restriction-read = kept-read
+
 -- "the normal text of the common restriction": the same bytes, whichever tree is restricted
-pub common-restriction : (s t : Tree) (X : Label → Bool) → Valid s → Valid t → Common s t X → Agree s t X
-    → keptText (restrict X s) ≡ keptText (restrict X t)
+pub common-restriction : (s t : Tree) (X : Label → Bool) → distinct (leaves s) ≡ true → distinct (leaves t) ≡ true → Common s t X
+    → Agree s t X → keptText (restrict X s) ≡ keptText (restrict X t)
 common-restriction = one-text
 
 -- source paper 001, Lemma 3.1, with weights: no agreed set weighs more than the recurrence says, and
 -- one weighs as much
-pub recurrence-bound : (w : Label → ℕ) (s t : Tree) (X : Label → Bool) → distinct (leaves s) ≡ true → distinct (leaves t) ≡ true
-    → Common s t X → Agree s t X → weightIn w s X ≤ best w s t
-recurrence-bound = best-bound
-
-pub recurrence-reached : (w : Label → ℕ) (s t : Tree) → distinct (leaves s) ≡ true → distinct (leaves t) ≡ true
-    → Reach w s t (best w s t)
-recurrence-reached = best-reached
+pub recurrence-promise : (w : Label → ℕ) (s t : Tree) → distinct (leaves s) ≡ true → distinct (leaves t) ≡ true
+    → Greatest w s t (best w s t)
+recurrence-promise = best-greatest
 
 -- "Trees agree on a set of leaves common to both exactly if each three of the set have the same closer pair in both"
 pub agreement-test : (s t : Tree) (X : List Label) → increasing X ≡ true → (agreeOn s t X ≡ true) ↔ Agree s t (setOf X)
@@ -63,49 +77,64 @@ agreement-test s t X h = AnswerLaws.agreeOn-exactly s t X h
 pub small-sets : (s t : Tree) (X : List Label) → length X ≤ 2 → agreeOn s t X ≡ true
 small-sets s t X few = AnswerLaws.small-agree s t X few
 
-module _ (s t : Tree) (K : List Label) (valid : Valid s) (different : distinct K ≡ true) where
+module _ (s t : Tree) (K : List Label) (proper : Proper s) (different : distinct K ≡ true) where
   -- "Largest is meant over all sets of common leaves that contain the required ones and on which the trees agree. Of two sets
   -- as large as each other, the first is the one that holds the smallest label standing in only one of them."
   pub set-promise : (X : List Label) → (answer s t K ≡ largest X) ↔ IsAnswer s t K X
-  set-promise X = DemandLaws.largest-exactly s t K (valid .different) different X
+  set-promise X = DemandLaws.largest-exactly s t K (proper .different) different X
 
   -- 6, "the first tree lacks a required label": "the first label in list order that either tree lacks"
   pub six-promise : (n : ℕ) → (answer s t K ≡ firstLacks n) ↔ IsFirstLacks s t K n
-  six-promise n = DemandLaws.firstLacks-exactly s t K (valid .different) different n
+  six-promise n = DemandLaws.firstLacks-exactly s t K (proper .different) different n
 
   -- 7, "only the second lacks it"
   pub seven-promise : (n : ℕ) → (answer s t K ≡ secondLacks n) ↔ IsSecondLacks s t K n
-  seven-promise n = DemandLaws.secondLacks-exactly s t K (valid .different) different n
+  seven-promise n = DemandLaws.secondLacks-exactly s t K (proper .different) different n
 
   -- 8, "three required leaves have different closer pairs", where nothing before 8 turns the job away
   pub eight-promise : Common s t (setOf K)
       → ((a : Label) × (b : Label) × (c : Label) × Clash s t K a b c)
       ↔ ((a : Label) × (b : Label) × (c : Label) × (answer s t K ≡ disagree a b c))
-  eight-promise held = DemandLaws.eight-exactly s t K (valid .different) different held
+  eight-promise held = DemandLaws.eight-exactly s t K (proper .different) different held
 
   -- "Number 8 names the first such three, sorted, compared label by label."
   pub eight-names : (a b c : Label) → Common s t (setOf K) → (answer s t K ≡ disagree a b c) ↔ IsDisagreement s t K a b c
-  eight-names a b c held = DemandLaws.disagree-exactly s t K (valid .different) different a b c held
+  eight-names a b c held = DemandLaws.disagree-exactly s t K (proper .different) different a b c held
 
   -- "A job that no row turns away is answered with its set."
   pub answered-promise : Common s t (setOf K) → ((a b c : Label) → Clash s t K a b c → ⊥)
       → answer s t K ≡ largest (largestSet s t K)
-  answered-promise held free = DemandLaws.set-answered s t K (valid .different) different held free
+  answered-promise held free = DemandLaws.set-answered s t K (proper .different) different held free
 
   -- "exactly what comes back": whatever meets these sentences is the answer
   pub answer-promise : (A : Answer) → (answer s t K ≡ A) ↔ Outcome s t K A
-  answer-promise A = DemandLaws.answer-exactly s t K (valid .different) different A
+  answer-promise A = DemandLaws.answer-exactly s t K (proper .different) different A
 
   -- "Document 001, Lemma 3.1, gives a recurrence over pairs of nodes. It may be used; it is not the definition.": the greatest weight
   -- of labels that weigh units and powers of two tells the set, or that three required labels clash
   module _ (M : ℕ) (held : Common s t (setOf K)) (great : Greatest (telling leafLimit (sorted K) (common s t)) s t M) where
     pub weight-tells-set : M / whole / forcedUnit ≡ length K → answer s t K ≡ largest (decode leafLimit (common s t) (M % whole))
-    weight-tells-set = Tells.told-set s t K valid different held M great
+    weight-tells-set = Tells.told-set s t K proper different held M great
 
     pub weight-tells-eight : (M / whole / forcedUnit ≡ length K → ⊥)
         → (a : Label) × (b : Label) × (c : Label) × (answer s t K ≡ disagree a b c)
-    weight-tells-eight = Tells.told-eight s t K valid different held M great
+    weight-tells-eight = Tells.told-eight s t K proper different held M great
+
+-- where a label stands: a leaf in its tree's text, a label in the text of a list, by itself ("its three labels") and by its number ("its
+-- first byte in K")
+pub leaf-place : (t : Tree) (x : Label) → holds t x ≡ true → Within (textOf t) (placeIn t 0 x) x
+leaf-place = tree-shown
+
+pub label-place : (xs : List Label) (x : Label) → isIn x xs ≡ true → Within (joined xs) (placeOfLabel xs 0 x) x
+label-place = list-shown
+
+pub number-place : (xs : List Label) (n : ℕ) → n < length xs → Within (joined xs) (placeOfNumber xs n) (getD xs n [])
+number-place = number-shown
 
 -- "The starred cases are shown of the definitions, gathered in one table with one theorem."
 pub starred-promise : map answered rows ≡ map (λ (r : Row). some (r .expected)) rows
 starred-promise = Table.starred-cases
+
+-- further cases of our own, by the same test
+pub own-promise : map answered ownRows ≡ map (λ (r : Row). some (r .expected)) ownRows
+own-promise = Table.own-cases

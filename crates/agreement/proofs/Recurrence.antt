@@ -11,6 +11,7 @@ use Rattle.trees.proofs.Bools.{bool-cases, clash, or-cases, refute}
 use Rattle.trees.proofs.LabelLaws.{same-eq, eq-same}
 use Rattle.agreement.specs.Closer.{holds, closer, Agree, Common}
 use Rattle.agreement.specs.Weights.{weightIn, best}
+use Rattle.agreement.specs.Greatest.{Greatest}
 use Rattle.agreement.proofs.HoldsLaws.{holds-self, holds-leaf, distinct-leaf}
 use Rattle.agreement.proofs.KeepLaws.{only, weight-cong, weight-none, weight-only, weight-mono}
 use Rattle.agreement.proofs.Children.{Children, flip, closer-apart}
@@ -91,13 +92,13 @@ bounded w X =
     (λ p q y ds i j. bound-at-leaf w X (node p q) y ds)
     (λ p q c d k l pt qt sc sd pc qd pd qc f. rw (best-node w p q c d) (bound-node w X k l pt qt sc sd pc qd pd qc f))
 
-pub best-bound : (w : Label → ℕ) (s t : Tree) (X : Label → Bool) → distinct (leaves s) ≡ true → distinct (leaves t) ≡ true
+best-bound : (w : Label → ℕ) (s t : Tree) (X : Label → Bool) → distinct (leaves s) ≡ true → distinct (leaves t) ≡ true
     → Common s t X → Agree s t X → weightIn w s X ≤ best w s t
 best-bound w s t X ds dt m g = bounded w X s t ds dt (fits s t X m g)
 
 -- a set that reaches the bound
 
-pub record Reach (w : Label → ℕ) (s t : Tree) (n : ℕ) : Type 0 where
+record Reach (w : Label → ℕ) (s t : Tree) (n : ℕ) : Type 0 where
   pub chosen : Label → Bool
   pub commonLeaves : Common s t chosen
   pub agreed : Agree s t chosen
@@ -217,7 +218,19 @@ reach-node w p q c d k l pt qt sc sd pc qd pd qc =
     (reach-max (reach-max (reach-below k pt) (reach-below (flip k) qt))
     (reach-max (reach-max (reach-into l sc) (reach-into (flip l) sd)) (reach-max (reach-pair k l pc qd) (reach-pair k (flip l) pd qc))))
 
-pub best-reached : (w : Label → ℕ) (s t : Tree) → distinct (leaves s) ≡ true → distinct (leaves t) ≡ true → Reach w s t (best w s t)
+best-reached : (w : Label → ℕ) (s t : Tree) → distinct (leaves s) ≡ true → distinct (leaves t) ≡ true → Reach w s t (best w s t)
 best-reached w =
     by-pairs (λ s t. Reach w s t (best w s t)) (λ x y. reach-leaf w x (leaf y)) (λ x c d l i j. reach-leaf w x (node c d))
     (λ p q y ds i j. reach-at-leaf w (node p q) y ds) (reach-node w)
+
+-- together: the recurrence gives the greatest weight
+pub best-greatest : (w : Label → ℕ) (s t : Tree) → distinct (leaves s) ≡ true → distinct (leaves t) ≡ true → Greatest w s t (best w s t)
+best-greatest w s t ds dt =
+    let r : Reach w s t (best w s t) = best-reached w s t ds dt in
+    record {
+      bound = λ X c a. best-bound w s t X ds dt c a;
+      set = r .chosen;
+      commonLeaves = r .commonLeaves;
+      agreed = r .agreed;
+      reached = r .weighs;
+    }

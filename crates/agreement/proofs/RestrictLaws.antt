@@ -85,10 +85,6 @@ held-restrict X t x = held-kept (restrict X t) x ∙ ap (isIn x) (restrict-leave
 held-same : (X : Label → Bool) (t : Tree) (x : Label) → X x ≡ true → heldKept (restrict X t) x ≡ holds t x
 held-same X t x h = held-restrict X t x ∙ (rw h refl)
 
-pub restrict-holds : (X : Label → Bool) (t r : Tree) → restrict X t ≡ some r → (x : Label) → holds r x ≡ (X x && holds t x)
-unfolding heldKept
-restrict-holds X t r e x = ap (λ o. heldKept o x) (sym e) ∙ held-restrict X t x
-
 pub restrict-distinct : (X : Label → Bool) (t r : Tree) → restrict X t ≡ some r → distinct (leaves t) ≡ true → distinct (leaves r) ≡ true
 unfolding keptLeaves
 restrict-distinct X t r e d = ap (λ o. distinct (keptLeaves o)) (sym e) ∙ ap distinct (restrict-leaves X t) ∙ distinct-keep X (leaves t) d

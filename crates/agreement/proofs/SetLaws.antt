@@ -280,16 +280,6 @@ keep-few X (y ∷ ys) = go (X y) (keep-few X ys)
     go true h = omega arith
     go false h = omega arith
 
-pub keep-whole : (X : Label → Bool) (ys : List Label) → length ys ≤ length (keep X ys) → keep X ys ≡ ys
-unfolding keep
-keep-whole X [] h = refl
-keep-whole X (y ∷ ys) h = go (X y) h (keep-whole X ys)
-  where
-    go : (b : Bool) → length (y ∷ ys) ≤ length (cond b (y ∷ keep X ys) (keep X ys)) → (length ys ≤ length (keep X ys) → keep X ys ≡ ys)
-        → cond b (y ∷ keep X ys) (keep X ys) ≡ y ∷ ys
-    go true k ih = ap (_∷_ y) (ih (omega arith))
-    go false k ih = absurd (omega (arith, keep-few X ys))
-
 -- the labels of a list in label order, counted among others
 pub count-held : (Y L : List Label) → increasing Y ≡ true → distinct L ≡ true → Within Y L → length (keep (setOf Y) L) ≡ length Y
 count-held Y L h d f =

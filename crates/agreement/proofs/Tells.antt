@@ -3,13 +3,13 @@
 use Prim.Native.Nat.{ℕ, _+_, _*_, _/_, _%_, _≤_, _<_}
 use mathlib.Core.Path.{_≡_, refl, sym, _∙_, ap, subst}
 use mathlib.Core.Bool.{Bool, true, false}
-use mathlib.Core.Logic.{_⊎_, inl, inr, ⊎-elim}
+use mathlib.Core.Logic.{_⊎_, inl, inr}
 use mathlib.Core.Option.{Option, some, none}
 use mathlib.Core.List.{List}
 use native.Mathlib.Omega.{arith}
 use lib.ListN.{length}
 use Rattle.trees.specs.Label.{Label, labelLess, isIn, distinct}
-use Rattle.trees.specs.Tree.{Tree, leaves, leafLimit, Valid}
+use Rattle.trees.specs.Tree.{Tree, leaves, leafLimit, Proper}
 use Rattle.trees.proofs.Bools.{bool-cases, clash, refute}
 use Rattle.agreement.specs.Closer.{holds, Common, Agree}
 use Rattle.agreement.specs.Sets.{increasing, keep, sorted, common, setOf, First}
@@ -18,7 +18,7 @@ use Rattle.agreement.specs.Powers.{power, whole, sumIn, decode, telling}
 use Rattle.agreement.specs.Answer.{Three, firstClash, disagree, largest, answer}
 use Rattle.agreement.specs.Demand.{Allowed, IsAnswer, Clash}
 use Rattle.agreement.specs.Greatest.{Greatest}
-use Rattle.agreement.proofs.SetLaws.{Within, in-keep, keep-in, keep-inc, set-keep, keep-set, common-inc, in-common, common-in}
+use Rattle.agreement.proofs.SetLaws.{Within, in-keep, keep-in, set-keep, keep-set, common-inc, in-common, common-in}
 use Rattle.agreement.proofs.SetLaws.{length-sorted, sorted-inc, keep-few}
 use Rattle.agreement.proofs.KeepLaws.{distinct-keep, keep-cong}
 use Rattle.agreement.proofs.AnswerLaws.{FirstThree}
@@ -173,14 +173,14 @@ pub full-places : power leafLimit ≡ whole
 unfolding power
 full-places = refl
 
-pub common-few : (s t : Tree) → Valid s → length (common s t) ≤ leafLimit
+pub common-few : (s t : Tree) → Proper s → length (common s t) ≤ leafLimit
 unfolding common
-common-few s t v = omega (arith, length-sorted (keep (holds t) (leaves s)), keep-few (holds t) (leaves s), v .few)
+common-few s t p = omega (arith, length-sorted (keep (holds t) (leaves s)), keep-few (holds t) (leaves s), p .few)
 
-module _ (s t : Tree) (K : List Label) (valid : Valid s) (dk : distinct K ≡ true) (held : Common s t (setOf K)) (M : ℕ)
+module _ (s t : Tree) (K : List Label) (proper : Proper s) (dk : distinct K ≡ true) (held : Common s t (setOf K)) (M : ℕ)
     (great : Greatest (telling leafLimit (sorted K) (common s t)) s t M) where
   pub told-set : M / whole / forcedUnit ≡ length K → answer s t K ≡ largest (decode leafLimit (common s t) (M % whole))
-  told-set = tells-set leafLimit full-places s t (valid .different) (common-few s t valid) K (valid .few) dk held M great
+  told-set = tells-set leafLimit full-places s t (proper .different) (common-few s t proper) K (proper .few) dk held M great
 
   pub told-eight : (M / whole / forcedUnit ≡ length K → ⊥) → (a : Label) × (b : Label) × (c : Label) × (answer s t K ≡ disagree a b c)
-  told-eight = tells-eight leafLimit full-places s t (valid .different) (common-few s t valid) K (valid .few) dk held M great
+  told-eight = tells-eight leafLimit full-places s t (proper .different) (common-few s t proper) K (proper .few) dk held M great

@@ -1,6 +1,7 @@
 -- Least common ancestor, closer pair and agreement. Scope paper, "Agreement"; source paper 003, section 2.
 use mathlib.Core.Path.{_≡_}
-use mathlib.Core.Bool.{Bool, true, cond, not, _&&_}
+use mathlib.Core.Bool.{Bool, true, false, cond, not, _&&_}
+use mathlib.Core.Logic.{_⊎_}
 use Rattle.trees.specs.Label.{Label, isIn}
 use Rattle.trees.specs.Tree.{Tree, leaf, node, leaves}
 
@@ -21,6 +22,12 @@ lca (node p q) a b =
 unfoldable pub closer : Tree → Label → Label → Label → Bool
 unfolding lca holds
 closer t a b c = not (holds (lca t a b) c)
+
+-- exactly one of three tests: "exactly one pair has its least common ancestor below that of all three"
+abbrev pub OneOf : Bool → Bool → Bool → Type 0
+OneOf x y z =
+    ((x ≡ true) × (y ≡ false) × (z ≡ false))
+    ⊎ (((x ≡ false) × (y ≡ true) × (z ≡ false)) ⊎ ((x ≡ false) × (y ≡ false) × (z ≡ true)))
 
 -- "Trees agree on a set of leaves common to both exactly if each three of the set have the same closer pair in both"
 abbrev pub Agree : Tree → Tree → (Label → Bool) → Type 0

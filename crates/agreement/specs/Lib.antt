@@ -10,3 +10,4 @@ pub mod Outcome
 pub mod Greatest
 pub mod Powers
 pub mod Starred
+pub mod OwnCases

@@ -1,1 +1,1 @@
-// The definitions of agreement and of the answer, in specs/, and the theory of them, in proofs/. No function yet.
+// What agreement and the answer are: the definitions in specs/, the theory of them in proofs/. No function.

@@ -21,7 +21,7 @@ use Rattle.job.specs.Printed.{jobLimit, treeRoom, solveBodies, solveJob,
 use Rattle.job.specs.Answered.{labelIn, namedLine, partOfLabel, answered, answerTo}
 use Rattle.contents.proofs.ContentsLaws.{list-stands}
 use Rattle.job.proofs.RecordLaws.{record-no-clash}
-use Rattle.mast.proofs.ShownLaws.{within-part}
+use Rattle.agreement.proofs.PlaceLaws.{within-part}
 use Rattle.job.proofs.ShownLaws.{shown-label, good-short}
 use Rattle.job.proofs.SolvedLaws.{ClashedBy, From, solution-from, eight, label-listed}
 

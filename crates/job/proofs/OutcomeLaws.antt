@@ -14,6 +14,7 @@ use Rattle.trees.specs.Label.{Label}
 use Rattle.trees.specs.Tree.{Tree}
 use Rattle.trees.specs.Reading.{Reading, good, refused}
 use Rattle.trees.proofs.Bools.{bool-cases}
+use Rattle.trees.proofs.TreeLaws.{valid-proper}
 use Rattle.newick.specs.ReadTree.{readTree}
 use Rattle.newick.proofs.Promises as newick
 use Rattle.lists.specs.ReadList.{readList}
@@ -81,7 +82,7 @@ module _ (job : List ℕ) (b : Bodies) (held : Holds job b) where
               }
 
           told : (A : Answer) → answer s t xs ≡ A → Outcome s t xs A
-          told A e = agreement.answer-promise s t xs (asks .first .valid) (asks .required .different) A .0 e
+          told A e = agreement.answer-promise s t xs (valid-proper s (asks .first .valid)) (asks .required .different) A .0 e
 
           answers : (A : Answer) → answer s t xs ≡ A → JobOutcome job (solutionOf s xs treeRoom A)
           answers (firstLacks n) e = first-lacks s t xs asks n (told (firstLacks n) e)

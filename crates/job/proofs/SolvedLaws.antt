@@ -26,7 +26,8 @@ use Rattle.agreement.proofs.Promises.{set-promise, answer-promise}
 use Rattle.agreement.proofs.SetLaws.{within-few}
 use Rattle.mast.specs.Largest.{Solution, solved, clashed, turned, fitted, solutionOf, solveList, solveSecond, solveFirst, task, solve}
 use Rattle.trees.specs.Words.{Within}
-use Rattle.mast.proofs.ShownLaws.{tree-shown, Listed, list-listed}
+use Rattle.trees.proofs.TreeLaws.{valid-proper}
+use Rattle.agreement.proofs.PlaceLaws.{tree-shown, Listed, list-listed}
 use Rattle.job.proofs.ShownLaws.{good-in, good-short}
 
 pub record SolvedBy (first list : List ℕ) (room : ℕ) (s : Tree) (X : List Label) (text : List ℕ) : Type 0 where
@@ -80,7 +81,7 @@ module _ (first list : List ℕ) (room : ℕ) (s : Tree) (X : List Label) (text 
 
   set-answer : IsAnswer s (b .other) (b .required) X
   set-answer =
-      set-promise s (b .other) (b .required) set-valid (accepted-list list (b .required) (b .listed) .2) X .0 (b .is)
+      set-promise s (b .other) (b .required) (valid-proper s set-valid) (accepted-list list (b .required) (b .listed) .2) X .0 (b .is)
 
   in-tree : (x : Label) → isIn x X ≡ true → holds s x ≡ true
   in-tree x h = set-answer .allowedSet .commonLeaves x h .0
@@ -110,7 +111,7 @@ module _ (first list : List ℕ) (xs : List Label) (a b c : Label) (w : ClashedB
   pub eight : (isIn a xs ≡ true) × (isIn b xs ≡ true) × (isIn c xs ≡ true)
   eight =
       let o =
-      answer-promise (w .one) (w .other) xs (accepted-text first (w .one) (w .read) .1) (accepted-list list xs (w .listed) .2)
+      answer-promise (w .one) (w .other) xs (valid-proper (w .one) (accepted-text first (w .one) (w .read) .1)) (accepted-list list xs (w .listed) .2)
       (disagree a b c) .0 (w .is) in
       (o .1 .clash .inOne, o .1 .clash .inTwo, o .1 .clash .inThree)
 

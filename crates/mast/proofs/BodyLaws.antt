@@ -18,6 +18,7 @@ use Rattle.trees.specs.Arrays.{arraysOf, nodeLimit}
 use Rattle.trees.specs.Reading.{Reading, good, refused}
 use Rattle.trees.proofs.Bools.{clash, refute}
 use Rattle.trees.proofs.ArrayLaws.{few-nodes}
+use Rattle.trees.proofs.TreeLaws.{valid-proper}
 use Rattle.newick.specs.declared.TreeAnswer.the-variants.{Leaves, Refused as TreeRefused}
 use Rattle.newick.specs.declared.TreeRead.{TreeRead}
 use Rattle.newick.specs.ReadTree.{readTree, treeRead}
@@ -254,12 +255,12 @@ module _ (s t : Tree) (xs : List Label) (first list : List ℕ) (tree1 : TreeArr
   unfolding solutionOf
   lack-answered false room e =
       lack-told FirstLacks (firstLacks n) room
-      (six-promise s t xs (h .own .valid) (h .own-list .different) n .1
+      (six-promise s t xs (valid-proper s (h .own .valid)) (h .own-list .different) n .1
       (record { found = record { inList = h .below; earlier = both }; lacked = sym e }))
       refl
   lack-answered true room e =
       lack-told SecondLacks (secondLacks n) room
-      (seven-promise s t xs (h .own .valid) (h .own-list .different) n .1
+      (seven-promise s t xs (valid-proper s (h .own .valid)) (h .own-list .different) n .1
       (record { found = record { inList = h .below; earlier = both }; held = sym e; lacked = lacked′ }))
       refl
     where
@@ -272,10 +273,10 @@ module _ (s t : Tree) (xs : List Label) (first list : List ℕ) (tree1 : TreeArr
     where
       go : (b : Bool) → holds s x ≡ b → out ≡ outputOf (solutionOf s xs room (answer s t xs)) out
       go false e =
-          rw (six-promise s t xs (h .own .valid) (h .own-list .different) n .1
+          rw (six-promise s t xs (valid-proper s (h .own .valid)) (h .own-list .different) n .1
           (record { found = record { inList = h .below; earlier = both }; lacked = e })) refl
       go true e =
-          rw (seven-promise s t xs (h .own .valid) (h .own-list .different) n .1
+          rw (seven-promise s t xs (valid-proper s (h .own .valid)) (h .own-list .different) n .1
           (record {
             found = record { inList = h .below; earlier = both };
             held = e;

@@ -10,6 +10,7 @@ use Rattle.trees.specs.declared.TreeArrays.{TreeArrays}
 use Rattle.trees.specs.Label.{Label, isIn, distinct}
 use Rattle.trees.specs.Tree.{Tree, leaves}
 use Rattle.trees.specs.Arrays.{arraysOf}
+use Rattle.trees.proofs.TreeLaws.{valid-proper}
 use Rattle.lists.specs.declared.LabelPlaces.{LabelPlaces}
 use Rattle.lists.specs.ReadList.{placesOf}
 use Rattle.agreement.specs.Sets.{increasing, sorted, common}
@@ -100,7 +101,7 @@ module _ (s t : Tree) (K : List Label) (a b c : Label) (tree1 tree2 : TreeArrays
           rw (z, h .list-places) (place-of K n (h .asked .different) l ∙ ap (placeOfLabel K 0) e)
 
   named : IsDisagreement s t K a b c
-  named = eight-names s t K (h .asked .one .valid) (h .asked .different) a b c (h .asked .held) .0 (h .clash)
+  named = eight-names s t K (valid-proper s (h .asked .one .valid)) (h .asked .different) a b c (h .asked .held) .0 (h .clash)
 
   module _ (leaf1 leaf2 : List ℕ) (three : Ranks.Three)
       (at1 : (i : ℕ) → i < places .count → getD leaf1 i 0 ≡ getD order1 (getD ranks i 0) 0)

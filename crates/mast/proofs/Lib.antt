@@ -9,7 +9,7 @@ pub mod RankLaws
 pub mod RecurrenceLaws
 pub mod RequiredLaws
 pub mod RowLaws
-pub mod ShownLaws
+pub mod SaidLaws
 pub mod SideLaws
 pub mod SolutionLaws
 pub mod SolveLaws

@@ -20,6 +20,7 @@ use Rattle.agreement.specs.Places.{keptText}
 use Rattle.agreement.specs.Answer.{Answer, firstLacks, secondLacks, disagree, largest, answer}
 use Rattle.mast.specs.Largest.{Solution, solved, clashed, turned, solutionOf, fitted, task, solve}
 use Rattle.trees.specs.declared.Reason.{Reason}
+use Rattle.trees.proofs.TreeLaws.{valid-proper}
 use Rattle.newick.proofs.Accepts.{accepts}
 use Rattle.lists.proofs.Accepts.{list-accepts}
 use Rattle.agreement.specs.Closer.{Common}
@@ -110,7 +111,7 @@ module _ (first second list : List ℕ) (room : ℕ) (s t : Tree) (xs : List Lab
 
   pub outcome-decides : (A : Answer) → Outcome s t xs A → solve (task first second list) room ≡ solutionOf s xs room A
   outcome-decides A h =
-      solve-reads first second list room s t xs reads ∙ ap (solutionOf s xs room) (agreement.answer-promise s t xs valid different A .1 h)
+      solve-reads first second list room s t xs reads ∙ ap (solutionOf s xs room) (agreement.answer-promise s t xs (valid-proper s valid) different A .1 h)
 
   pub eight-exactly : Common s t (setOf xs)
       → ((a : Label) × (b : Label) × (c : Label) × Clash s t xs a b c)
@@ -118,10 +119,10 @@ module _ (first second list : List ℕ) (room : ℕ) (s t : Tree) (xs : List Lab
   unfolding solutionOf
   eight-exactly held = (
     λ k.
-        let e = agreement.eight-promise s t xs valid different held .0 k in
+        let e = agreement.eight-promise s t xs (valid-proper s valid) different held .0 k in
         (e .0, e .1, e .2, solve-reads first second list room s t xs reads ∙ ap (solutionOf s xs room) (e .3)),
     λ k.
-        agreement.eight-promise s t xs valid different held .1
+        agreement.eight-promise s t xs (valid-proper s valid) different held .1
         (k .0, k .1, k .2, clashed-only (k .0) (k .1) (k .2) belonging (k .3)),
   )
 
@@ -130,17 +131,17 @@ module _ (first second list : List ℕ) (room : ℕ) (s t : Tree) (xs : List Lab
   set-exactly X text = (
     λ e.
         let k = solved-only X text belonging e in
-        let a = agreement.set-promise s t xs valid different X .0 (k .0) in
+        let a = agreement.set-promise s t xs (valid-proper s valid) different X .0 (k .0) in
         record {
           isAnswer = a;
           first-text = k .1;
           second-text =
-              k .1 ∙ one-text s t (setOf X) valid (accepts second t (reads .second-is) .1) (a .allowedSet .commonLeaves) (a .allowedSet .agreed);
+              k .1 ∙ one-text s t (setOf X) (valid .different) (accepts second t (reads .second-is) .1 .different) (a .allowedSet .commonLeaves) (a .allowedSet .agreed);
           fit = k .2;
         },
     λ g.
         solve-reads first second list room s t xs reads
-        ∙ ap (solutionOf s xs room) (agreement.set-promise s t xs valid different X .1 (g .isAnswer))
+        ∙ ap (solutionOf s xs room) (agreement.set-promise s t xs (valid-proper s valid) different X .1 (g .isAnswer))
         ∙ (rw (← g .first-text, le-leb (length text) room (g .fit)) refl),
   )
 
@@ -150,9 +151,9 @@ module _ (first second list : List ℕ) (room : ℕ) (s t : Tree) (xs : List Lab
   nine-exactly = (
     λ e.
         let k = short-only belonging e in
-        (k .0, agreement.set-promise s t xs valid different (k .0) .0 (k .1), k .2),
+        (k .0, agreement.set-promise s t xs (valid-proper s valid) different (k .0) .0 (k .1), k .2),
     λ k.
         solve-reads first second list room s t xs reads
-        ∙ ap (solutionOf s xs room) (agreement.set-promise s t xs valid different (k .0) .1 (k .1))
+        ∙ ap (solutionOf s xs room) (agreement.set-promise s t xs (valid-proper s valid) different (k .0) .1 (k .1))
         ∙ (rw (lt-leb (length (keptText (restrict (setOf (k .0)) s))) room (k .2)) refl),
   )

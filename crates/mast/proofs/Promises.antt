@@ -28,7 +28,8 @@ use Rattle.mast.specs.declared.LargestAnswer.the-variants.{Found}
 use Rattle.mast.specs.Rows.{saidOfLargest, saidOfSolution}
 use Rattle.trees.specs.Text.{textOf}
 use Rattle.trees.specs.Words.{Within}
-use Rattle.mast.proofs.ShownLaws.{tree-shown, list-shown, number-shown, said-exactly}
+use Rattle.agreement.proofs.PlaceLaws.{tree-shown, list-shown, number-shown}
+use Rattle.mast.proofs.SaidLaws.{said-exactly}
 
 -- "Order: .. S, T, K": "A body that fails to read ends the job there"
 module _ (first second list : List ℕ) (room : ℕ) (r : Reason) (i : ℕ) where

@@ -10,13 +10,14 @@ use lib.Dec.{eqb, ltb}
 use lib.ListN.{length, getD, replicate, length-append, getD-replicate}
 use borrow.Author.Tests.{eq-eqb, ne-eqb, eqb-true, eqb-false, ltb-true, ltb-false}
 use Rattle.trees.specs.Label.{Label, sameLabel, isIn, distinct}
-use Rattle.trees.specs.Tree.{Tree, leaf, node, leaves, leafLimit, Valid}
+use Rattle.trees.specs.Tree.{Tree, leaf, node, leaves, leafLimit, Proper}
 use Rattle.trees.specs.Arrays.{nodesOf}
 use Rattle.trees.specs.Postorder.{postorder, subtree}
 use Rattle.trees.proofs.Bools.{bool-cases, clash}
 use Rattle.trees.proofs.LabelLaws.{same-cases, same-ne, eq-same}
 use Rattle.trees.proofs.ArrayLaws.{nodes-pos}
 use Rattle.trees.proofs.PostorderLaws.{root-last, subtree-few, subtree-in, holds-leaf}
+use Rattle.trees.proofs.TreeLaws.{valid-proper}
 use Rattle.agreement.specs.Closer.{holds, Common}
 use Rattle.agreement.specs.Sets.{common, sorted, setOf}
 use Rattle.agreement.specs.Weights.{best, forcing, forcedUnit}
@@ -26,7 +27,7 @@ use Rattle.agreement.specs.Answer.{answer, largest, disagree}
 use Rattle.agreement.proofs.SetLaws.{in-sorted, common-inc, common-in}
 use Rattle.agreement.proofs.PowerLaws.{sum-small, power-rank}
 use Rattle.agreement.proofs.Tells.{full-places, common-few, told-set, told-eight}
-use Rattle.agreement.proofs.Recurrence.{Reach, best-bound, best-reached}
+use Rattle.agreement.proofs.Recurrence.{best-greatest}
 use Rattle.triples.proofs.Ranks.{Numbered as HasRank, number-of}
 use Rattle.mast.specs.Table.{valueAt, columnAt, nodesAt, weightPlace, joinNeed, need, RankIs, Filling}
 use Rattle.mast.specs.Weighing.{unitOf, WeightsPut, Powers, bitsOf, Bits}
@@ -77,7 +78,7 @@ few-rows t few = go (bool-cases (ltb 6 (need t)))
 
 -- the weights by rank
 
-module _ (s t : Tree) (K : List Label) (valid : Valid s) where
+module _ (s t : Tree) (K : List Label) (proper : Proper s) where
   abbrev C : List Label
   C = common s t
 
@@ -100,7 +101,7 @@ module _ (s t : Tree) (K : List Label) (valid : Valid s) where
   unfolding telling
   weight-rank number marked r h =
       let e : 79 - r ≡ leafLimit - 1 - r = omega arith in
-      rw (unit-marked number marked r h, e, power-rank leafLimit C r (common-inc s t (valid .different)) (common-few s t valid) h) refl
+      rw (unit-marked number marked r h, e, power-rank leafLimit C r (common-inc s t (proper .different)) (common-few s t proper) h) refl
 
   pub telling-light : (x : Label) → w x ≤ 129 * whole
   unfolding telling forcing
@@ -150,7 +151,7 @@ module _ (s t : Tree) (K : List Label) (valid : Valid s) where
               n (sym (c .is) ∙ ap (λ (k : ℕ). getD C k []) (sym i ∙ sym e ∙ j) ∙ d .is)
           second-one e c (inr k) =
               let i = one .held u (c .at) hu (c .below) (p ∙ ap leaf (sym (c .is))) in
-              omega (arith, i, e, two .other v y hv q k, c .below, common-few s t valid)
+              omega (arith, i, e, two .other v y hv q k, c .below, common-few s t proper)
 
           go : (eqb b a ≡ true) ⊎ (eqb b a ≡ false) → (isIn x C ≡ true) ⊎ (isIn x C ≡ false) → cond (eqb b a) (f a) 0 ≡ 0
           go (inl e) (inl k) = absurd (second-one (eqb-true b a e) (number-of C x k) (bool-cases (isIn y C)))
@@ -164,42 +165,29 @@ module _ (s t : Tree) (K : List Label) (valid : Valid s) where
           go (inl e) = rw (eq-same x y e) (ranks-same e)
           go (inr n) = rw n (ranks-apart (same-ne x y n))
 
--- the recurrence gives the greatest weight
-greatest-is : (w : Label → ℕ) (s t : Tree) → distinct (leaves s) ≡ true → distinct (leaves t) ≡ true → Greatest w s t (best w s t)
-greatest-is w s t ds dt = go (best-reached w s t ds dt)
-  where
-    go : Reach w s t (best w s t) → Greatest w s t (best w s t)
-    go r = record {
-      bound = λ X c a. best-bound w s t X ds dt c a;
-      set = r .chosen;
-      commonLeaves = r .commonLeaves;
-      agreed = r .agreed;
-      reached = r .weighs;
-    }
-
 module _ (s t : Tree) (first second : List ℕ) (m : ℕ) (job : Job s t first second m) (K : List Label) (dk : distinct K ≡ true)
     (all-held : Common s t (setOf K)) (number high low high1 low1 high2 low2 : List ℕ) (marked : Marked (common s t) K number)
     (sh : length high ≡ 1431) (sl : length low ≡ 1431) (zero-high : valueAt high low (weightPlace 80) ≡ 0)
     (put : WeightsPut m number high low high1 low1) (top : ℕ) (top-is : TopIs first second top high1 low1 high2 low2) where
-  valid1 : Valid s
-  valid1 = job .one .valid
+  proper1 : Proper s
+  proper1 = valid-proper s (job .one .valid)
 
   weighs : (r : ℕ) → r < length (common s t) → valueAt high1 low1 (weightPlace r) ≡ telling leafLimit (sorted K) (common s t) (getD (common s t) r [])
-  weighs r h = put .each sh sl r (omega (arith, job .count)) ∙ weight-rank s t K valid1 number marked r h
+  weighs r h = put .each sh sl r (omega (arith, job .count)) ∙ weight-rank s t K proper1 number marked r h
 
   nothing : valueAt high1 low1 (weightPlace 80) ≡ 0
-  nothing = put .others (weightPlace 80) (inr (omega (arith, job .count, common-few s t valid1))) ∙ zero-high
+  nothing = put .others (weightPlace 80) (inr (omega (arith, job .count, common-few s t proper1))) ∙ zero-high
 
   filling : Filling first second (postorder s) (postorder t) (telling leafLimit (sorted K) (common s t)) high1 low1
   filling = record {
     one = job .one .columns-are;
     two = job .two .columns-are;
     needs = job .one .needs;
-    few = λ u h. subtree-few leafLimit s (valid1 .few) u (rw (job .one .nodes-is) at h);
-    light = telling-light s t K valid1;
+    few = λ u h. subtree-few leafLimit s (proper1 .few) u (rw (job .one .nodes-is) at h);
+    light = telling-light s t K proper1;
     ranks = λ u h x p. record {
       is = λ v hv y q.
-          ranks-right s t K valid1 first second (job .one) (job .two) (λ r. valueAt high1 low1 (weightPlace r)) weighs nothing u v
+          ranks-right s t K proper1 first second (job .one) (job .two) (λ r. valueAt high1 low1 (weightPlace r)) weighs nothing u v
           (rw (job .one .nodes-is) at h) (rw (job .two .nodes-is) at hv) x y p q;
     };
   }
@@ -214,28 +202,28 @@ module _ (s t : Tree) (first second : List ℕ) (m : ℕ) (job : Job s t first s
       × ((r : ℕ) → r < 159 → valueAt high2 low2 (weightPlace r) ≡ valueAt high1 low1 (weightPlace r))
   told =
       top-is .greatest (postorder s) (postorder t) (telling leafLimit (sorted K) (common s t)) (put .sized .high-size sh) (put .sized .low-size sl)
-      filling (rw root1 (few-rows s (valid1 .few)))
+      filling (rw root1 (few-rows s (proper1 .few)))
 
   great : Greatest (telling leafLimit (sorted K) (common s t)) s t top
   great =
       rw (told .0, root1, root2)
-      (greatest-is (telling leafLimit (sorted K) (common s t)) s t (valid1 .different) (job .two .valid .different))
+      (best-greatest (telling leafLimit (sorted K) (common s t)) s t (proper1 .different) (job .two .valid .different))
 
   -- the powers are still there
   pub powers-kept : Powers m high2 low2
   powers-kept r h =
       omega (
         arith,
-        told .1 r (omega (arith, job .count, common-few s t valid1)),
+        told .1 r (omega (arith, job .count, common-few s t proper1)),
         put .each sh sl r h,
-        power-less r (omega (arith, job .count, common-few s t valid1)),
+        power-less r (omega (arith, job .count, common-few s t proper1)),
       )
 
   pub solved-set : (chosen : List Bool) → top / whole / forcedUnit ≡ length K → Bits m (top % whole) chosen → Solved s t K true chosen
   solved-set chosen e bits = record {
     set = λ k.
-        told-set s t K valid1 dk all-held top great e
-        ∙ ap largest (sym (chosen-decoded leafLimit (common s t) (top % whole) chosen 0 (common-few s t valid1) each));
+        told-set s t K proper1 dk all-held top great e
+        ∙ ap largest (sym (chosen-decoded leafLimit (common s t) (top % whole) chosen 0 (common-few s t proper1) each));
     eight = λ k. clash {b = true} refl k;
   }
     where
@@ -247,7 +235,7 @@ module _ (s t : Tree) (first second : List ℕ) (m : ℕ) (job : Job s t first s
   pub solved-eight : (chosen : List Bool) → (top / whole / forcedUnit ≡ length K → ⊥) → Solved s t K false chosen
   solved-eight chosen n = record {
     set = λ k. clash {b = false} k refl;
-    eight = λ k. told-eight s t K valid1 dk all-held top great n;
+    eight = λ k. told-eight s t K proper1 dk all-held top great n;
   }
 
 -- the area at first

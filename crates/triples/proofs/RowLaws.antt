@@ -16,9 +16,9 @@ use Rattle.trees.proofs.LabelLaws.{same-refl, ne-same}
 use Rattle.trees.proofs.ListLaws.{at-in, distinct-head, distinct-tail}
 use Rattle.trees.proofs.ArrayLaws.{few-nodes}
 use Rattle.trees.proofs.PostorderLaws.{subtree-in, holds-leaf}
-use Rattle.agreement.specs.Closer.{holds, closer}
+use Rattle.agreement.specs.Closer.{holds, closer, OneOf}
 use Rattle.agreement.specs.Answer.{differ, clashing}
-use Rattle.agreement.proofs.CloserOnce.{OneOf, closer-once}
+use Rattle.agreement.proofs.CloserOnce.{closer-once}
 use Rattle.leaves.proofs.OwnLaws.{own-laid}
 use Rattle.triples.specs.Clash.{rankOf, RankedTree}
 use Rattle.triples.specs.Loops.{LowAt, lcaNumber, LcaRow, apartOf, clashAt, Tells}

@@ -1,4 +1,4 @@
--- The labels of a tree and of a list stand in the text where their places say, and an answer says its row. Assumes nothing.
+-- The labels of a tree and of a list stand in the text where their places say. Assumes nothing.
 use Prim.Native.Nat.{ℕ, zero, suc, _+_, _<_}
 use mathlib.Core.Path.{_≡_, refl, sym, _∙_, ap, subst}
 use mathlib.Core.Bool.{true, false, cond}
@@ -14,13 +14,11 @@ use Rattle.trees.specs.Words.{Within}
 use Rattle.trees.proofs.Bools.{bool-cases, clash}
 use Rattle.trees.proofs.LabelLaws.{same-eq}
 use Rattle.lists.specs.ReadList.{joined, startsOf}
 use Rattle.agreement.specs.Closer.{holds}
 use Rattle.agreement.specs.Places.{placeIn, placeOfNumber, placeOfLabel}
-use Rattle.mast.specs.Largest.{Solution, solved, clashed, turned, largestOf}
-use Rattle.mast.specs.Rows.{saidOfLargest, saidOfSolution}
 use Rattle.agreement.proofs.HoldsLaws.{holds-leaf, holds-cases}
 
--- ---- the labels of a tree
+-- a part of a text, and of a part of it
 
 -- a part of a part
 inner : (b y a text : List ℕ) (x : Label) (p q : ℕ) → text ≡ b ++ (y ++ a) → q ≡ length b + p → Within y p x → Within text q x
@@ -41,23 +39,22 @@ unfolding placeIn written
 placed (leaf y) x h q =
     let e = holds-leaf y x h in
     (0, omega arith, record { before = []; after = []; is = sym e ∙ sym (append-nil x); place = refl })
-placed (node a b) x h q = go (bool-cases (holds a x)) (placed a x) (placed b x)
+placed (node a b) x h q = go (bool-cases (holds a x)) second (placed a x) (placed b x)
   where
-    go : (holds a x ≡ true) ⊎ (holds a x ≡ false)
+    second : holds a x ≡ false → holds b x ≡ true
+    second k = ⊎-elim (λ (z : holds a x ≡ true). clash z k) (λ (z : holds b x ≡ true). z) (holds-cases a b x h)
+
+    go : (holds a x ≡ true) ⊎ (holds a x ≡ false) → (holds a x ≡ false → holds b x ≡ true)
         → (holds a x ≡ true → (r : ℕ) → (p : ℕ) × (placeIn a r x ≡ r + p) × Within (written a) p x)
         → (holds b x ≡ true → (r : ℕ) → (p : ℕ) × (placeIn b r x ≡ r + p) × Within (written b) p x)
-        → (p : ℕ) × (cond (holds a x) (placeIn a (q + 1) x) (placeIn b (q + 1 + length (written a) + 1) x) ≡ q + p)
-        × Within (40 ∷ (written a ++ (44 ∷ (written b ++ (41 ∷ []))))) p x
-    go (inl k) f g =
+        → (p : ℕ) × (placeIn (node a b) q x ≡ q + p) × Within (written (node a b)) p x
+    go (inl k) hb f g =
         let w = f k (q + 1) in
         (1 + w .0, rw k (omega (arith, w .1)), inner (40 ∷ []) (written a) (44 ∷ (written b ++ (41 ∷ []))) _ x (w .0) (1 + w .0) refl refl (w .2))
-    go (inr k) f g =
-        let e : cond (holds a x) (placeIn a (q + 1) x) (placeIn b (q + 1 + length (written a) + 1) x)
-        ≡ placeIn b (q + 1 + length (written a) + 1) x = rw k refl in
-        let hb = ⊎-elim (λ (z : holds a x ≡ true). clash z k) (λ (z : holds b x ≡ true). z) (holds-cases a b x h) in
-        let w = g hb (q + 1 + length (written a) + 1) in (
+    go (inr k) hb f g =
+        let w = g (hb k) (q + 1 + length (written a) + 1) in (
           1 + length (written a) + 1 + w .0,
-          e ∙ omega (arith, w .1),
+          rw k (omega (arith, w .1)),
           inner (40 ∷ (written a ++ (44 ∷ []))) (written b) (41 ∷ []) _ x (w .0) (1 + length (written a) + 1 + w .0)
               (ap (λ (l : List ℕ). 40 ∷ l) (sym (append-assoc (written a) (44 ∷ []) (written b ++ (41 ∷ [])))))
               (omega (arith, length-append (written a) (44 ∷ [])))
@@ -75,7 +72,7 @@ tree-shown t x h =
 pub within-part : (text : List ℕ) (q : ℕ) (y : List ℕ) (p : ℕ) (x : List ℕ) → Within text q y → Within y p x → Within text (q + p) x
 within-part text q y p x w v = inner (w .before) y (w .after) text x p (q + p) (w .is) (ap (λ (k : ℕ). k + p) (w .place)) v
 
--- ---- the labels of a list
+-- the labels of a list
 
 -- a label of the list, with what ends it
 pub record Listed (text : List ℕ) (p : ℕ) (x : Label) : Type 0 where
@@ -103,7 +100,7 @@ listed-at [] x h q = clash h refl
 listed-at (y ∷ []) x h q = go (bool-cases (sameLabel x y))
   where
     go : (sameLabel x y ≡ true) ⊎ (sameLabel x y ≡ false)
-        → (p : ℕ) × (cond (sameLabel x y) q (placeOfLabel [] (q + length y + 1) x) ≡ q + p) × Listed y p x
+        → (p : ℕ) × (placeOfLabel (y ∷ []) q x ≡ q + p) × Listed (joined (y ∷ [])) p x
     go (inl k) =
         let e = same-eq x y k in (
           0,
@@ -115,7 +112,7 @@ listed-at (y ∷ z ∷ xs) x h q = go (bool-cases (sameLabel x y)) (listed-at (z
   where
     go : (sameLabel x y ≡ true) ⊎ (sameLabel x y ≡ false)
         → (isIn x (z ∷ xs) ≡ true → (r : ℕ) → (p : ℕ) × (placeOfLabel (z ∷ xs) r x ≡ r + p) × Listed (joined (z ∷ xs)) p x)
-        → (p : ℕ) × (cond (sameLabel x y) q (placeOfLabel (z ∷ xs) (q + length y + 1) x) ≡ q + p) × Listed (y ++ (44 ∷ joined (z ∷ xs))) p x
+        → (p : ℕ) × (placeOfLabel (y ∷ z ∷ xs) q x ≡ q + p) × Listed (joined (y ∷ z ∷ xs)) p x
     go (inl k) f =
         let e = same-eq x y k in (
           0,
@@ -142,7 +139,7 @@ list-listed xs x h =
     let e : w .0 ≡ placeOfLabel xs 0 x = omega (arith, w .1) in
     subst (λ (p : ℕ). Listed (joined xs) p x) e (w .2)
 
--- ---- the label with a number
+-- the label with a number
 
 numbered-at : (xs : List Label) (n : ℕ) → n < length xs → (q : ℕ)
     → (p : ℕ) × (getD (startsOf xs q) n 0 ≡ q + p) × Within (joined xs) p (getD xs n [])
@@ -173,11 +170,3 @@ number-shown xs n h =
 
 pub list-shown : (xs : List Label) (x : Label) → isIn x xs ≡ true → Within (joined xs) (placeOfLabel xs 0 x) x
 list-shown xs x h = list-listed xs x h .shown
-
--- ---- the rows
-
-pub said-exactly : (x : Solution) → saidOfLargest (largestOf x .answer) ≡ saidOfSolution x
-unfolding largestOf saidOfLargest saidOfSolution
-said-exactly (solved s X text) = refl
-said-exactly (clashed xs a b c) = refl
-said-exactly (turned q) = refl

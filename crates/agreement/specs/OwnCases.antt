@@ -1,0 +1,29 @@
+-- Cases of our own beside the starred ones: numbers 6 and 7, trees with different leaves, trees and lists out of label order.
+-- Scope paper, "Agreement" and rows 6 to 8 of "Why a job is turned down".
+use mathlib.Core.List.{List, [], _∷_}
+use Rattle.trees.specs.Words.{bytesOf}
+use Rattle.agreement.specs.Answer.{firstLacks, secondLacks, disagree, largest}
+use Rattle.agreement.specs.Starred.{Row, row, P, Q, a, b, c, d, e}
+
+unfoldable pub ownRows : List Row
+ownRows =
+    -- the examples of rows 6 and 7
+    row "a;" "b;" "b" (firstLacks 0)
+    ∷ row "a;" "b;" "a" (secondLacks 0)
+    -- "the first label in list order that either tree lacks"; one that both lack is told by 6
+    ∷ row "((a,b),c);" "((a,c),d);" "c,d,b" (firstLacks 1)
+    ∷ row "((a,b),c);" "((a,c),d);" "a,b,d" (secondLacks 1)
+    ∷ row "(a,b);" "(a,b);" "b,a,c" (firstLacks 2)
+    -- 6 and 7 go before 8
+    ∷ row P Q "a,b,c,x" (firstLacks 3)
+    -- leaf sets that differ: a,b,c are common
+    ∷ row P "((x,c),(y,(a,b)));" "" (largest (a ∷ b ∷ c ∷ []))
+    ∷ row "((x,c),(y,(a,b)));" Q "" (largest (a ∷ b ∷ []))
+    ∷ row "((x,c),(y,(a,b)));" Q "c" (largest (a ∷ c ∷ []))
+    -- trees and list out of label order
+    ∷ row "(e,(d,(c,(b,a))));" Q "" (largest (a ∷ b ∷ d ∷ e ∷ []))
+    ∷ row "(e,(d,(c,(b,a))));" "((d,(b,(c,a))),e);" "e,c,b" (largest (b ∷ c ∷ d ∷ e ∷ []))
+    ∷ row "(e,(d,(c,(b,a))));" Q "c,a,b" (disagree a b c)
+    -- a shorter label before any longer one that begins with it
+    ∷ row "(ab,(b,a));" "((b,ab),a);" "" (largest (a ∷ bytesOf "ab" ∷ []))
+    ∷ []
