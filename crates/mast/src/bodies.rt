@@ -17,8 +17,10 @@ ghost use Rattle.mast.specs.Bodies.{Bodies, Bounded, OrderedBodies};
 use crate::LargestAnswer;
 use crate::LargestResult;
 use crate::columns::gathered;
+use crate::fill::COLUMNS;
 use crate::finish::solution;
 use crate::finish::without_set;
+use crate::ranks::NO_RANK;
 use crate::ranks::common_order;
 use crate::ranks::partners;
 use crate::ranks::rank_leaves;
@@ -27,8 +29,11 @@ use crate::required::entries_at;
 use crate::required::holds_label;
 use crate::required::mark_required;
 use crate::solve::solve_set;
+use crate::weights::RANKS;
 use lists::LabelPlaces;
 use trees::Body;
+use trees::LEAF_LIMIT;
+use trees::NODE_LIMIT;
 use trees::Reason;
 use trees::Refusal;
 use trees::TreeArrays;
@@ -39,8 +44,8 @@ fn order_in(
     tree1: TreeArrays,
     second: &[u8],
     tree2: TreeArrays,
-    order1: &mut [usize; 80],
-    order2: &mut [usize; 80],
+    order1: &mut [usize; LEAF_LIMIT],
+    order2: &mut [usize; LEAF_LIMIT],
     most: usize,
 ) -> usize
     requires { ⌜ (tree1 .nodes ≤ 159) × (most ≤ 80) ⌝ }
@@ -57,14 +62,14 @@ fn order_in(
 }
 
 // A tree's columns, with the ranks of the m common labels by the numbers of their leaves.
-fn columns_in(tree: TreeArrays, order: &[usize; 80], m: usize) -> [u8; 637]
+fn columns_in(tree: TreeArrays, order: &[usize; LEAF_LIMIT], m: usize) -> [u8; COLUMNS]
     requires { ⌜ SomeTree tree (now order) m ⌝ }
     ensures { λ r. ⌜ Rooted r ⌝ }
     ensures { λ r. ⌜ ((t : Tree) (C : List Label) → RankedArrays t C tree (now (order .entry)) m → OwnColumns t C r) ⌝ }
 {
     let left = tree.left;
     let right = tree.right;
-    let mut rank = [80usize; 159];
+    let mut rank = [NO_RANK; NODE_LIMIT];
     rank_leaves(order, m, &mut rank);
     gathered(&left, &right, &rank, tree.nodes)
 }
@@ -73,12 +78,12 @@ fn columns_in(tree: TreeArrays, order: &[usize; 80], m: usize) -> [u8; 637]
 fn find_set(
     tree1: TreeArrays,
     tree2: TreeArrays,
-    order1: &[usize; 80],
-    order2: &[usize; 80],
+    order1: &[usize; LEAF_LIMIT],
+    order2: &[usize; LEAF_LIMIT],
     m: usize,
-    number: &[u8; 81],
+    number: &[u8; RANKS],
     count: usize,
-    chosen: &mut [bool; 80],
+    chosen: &mut [bool; LEAF_LIMIT],
 ) -> bool
     requires { ⌜ SomeTree tree1 (now order1) m × SomeTree tree2 (now order2) m ⌝ }
     ensures { λ found. ⌜ ((s t : Tree) (xs : List Label)
@@ -94,10 +99,10 @@ fn find_set(
 fn eight(
     tree1: TreeArrays,
     tree2: TreeArrays,
-    order1: &[usize; 80],
-    order2: &[usize; 80],
+    order1: &[usize; LEAF_LIMIT],
+    order2: &[usize; LEAF_LIMIT],
     m: usize,
-    number: &[u8; 81],
+    number: &[u8; RANKS],
     places: LabelPlaces,
 ) -> LargestResult
     requires { ⌜ SomeClash tree1 tree2 (now order1) (now order2) m (now number) places ⌝ }
@@ -162,15 +167,15 @@ pub(crate) fn answer_bodies(
     ensures output { λ _. ⌜ now (out .exit)
         ≡ outputOf (solve (task (now (first .entry)) (now (second .entry)) (now (list .entry))) (length (now (out .entry)))) (now (out .entry)) ⌝ }
 {
-    let mut order1 = [0usize; 80];
-    let mut order2 = [0usize; 80];
+    let mut order1 = [0usize; LEAF_LIMIT];
+    let mut order2 = [0usize; LEAF_LIMIT];
     let m = order_in(first, tree1, second, tree2, &mut order1, &mut order2, most);
-    let mut number = [0u8; 81];
+    let mut number = [0u8; RANKS];
     let n = mark_required(first, tree1, &order1, m, list, places, &mut number);
     if n < places.count {
         return lacks(first, tree1, list, places, n);
     }
-    let mut chosen = [false; 80];
+    let mut chosen = [false; LEAF_LIMIT];
     if find_set(
         tree1,
         tree2,

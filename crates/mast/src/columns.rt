@@ -7,7 +7,11 @@ ghost use lib.Dec.{eqb};
 ghost use lib.ListN.{set, getD};
 ghost use Rattle.mast.specs.Table.{columnAt, joinNeed};
 ghost use Rattle.mast.specs.Columns.{NodePut, Gathered};
+use crate::fill::COLUMNS;
+use crate::fill::NODES;
+use crate::fill::ROW;
 use crate::fill::column;
+use trees::NODE_LIMIT;
 
 pub(crate) fn narrow(x: usize) -> u8
     ensures { λ r. ⌜ r ≡ x % 256 ⌝ }
@@ -29,7 +33,7 @@ fn joined_need(a: usize, b: usize) -> usize
 }
 
 // The rows that node u with children a and b needs; a leaf is its own left child.
-fn needed(columns: &[u8; 637], u: usize, a: usize, b: usize) -> usize
+fn needed(columns: &[u8; COLUMNS], u: usize, a: usize, b: usize) -> usize
     requires { ⌜ (u < 159) × (a ≤ u) × (b ≤ u) ⌝ }
     ensures { λ r. ⌜ r ≡ cond (eqb a u) 0 (joinNeed (columnAt (now (columns .entry)) 3 a) (columnAt (now (columns .entry)) 3 b)) ⌝ }
 {
@@ -39,16 +43,16 @@ fn needed(columns: &[u8; 637], u: usize, a: usize, b: usize) -> usize
     joined_need(column(columns, 3, a), column(columns, 3, b))
 }
 
-fn put(columns: &mut [u8; 637], k: usize, u: usize, x: usize)
+fn put(columns: &mut [u8; COLUMNS], k: usize, u: usize, x: usize)
     requires { ⌜ (k < 4) × (u < 159) ⌝ }
     ensures { λ _. ⌜ now (columns .exit) ≡ set (now (columns .entry)) (k * 159 + u) (x % 256) ⌝ }
 {
-    let i = k * 159 + u;
+    let i = k * ROW + u;
     columns[i] = narrow(x);
 }
 
 // Node u with children a and b, and its rank.
-fn put_node(columns: &mut [u8; 637], u: usize, a: usize, b: usize, rank: usize)
+fn put_node(columns: &mut [u8; COLUMNS], u: usize, a: usize, b: usize, rank: usize)
     requires { ⌜ (u < 159) × (a ≤ u) × (b ≤ u) ⌝ }
     ensures { λ _. ⌜ NodePut u a b rank (now (columns .entry)) (now (columns .exit)) ⌝ }
 {
@@ -61,16 +65,16 @@ fn put_node(columns: &mut [u8; 637], u: usize, a: usize, b: usize, rank: usize)
 
 // The columns of a tree by its arrays of children and its leaves' ranks.
 pub(crate) fn gathered(
-    left: &[usize; 159],
-    right: &[usize; 159],
-    rank: &[usize; 159],
+    left: &[usize; NODE_LIMIT],
+    right: &[usize; NODE_LIMIT],
+    rank: &[usize; NODE_LIMIT],
     nodes: usize,
-) -> [u8; 637]
+) -> [u8; COLUMNS]
     requires { ⌜ (nodes ≤ 159) × ((u : ℕ) → u < nodes → (getD (now left) u 0 ≤ u) × (getD (now right) u 0 ≤ u)) ⌝ }
     ensures { λ r. ⌜ Gathered nodes (now (left .entry)) (now (right .entry)) (now (rank .entry)) nodes r ⌝ }
 {
-    let mut columns = [0u8; 637];
-    columns[636] = narrow(nodes);
+    let mut columns = [0u8; COLUMNS];
+    columns[NODES] = narrow(nodes);
     let mut u: usize = 0;
     while u < nodes {
         put_node(&mut columns, u, left[u], right[u], rank[u]);

@@ -10,6 +10,21 @@ ghost use mathlib.Core.Path.{_≡_};
 ghost use Prim.Native.Nat.{_<_, _≤_, max};
 ghost use Rattle.mast.specs.Table.{valueOf, valueAt, wrapped, columnAt, innerAt, cellAt, leafCellAt, Shape};
 ghost use Rattle.mast.specs.Table.{nodesAt, SplitAt, InnerRow, Joined, LeafRow, NodeRow};
+use trees::NODE_LIMIT;
+
+// The cells of a row, and the rows of cells; then comes the row of weights.
+pub(crate) const ROW: usize = NODE_LIMIT;
+
+const ROWS: usize = 8;
+
+pub(crate) const WEIGHTS: usize = ROWS * ROW;
+
+pub(crate) const AREA: usize = WEIGHTS + ROW;
+
+// The entries of a tree's columns; the last is the number of nodes.
+pub(crate) const NODES: usize = 4 * NODE_LIMIT;
+
+pub(crate) const COLUMNS: usize = NODES + 1;
 
 // A weight, high * 2^64 + low.
 pub(crate) struct Weight {
@@ -44,7 +59,7 @@ fn joined(a: Weight, b: Weight) -> Weight
     Weight { high, low }
 }
 
-pub(crate) fn cell(high: &[u32; 1431], low: &[u64; 1431], i: usize) -> Weight
+pub(crate) fn cell(high: &[u32; AREA], low: &[u64; AREA], i: usize) -> Weight
     requires { ⌜ i < 1431 ⌝ }
     ensures { λ r. ⌜ valueOf r ≡ valueAt (now (high .entry)) (now (low .entry)) i ⌝ }
 {
@@ -61,16 +76,16 @@ pub(crate) fn wide(x: u8) -> usize
 }
 
 // The entry of node u in column k: 0 left children, 1 right children, 2 ranks, 3 rows needed.
-pub(crate) fn column(columns: &[u8; 637], k: usize, u: usize) -> usize
+pub(crate) fn column(columns: &[u8; COLUMNS], k: usize, u: usize) -> usize
     requires { ⌜ (k < 4) × (u < 159) ⌝ }
     ensures { λ r. ⌜ r ≡ columnAt (now (columns .entry)) k u ⌝ }
 {
-    let i = k * 159 + u;
+    let i = k * ROW + u;
     wide(columns[i])
 }
 
 // The heavier of two cells.
-fn heavier_cell(high: &[u32; 1431], low: &[u64; 1431], i: usize, j: usize) -> Weight
+fn heavier_cell(high: &[u32; AREA], low: &[u64; AREA], i: usize, j: usize) -> Weight
     requires { ⌜ (i < 1431) × (j < 1431) ⌝ }
     ensures { λ r. ⌜ valueOf r ≡ max (valueAt (now (high .entry)) (now (low .entry)) i) (valueAt (now (high .entry)) (now (low .entry)) j) ⌝ }
 {
@@ -78,7 +93,7 @@ fn heavier_cell(high: &[u32; 1431], low: &[u64; 1431], i: usize, j: usize) -> We
 }
 
 // The sum of two cells.
-fn joined_cells(high: &[u32; 1431], low: &[u64; 1431], i: usize, j: usize) -> Weight
+fn joined_cells(high: &[u32; AREA], low: &[u64; AREA], i: usize, j: usize) -> Weight
     requires { ⌜ (i < 1431) × (j < 1431) ⌝ }
     ensures { λ r. ⌜ valueOf r ≡ wrapped (valueAt (now (high .entry)) (now (low .entry)) i) (valueAt (now (high .entry)) (now (low .entry)) j) ⌝ }
 {
@@ -88,8 +103,8 @@ fn joined_cells(high: &[u32; 1431], low: &[u64; 1431], i: usize, j: usize) -> We
 // Two inner nodes: below one child of either, or the children paired. The rows of the first node's children start at a and b, its
 // own at u; v has children c and d.
 fn inner_cell(
-    high: &[u32; 1431],
-    low: &[u64; 1431],
+    high: &[u32; AREA],
+    low: &[u64; AREA],
     a: usize,
     b: usize,
     u: usize,
@@ -110,9 +125,9 @@ fn inner_cell(
 
 // The cell of an inner node, whose row starts at u and its children's at a and b, and node v.
 fn pair_cell(
-    second: &[u8; 637],
-    high: &[u32; 1431],
-    low: &[u64; 1431],
+    second: &[u8; COLUMNS],
+    high: &[u32; AREA],
+    low: &[u64; AREA],
     a: usize,
     b: usize,
     u: usize,
@@ -132,9 +147,9 @@ fn pair_cell(
 
 // The cell of a leaf with this rank, whose row starts at u, and node v.
 fn leaf_cell(
-    second: &[u8; 637],
-    high: &[u32; 1431],
-    low: &[u64; 1431],
+    second: &[u8; COLUMNS],
+    high: &[u32; AREA],
+    low: &[u64; AREA],
     rank: usize,
     u: usize,
     v: usize,
@@ -147,7 +162,7 @@ fn leaf_cell(
     if c == v {
         let other = column(second, 2, v);
         if other == rank {
-            return cell(high, low, 1272 + rank);
+            return cell(high, low, WEIGHTS + rank);
         }
         return Weight { high: 0, low: 0 };
     }
@@ -157,10 +172,10 @@ fn leaf_cell(
 
 // The row of a leaf with this rank.
 fn fill_leaf(
-    second: &[u8; 637],
+    second: &[u8; COLUMNS],
     nodes: usize,
-    high: &mut [u32; 1431],
-    low: &mut [u64; 1431],
+    high: &mut [u32; AREA],
+    low: &mut [u64; AREA],
     rank: usize,
     row: usize,
 )
@@ -168,7 +183,7 @@ fn fill_leaf(
     requires { ⌜ (rank ≤ 80) × (row < 8) ⌝ }
     ensures { λ _. ⌜ LeafRow (now (second .entry)) nodes rank row (now (high .entry)) (now (low .entry)) (now (high .exit)) (now (low .exit)) ⌝ }
 {
-    let u = row * 159;
+    let u = row * ROW;
     let mut v: usize = 0;
     while v < nodes {
         let value = leaf_cell(second, high, low, rank, u, v);
@@ -180,10 +195,10 @@ fn fill_leaf(
 
 // The row of an inner node from the rows of its children.
 fn fill_inner(
-    second: &[u8; 637],
+    second: &[u8; COLUMNS],
     nodes: usize,
-    high: &mut [u32; 1431],
-    low: &mut [u64; 1431],
+    high: &mut [u32; AREA],
+    low: &mut [u64; AREA],
     left: usize,
     right: usize,
     row: usize,
@@ -193,9 +208,9 @@ fn fill_inner(
     ensures { λ _. ⌜ InnerRow (now (second .entry)) nodes left right row
         (now (high .entry)) (now (low .entry)) (now (high .exit)) (now (low .exit)) ⌝ }
 {
-    let a = left * 159;
-    let b = right * 159;
-    let u = row * 159;
+    let a = left * ROW;
+    let b = right * ROW;
+    let u = row * ROW;
     let mut v: usize = 0;
     while v < nodes {
         let value = pair_cell(second, high, low, a, b, u, v);
@@ -212,7 +227,7 @@ struct Children {
     swapped: bool,
 }
 
-fn children_of(first: &[u8; 637], u: usize) -> Children
+fn children_of(first: &[u8; COLUMNS], u: usize) -> Children
     requires { ⌜ (u < 159) × (columnAt (now first) 0 u ≤ u) × (columnAt (now first) 1 u ≤ u) ⌝ }
     ensures { λ r. ⌜ SplitAt (now (first .entry)) u r ⌝ }
 {
@@ -235,9 +250,9 @@ fn children_of(first: &[u8; 637], u: usize) -> Children
 
 // The row of an inner node from row `other`, of the child that needed more rows, and row `next`, of the second one.
 fn join_rows(
-    second: &[u8; 637],
-    high: &mut [u32; 1431],
-    low: &mut [u64; 1431],
+    second: &[u8; COLUMNS],
+    high: &mut [u32; AREA],
+    low: &mut [u64; AREA],
     swapped: bool,
     row: usize,
     other: usize,
@@ -247,7 +262,7 @@ fn join_rows(
     requires { ⌜ (row < 8) × (other < 8) × (next < 8) ⌝ }
     ensures { λ _. ⌜ Joined (now (second .entry)) swapped row other next (now (high .entry)) (now (low .entry)) (now (high .exit)) (now (low .exit)) ⌝ }
 {
-    let nodes = wide(second[636]);
+    let nodes = wide(second[NODES]);
     if swapped {
         fill_inner(second, nodes, high, low, next, other, row);
     } else {
@@ -257,10 +272,10 @@ fn join_rows(
 
 // The row of a leaf.
 fn leaf_row(
-    first: &[u8; 637],
-    second: &[u8; 637],
-    high: &mut [u32; 1431],
-    low: &mut [u64; 1431],
+    first: &[u8; COLUMNS],
+    second: &[u8; COLUMNS],
+    high: &mut [u32; AREA],
+    low: &mut [u64; AREA],
     u: usize,
     row: usize,
 )
@@ -269,17 +284,17 @@ fn leaf_row(
     ensures { λ _. ⌜ LeafRow (now (second .entry)) (nodesAt (now (second .entry))) (columnAt (now (first .entry)) 2 u) row
         (now (high .entry)) (now (low .entry)) (now (high .exit)) (now (low .exit)) ⌝ }
 {
-    let nodes = wide(second[636]);
+    let nodes = wide(second[NODES]);
     fill_leaf(second, nodes, high, low, column(first, 2, u), row);
 }
 
 // The row of node u of the first tree. The child that needs more rows is done first, into the other row; then the second child,
 // into row `next`. A tree of 80 leaves needs six rows beside two, so that the test for a next one is for safety alone.
 pub(crate) fn fill_node(
-    first: &[u8; 637],
-    second: &[u8; 637],
-    high: &mut [u32; 1431],
-    low: &mut [u64; 1431],
+    first: &[u8; COLUMNS],
+    second: &[u8; COLUMNS],
+    high: &mut [u32; AREA],
+    low: &mut [u64; AREA],
     u: usize,
     row: usize,
     other: usize,
@@ -294,7 +309,7 @@ pub(crate) fn fill_node(
         leaf_row(first, second, high, low, u, row);
         return;
     }
-    if 8 <= next {
+    if ROWS <= next {
         return;
     }
     let children = children_of(first, u);

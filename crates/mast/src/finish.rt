@@ -19,6 +19,8 @@ use crate::LargestAnswer;
 use crate::LargestResult;
 use lists::LabelPlaces;
 use trees::Body;
+use trees::LEAF_LIMIT;
+use trees::NODE_LIMIT;
 use trees::Reason;
 use trees::Refusal;
 use trees::TreeArrays;
@@ -29,8 +31,8 @@ fn add_place(
     chosen: bool,
     at: usize,
     len: usize,
-    start: &mut [usize; 80],
-    size: &mut [usize; 80],
+    start: &mut [usize; LEAF_LIMIT],
+    size: &mut [usize; LEAF_LIMIT],
     n: usize,
 ) -> usize
     requires { ⌜ n < 80 ⌝ }
@@ -47,19 +49,19 @@ fn add_place(
 
 // Where the labels of the set stand in the first tree's text, in label order.
 fn set_places(
-    order1: &[usize; 80],
+    order1: &[usize; LEAF_LIMIT],
     m: usize,
-    chosen: &[bool; 80],
-    start1: &[usize; 159],
-    size1: &[usize; 159],
+    chosen: &[bool; LEAF_LIMIT],
+    start1: &[usize; NODE_LIMIT],
+    size1: &[usize; NODE_LIMIT],
 ) -> LabelPlaces
     requires { ⌜ (m ≤ 80) × InRange (now order1) m ⌝ }
     ensures { λ r. ⌜ ((s : Tree) (C : List Label) → Valid s → now (start1 .entry) ≡ arraysOf s .start
         → now (size1 .entry) ≡ arraysOf s .size → m ≡ length C → Numbered s C (now (order1 .entry))
         → r ≡ setPlaces s (chosenFrom (now (chosen .entry)) 0 C)) ⌝ }
 {
-    let mut start = [0usize; 80];
-    let mut size = [0usize; 80];
+    let mut start = [0usize; LEAF_LIMIT];
+    let mut size = [0usize; LEAF_LIMIT];
     let mut count: usize = 0;
     let mut r: usize = 0;
     while r < m {
@@ -71,7 +73,7 @@ fn set_places(
 }
 
 // Flags leaf u if its label is chosen.
-fn flag(chosen: bool, u: usize, kept: &mut [bool; 159])
+fn flag(chosen: bool, u: usize, kept: &mut [bool; NODE_LIMIT])
     requires { ⌜ u < 159 ⌝ }
     ensures { λ _. ⌜ now (kept .exit) ≡ cond chosen (set (now (kept .entry)) u true) (now (kept .entry)) ⌝ }
 {
@@ -81,12 +83,16 @@ fn flag(chosen: bool, u: usize, kept: &mut [bool; 159])
 }
 
 // Flags of the first tree's leaves whose labels are in the set.
-fn kept_leaves(order1: &[usize; 80], m: usize, chosen: &[bool; 80]) -> [bool; 159]
+fn kept_leaves(
+    order1: &[usize; LEAF_LIMIT],
+    m: usize,
+    chosen: &[bool; LEAF_LIMIT],
+) -> [bool; NODE_LIMIT]
     requires { ⌜ (m ≤ 80) × InRange (now order1) m ⌝ }
     ensures { λ r. ⌜ ((s : Tree) (C : List Label) → Valid s → m ≡ length C → Numbered s C (now (order1 .entry))
         → Flagged s (chosenFrom (now (chosen .entry)) 0 C) r) ⌝ }
 {
-    let mut kept = [false; 159];
+    let mut kept = [false; NODE_LIMIT];
     let mut r: usize = 0;
     while r < m {
         flag(chosen[r], order1[r], &mut kept);
@@ -103,8 +109,8 @@ pub(crate) fn without_set(answer: LargestAnswer) -> LargestResult
         answer,
         set: LabelPlaces {
             count: 0,
-            start: [0usize; 80],
-            size: [0usize; 80],
+            start: [0usize; LEAF_LIMIT],
+            size: [0usize; LEAF_LIMIT],
         },
     }
 }
@@ -113,9 +119,9 @@ pub(crate) fn without_set(answer: LargestAnswer) -> LargestResult
 pub(crate) fn solution(
     tree: TreeArrays,
     text: &[u8],
-    order1: &[usize; 80],
+    order1: &[usize; LEAF_LIMIT],
     m: usize,
-    chosen: &[bool; 80],
+    chosen: &[bool; LEAF_LIMIT],
     out: &mut [u8],
 ) -> LargestResult
     requires { ⌜ (m ≤ 80) × InRange (now order1) m ⌝ }

@@ -14,19 +14,24 @@ ghost use Rattle.agreement.specs.Sets.{increasing};
 ghost use Rattle.leaves.specs.Numbered.{Numbered};
 ghost use Rattle.mast.specs.Engine.{OwnLeaves, Ranked};
 ghost use Rattle.mast.specs.Ranks.{PartnerIs, Partners, Place, Opened, mostCommon, Collected, NodePartner, storedLabel, Placed};
+use trees::LEAF_LIMIT;
+use trees::NODE_LIMIT;
 use trees::Order;
 use trees::StoredLabel;
 use trees::TreeArrays;
 
+// The rank of a label that is not common.
+pub(crate) const NO_RANK: usize = LEAF_LIMIT;
+
 // No node has this number.
-const NONE: usize = 159;
+const NONE: usize = NODE_LIMIT;
 
 // The number of the leaf with this label, or NONE; an inner node's label has no bytes and is not looked for.
 fn look_up(
     text: &[u8],
-    left: &[usize; 159],
-    start: &[usize; 159],
-    size: &[usize; 159],
+    left: &[usize; NODE_LIMIT],
+    start: &[usize; NODE_LIMIT],
+    size: &[usize; NODE_LIMIT],
     nodes: usize,
     label: &[u8],
 ) -> usize
@@ -46,7 +51,7 @@ pub(crate) fn partners(
     tree1: TreeArrays,
     second: &[u8],
     tree2: TreeArrays,
-) -> [usize; 159]
+) -> [usize; NODE_LIMIT]
     requires { ⌜ tree1 .nodes ≤ 159 ⌝ }
     ensures { λ r. ⌜ ((s t : Tree)
         → OwnLeaves s (now (first .entry)) (tree1 .left) (tree1 .start) (tree1 .size) (tree1 .nodes)
@@ -58,7 +63,7 @@ pub(crate) fn partners(
     let left2 = tree2.left;
     let start2 = tree2.start;
     let size2 = tree2.size;
-    let mut partner = [NONE; 159];
+    let mut partner = [NONE; NODE_LIMIT];
     let mut u: usize = 0;
     while u < tree1.nodes {
         let label = trees::leaf_label(first, &start1, &size1, u);
@@ -82,9 +87,9 @@ fn comes_first(a: StoredLabel, b: StoredLabel) -> bool
 // Where a new label goes among the labels of the first m leaves in `order`, by halves: before the first that is greater.
 fn place_of(
     text: &[u8],
-    start: &[usize; 159],
-    size: &[usize; 159],
-    order: &[usize; 80],
+    start: &[usize; NODE_LIMIT],
+    size: &[usize; NODE_LIMIT],
+    order: &[usize; LEAF_LIMIT],
     m: usize,
     label: StoredLabel,
 ) -> usize
@@ -108,7 +113,7 @@ fn place_of(
 }
 
 // Puts u at place p, the entries from p on one place further.
-fn open_at(order: &mut [usize; 80], m: usize, p: usize, u: usize)
+fn open_at(order: &mut [usize; LEAF_LIMIT], m: usize, p: usize, u: usize)
     requires { ⌜ (p ≤ m) × (m < 80) ⌝ }
     ensures { λ _. ⌜ (length (now (order .entry)) ≡ 80 → Opened p m u (now (order .entry)) (now (order .exit))) ⌝ }
 {
@@ -123,9 +128,9 @@ fn open_at(order: &mut [usize; 80], m: usize, p: usize, u: usize)
 // Puts leaf u into the order of m leaves at its label's place.
 fn insert_leaf(
     text: &[u8],
-    start: &[usize; 159],
-    size: &[usize; 159],
-    order: &mut [usize; 80],
+    start: &[usize; NODE_LIMIT],
+    size: &[usize; NODE_LIMIT],
+    order: &mut [usize; LEAF_LIMIT],
     m: usize,
     u: usize,
 )
@@ -151,9 +156,9 @@ fn leaf_partner(child: usize, u: usize, v: usize) -> usize
 // leaves, no further one is common.
 fn add_common(
     text1: &[u8],
-    start1: &[usize; 159],
-    size1: &[usize; 159],
-    order1: &mut [usize; 80],
+    start1: &[usize; NODE_LIMIT],
+    size1: &[usize; NODE_LIMIT],
+    order1: &mut [usize; LEAF_LIMIT],
     m: usize,
     most: usize,
     u: usize,
@@ -181,8 +186,8 @@ fn add_common(
 pub(crate) fn common_order(
     text1: &[u8],
     tree1: TreeArrays,
-    partner: &[usize; 159],
-    order1: &mut [usize; 80],
+    partner: &[usize; NODE_LIMIT],
+    order1: &mut [usize; LEAF_LIMIT],
     most: usize,
 ) -> usize
     requires { ⌜ (tree1 .nodes ≤ 159) × (most ≤ 80) ⌝ }
@@ -194,7 +199,7 @@ pub(crate) fn common_order(
     let left1 = tree1.left;
     let start1 = tree1.start;
     let size1 = tree1.size;
-    *order1 = [0; 80];
+    *order1 = [0; LEAF_LIMIT];
     let mut m: usize = 0;
     let mut u: usize = tree1.nodes;
     while 0 < u {
@@ -206,21 +211,21 @@ pub(crate) fn common_order(
 }
 
 // The rank r for leaf u. The test is for safety alone: a tree has no node past 158.
-fn put_rank(rank: &mut [usize; 159], u: usize, r: usize)
+fn put_rank(rank: &mut [usize; NODE_LIMIT], u: usize, r: usize)
     ensures { λ _. ⌜ (length (now (rank .entry)) ≡ 159 → now (rank .exit) ≡ set (now (rank .entry)) u r) ⌝ }
 {
-    if u < 159 {
+    if u < NODE_LIMIT {
         rank[u] = r;
     }
 }
 
 // The rank of each leaf whose label is one of the m in `order`, and 80 for every other node.
-pub(crate) fn rank_leaves(order: &[usize; 80], m: usize, rank: &mut [usize; 159])
+pub(crate) fn rank_leaves(order: &[usize; LEAF_LIMIT], m: usize, rank: &mut [usize; NODE_LIMIT])
     requires { ⌜ m ≤ 80 ⌝ }
     ensures { λ _. ⌜ ((t : Tree) (C : List Label) → Valid t → increasing C ≡ true → m ≡ length C
         → Numbered t C (now (order .entry)) → Ranked t C (now (rank .exit))) ⌝ }
 {
-    *rank = [80; 159];
+    *rank = [NO_RANK; NODE_LIMIT];
     let mut r: usize = 0;
     while r < m {
         put_rank(rank, order[r], r);

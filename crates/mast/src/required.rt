@@ -17,16 +17,19 @@ ghost use Rattle.mast.specs.Required.{FoundRank, MarkedTo, ranksFrom, En
 ghost use Rattle.mast.specs.Asked.{Clashes, SomeClash, placesOfThree};
 use crate::columns::narrow;
 use crate::fill::wide;
+use crate::weights::RANKS;
 use lists::LabelPlaces;
+use trees::LEAF_LIMIT;
+use trees::NODE_LIMIT;
 use trees::TreeArrays;
 use triples::Three;
 
 // The rank of a label among the m common ones, or m.
 fn rank_in(
     text1: &[u8],
-    start1: &[usize; 159],
-    size1: &[usize; 159],
-    order1: &[usize; 80],
+    start1: &[usize; NODE_LIMIT],
+    size1: &[usize; NODE_LIMIT],
+    order1: &[usize; LEAF_LIMIT],
     m: usize,
     label: &[u8],
 ) -> usize
@@ -51,11 +54,11 @@ fn rank_in(
 pub(crate) fn mark_required(
     text1: &[u8],
     tree1: TreeArrays,
-    order1: &[usize; 80],
+    order1: &[usize; LEAF_LIMIT],
     m: usize,
     list: &[u8],
     places: LabelPlaces,
-    number: &mut [u8; 81],
+    number: &mut [u8; RANKS],
 ) -> usize
     requires { ⌜ (m ≤ 80) × (places .count ≤ 80) ⌝ }
     ensures { λ n. ⌜ n ≤ places .count ⌝ }
@@ -68,7 +71,7 @@ pub(crate) fn mark_required(
     let size1 = tree1.size;
     let starts = places.start;
     let sizes = places.size;
-    *number = [0; 81];
+    *number = [0; RANKS];
     let mut k: usize = 0;
     while k < places.count {
         let r = rank_in(
@@ -101,7 +104,7 @@ pub(crate) fn holds_label(text: &[u8], tree: TreeArrays, label: &[u8]) -> bool
 }
 
 // Stores rank r behind n others if it is that of a required label, and says how many there are then.
-fn add_rank(ranks: &mut [usize; 80], n: usize, number: u8, r: usize) -> usize
+fn add_rank(ranks: &mut [usize; LEAF_LIMIT], n: usize, number: u8, r: usize) -> usize
     requires { ⌜ n < 80 ⌝ }
     ensures { λ k. ⌜ Added n number r (now (ranks .entry)) k (now (ranks .exit)) ⌝ }
 {
@@ -113,11 +116,11 @@ fn add_rank(ranks: &mut [usize; 80], n: usize, number: u8, r: usize) -> usize
 }
 
 // The ranks of the required labels, in label order.
-fn required_ranks(number: &[u8; 81], m: usize) -> [usize; 80]
+fn required_ranks(number: &[u8; RANKS], m: usize) -> [usize; LEAF_LIMIT]
     requires { ⌜ m ≤ 80 ⌝ }
     ensures { λ ranks. ⌜ Entries (ranksFrom (now (number .entry)) 0 m) ranks ⌝ }
 {
-    let mut ranks = [0usize; 80];
+    let mut ranks = [0usize; LEAF_LIMIT];
     let mut n: usize = 0;
     let mut r: usize = 0;
     while r < m {
@@ -128,11 +131,15 @@ fn required_ranks(number: &[u8; 81], m: usize) -> [usize; 80]
 }
 
 // The entries of an array at these places.
-pub(crate) fn entries_at(places: &[usize; 80], values: &[usize], count: usize) -> [usize; 80]
+pub(crate) fn entries_at(
+    places: &[usize; LEAF_LIMIT],
+    values: &[usize],
+    count: usize,
+) -> [usize; LEAF_LIMIT]
     requires { ⌜ count ≤ 80 ⌝ }
     ensures { λ r. ⌜ ((i : ℕ) → i < count → getD r i 0 ≡ getD (now (values .entry)) (getD (now (places .entry)) i 0) 0) ⌝ }
 {
-    let mut found = [0usize; 80];
+    let mut found = [0usize; LEAF_LIMIT];
     let mut i: usize = 0;
     while i < count {
         found[i] = trees::entry(values, places[i]);
@@ -142,7 +149,12 @@ pub(crate) fn entries_at(places: &[usize; 80], values: &[usize], count: usize) -
 }
 
 // Where label i of the required ones in label order stands in the list.
-fn place_at(starts: &[usize; 80], number: &[u8; 81], ranks: &[usize; 80], i: usize) -> usize
+fn place_at(
+    starts: &[usize; LEAF_LIMIT],
+    number: &[u8; RANKS],
+    ranks: &[usize; LEAF_LIMIT],
+    i: usize,
+) -> usize
     requires { ⌜ (i < 80) × (getD (now ranks) i 0 < 81) × (0 < getD (now number) (getD (now ranks) i 0) 0)
         × (getD (now number) (getD (now ranks) i 0) 0 ≤ 80) ⌝ }
     ensures { λ r. ⌜ r ≡ getD (now (starts .entry)) (getD (now (number .entry)) (getD (now (ranks .entry)) i 0) 0 - 1) 0 ⌝ }
@@ -156,10 +168,10 @@ fn place_at(starts: &[usize; 80], number: &[u8; 81], ranks: &[usize; 80], i: usi
 pub(crate) fn clash_places(
     tree1: TreeArrays,
     tree2: TreeArrays,
-    order1: &[usize; 80],
-    order2: &[usize; 80],
+    order1: &[usize; LEAF_LIMIT],
+    order2: &[usize; LEAF_LIMIT],
     m: usize,
-    number: &[u8; 81],
+    number: &[u8; RANKS],
     places: LabelPlaces,
 ) -> Three
     requires { ⌜ SomeClash tree1 tree2 (now order1) (now order2) m (now number) places ⌝ }

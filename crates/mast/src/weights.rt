@@ -10,8 +10,14 @@ ghost use Rattle.agreement.specs.Powers.{whole};
 ghost use Rattle.agreement.specs.Weights.{forcedUnit};
 ghost use Rattle.mast.specs.Table.{valueOf, valueAt, weightPlace};
 ghost use Rattle.mast.specs.Weighing.{unitOf, WeightsPut, Powers, Bits};
+use crate::fill::AREA;
+use crate::fill::WEIGHTS;
 use crate::fill::Weight;
 use crate::fill::cell;
+use trees::LEAF_LIMIT;
+
+// Ranks of common labels, and one for a label that is not common.
+pub(crate) const RANKS: usize = LEAF_LIMIT + 1;
 
 // What a required label weighs in units; more than all other labels together.
 const REQUIRED: u32 = 128;
@@ -42,10 +48,10 @@ fn halved(p: Weight) -> Weight
 
 // The weight of each of the m common labels, by rank.
 pub(crate) fn put_weights(
-    number: &[u8; 81],
+    number: &[u8; RANKS],
     m: usize,
-    high: &mut [u32; 1431],
-    low: &mut [u64; 1431],
+    high: &mut [u32; AREA],
+    low: &mut [u64; AREA],
 )
     requires { ⌜ m ≤ 80 ⌝ }
     ensures { λ _. ⌜ WeightsPut m (now (number .entry)) (now (high .entry)) (now (low .entry)) (now (high .exit)) (now (low .exit)) ⌝ }
@@ -56,8 +62,8 @@ pub(crate) fn put_weights(
     };
     let mut r: usize = 0;
     while r < m {
-        high[1272 + r] = units(number[r]) * 65536 + p.high % 65536;
-        low[1272 + r] = p.low;
+        high[WEIGHTS + r] = units(number[r]) * 65536 + p.high % 65536;
+        low[WEIGHTS + r] = p.low;
         p = halved(p);
         r += 1;
     }
@@ -105,11 +111,11 @@ fn take(rest: Weight, p: Weight) -> Taken
 }
 
 // The power of rank r.
-fn power_at(high: &[u32; 1431], low: &[u64; 1431], r: usize) -> Weight
+fn power_at(high: &[u32; AREA], low: &[u64; AREA], r: usize) -> Weight
     requires { ⌜ r < 80 ⌝ }
     ensures { λ w. ⌜ valueOf w ≡ valueAt (now (high .entry)) (now (low .entry)) (weightPlace r) % whole ⌝ }
 {
-    let weight = cell(high, low, 1272 + r);
+    let weight = cell(high, low, WEIGHTS + r);
     Weight {
         high: weight.high % 65536,
         low: weight.low,
@@ -118,16 +124,16 @@ fn power_at(high: &[u32; 1431], low: &[u64; 1431], r: usize) -> Weight
 
 // The labels whose powers make up the low part of the greatest weight, by rank.
 pub(crate) fn read_set(
-    high: &[u32; 1431],
-    low: &[u64; 1431],
+    high: &[u32; AREA],
+    low: &[u64; AREA],
     top: Weight,
     m: usize,
-    chosen: &mut [bool; 80],
+    chosen: &mut [bool; LEAF_LIMIT],
 )
     requires { ⌜ m ≤ 80 ⌝ }
     ensures { λ _. ⌜ (Powers m (now (high .entry)) (now (low .entry)) → Bits m (valueOf top % whole) (now (chosen .exit))) ⌝ }
 {
-    *chosen = [false; 80];
+    *chosen = [false; LEAF_LIMIT];
     let mut rest = Weight {
         high: top.high % 65536,
         low: top.low,
