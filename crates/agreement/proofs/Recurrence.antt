@@ -36,16 +36,6 @@ best-leaf-right w (leaf x) y = go (bool-cases (holds (leaf y) x)) (bool-cases (h
     go (inr h) (inr k) = rw (h, k) refl
 best-leaf-right w (node p q) y = refl
 
--- below one child of either, or the children paired in one of two ways
-abbrev pub candidates : (Label → ℕ) → Tree → Tree → Tree → Tree → Tree → Tree → ℕ
-candidates w s p q t c d =
-    max (max (best w p t) (best w q t))
-    (max (max (best w s c) (best w s d)) (max (best w p c + best w q d) (best w p d + best w q c)))
-
-pub best-node : (w : Label → ℕ) (p q c d : Tree) → best w (node p q) (node c d) ≡ candidates w (node p q) p q (node c d) c d
-unfolding best
-best-node w p q c d = refl
-
 -- upper bound
 
 abbrev Bounded : (Label → ℕ) → (Label → Bool) → Tree → Tree → Type 0
@@ -64,17 +54,17 @@ bound-leaf w X x t f = rw (best-leaf-left w x t) (go (bool-cases (holds t x)))
     go (inl h) = rw h (rw (holds-self x) at (bound-only w X (leaf x) x (distinct-leaf x) (λ y k l. holds-leaf x y l)))
     go (inr h) = rw h (omega (arith, weight-none w (leaf x) X (λ y l. refute (X y) (λ k. clash (f .within y k l) (ap (holds t) (holds-leaf x y l) ∙ h)))))
 
-bound-node : (w : Label → ℕ) (X : Label → Bool) {s p q t c d : Tree} → Children s p q → Children t c d
-    → Bounded w X p t → Bounded w X q t → Bounded w X s c → Bounded w X s d
-    → Bounded w X p c → Bounded w X q d → Bounded w X p d → Bounded w X q c → Fits s t X
-    → weightIn w s X ≤ candidates w s p q t c d
-bound-node w X {s = s} {p = p} {q = q} {t = t} {c = c} {d = d} k l pt qt sc sd pc qd pd qc f = go (divide k l f) (divide (flip k) l f)
+bound-node : (w : Label → ℕ) (X : Label → Bool) (p q c d : Tree) → Children (node p q) p q → Children (node c d) c d
+    → Bounded w X p (node c d) → Bounded w X q (node c d) → Bounded w X (node p q) c → Bounded w X (node p q) d
+    → Bounded w X p c → Bounded w X q d → Bounded w X p d → Bounded w X q c → Bounded w X (node p q) (node c d)
+unfolding best
+bound-node w X p q c d k l pt qt sc sd pc qd pd qc f = go (divide k l f) (divide (flip k) l f)
   where
-    m : weightIn w s X ≡ weightIn w p X + weightIn w q X
+    m : weightIn w (node p q) X ≡ weightIn w p X + weightIn w q X
     m = k .weight w X
 
     go : Within p c X ⊎ (Within p d X ⊎ Empty q X) → Within q c X ⊎ (Within q d X ⊎ Empty p X)
-        → weightIn w s X ≤ candidates w s p q t c d
+        → weightIn w (node p q) X ≤ best w (node p q) (node c d)
     go (inr (inr e)) j = omega (arith, m, weight-none w q X e, pt (fits-below k f))
     go (inl i) (inr (inr e)) = omega (arith, m, weight-none w p X e, qt (fits-below (flip k) f))
     go (inr (inl i)) (inr (inr e)) = omega (arith, m, weight-none w p X e, qt (fits-below (flip k) f))
@@ -90,7 +80,7 @@ bounded : (w : Label → ℕ) (X : Label → Bool) (s t : Tree) → distinct (le
 bounded w X =
     by-pairs (Bounded w X) (λ x y. bound-leaf w X x (leaf y)) (λ x c d l i j. bound-leaf w X x (node c d))
     (λ p q y ds i j. bound-at-leaf w X (node p q) y ds)
-    (λ p q c d k l pt qt sc sd pc qd pd qc f. rw (best-node w p q c d) (bound-node w X k l pt qt sc sd pc qd pd qc f))
+    (bound-node w X)
 
 best-bound : (w : Label → ℕ) (s t : Tree) (X : Label → Bool) → distinct (leaves s) ≡ true → distinct (leaves t) ≡ true
     → Common s t X → Agree s t X → weightIn w s X ≤ best w s t
@@ -213,10 +203,10 @@ reach-node : (w : Label → ℕ) (p q c d : Tree) → Children (node p q) p q �
     → Reach w (node p q) c (best w (node p q) c) → Reach w (node p q) d (best w (node p q) d)
     → Reach w p c (best w p c) → Reach w q d (best w q d) → Reach w p d (best w p d) → Reach w q c (best w q c)
     → Reach w (node p q) (node c d) (best w (node p q) (node c d))
+unfolding best
 reach-node w p q c d k l pt qt sc sd pc qd pd qc =
-    rw (best-node w p q c d)
-    (reach-max (reach-max (reach-below k pt) (reach-below (flip k) qt))
-    (reach-max (reach-max (reach-into l sc) (reach-into (flip l) sd)) (reach-max (reach-pair k l pc qd) (reach-pair k (flip l) pd qc))))
+    reach-max (reach-max (reach-below k pt) (reach-below (flip k) qt))
+    (reach-max (reach-max (reach-into l sc) (reach-into (flip l) sd)) (reach-max (reach-pair k l pc qd) (reach-pair k (flip l) pd qc)))
 
 best-reached : (w : Label → ℕ) (s t : Tree) → distinct (leaves s) ≡ true → distinct (leaves t) ≡ true → Reach w s t (best w s t)
 best-reached w =
@@ -234,3 +224,10 @@ best-greatest w s t ds dt =
       agreed = r .agreed;
       reached = r .weighs;
     }
+
+-- what the recurrence computes for two nodes
+pub best-node : (w : Label → ℕ) (p q c d : Tree) → best w (node p q) (node c d)
+    ≡ max (max (best w p (node c d)) (best w q (node c d)))
+    (max (max (best w (node p q) c) (best w (node p q) d)) (max (best w p c + best w q d) (best w p d + best w q c)))
+unfolding best
+best-node w p q c d = refl
