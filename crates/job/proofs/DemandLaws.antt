@@ -64,7 +64,7 @@ module _ (job : List ℕ) (X : List Label) (text : List ℕ) where
       (kept-line (setOf Y) s v) (sym e ∙ set-printed s Y (keptText (restrict (setOf Y) s))) in
       let one : text ≡ keptText (restrict (setOf X) s) = w .1 ∙ ap (λ (Z : List Label). keptText (restrict (setOf Z) s)) (sym (w .0)) in
       let two : keptText (restrict (setOf Y) s) ≡ keptText (restrict (setOf Y) t) =
-      one-text s t (setOf Y) v (asks .second .valid) (o .allowedSet .commonLeaves) (o .allowedSet .agreed) in
+      one-text s t (setOf Y) (v .different) (asks .second .valid .different) (o .allowedSet .commonLeaves) (o .allowedSet .agreed) in
       record {
         s = s;
         t = t;
