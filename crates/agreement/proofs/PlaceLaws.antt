@@ -15,7 +15,7 @@ use Rattle.trees.proofs.Bools.{bool-cases, clash}
 use Rattle.trees.proofs.LabelLaws.{same-eq}
 use Rattle.lists.specs.ReadList.{joined, startsOf}
 use Rattle.agreement.specs.Closer.{holds}
-use Rattle.agreement.specs.Places.{placeIn, placeOfNumber, placeOfLabel}
+use Rattle.agreement.specs.Places.{placeIn, placeOfNumber, placeOfLabel, BeforeLabel, AfterLabel, LeafShown, Listed}
 use Rattle.agreement.proofs.HoldsLaws.{holds-leaf, holds-cases}
 
 -- a part of a text, and of a part of it
@@ -33,51 +33,80 @@ inner b y a text x p q e f s =
       place = omega (arith, s .place, length-append b (s .before));
     }
 
+before-inner : (b s : List ℕ) → BeforeLabel b → BeforeLabel s → BeforeLabel (b ++ s)
+before-inner b s o (inl e) = subst BeforeLabel (sym (ap (λ (z : List ℕ). b ++ z) e ∙ append-nil b)) o
+before-inner b s o (inr f) =
+    inr (b ++ f .0, f .1, ap (λ (z : List ℕ). b ++ z) (f .2) ∙ sym (append-assoc b (f .0) (f .1 ∷ [])), f .3)
+
+after-inner : (s a : List ℕ) → AfterLabel s → AfterLabel a → AfterLabel (s ++ a)
+after-inner s a (inl e) k = subst AfterLabel (sym (ap (λ (z : List ℕ). z ++ a) e)) k
+after-inner s a (inr f) k = inr (f .0, f .1 ++ a, ap (λ (z : List ℕ). z ++ a) (f .2), f .3)
+
+leaf-inner : (b y a text : List ℕ) (x : Label) (p q : ℕ) → text ≡ b ++ (y ++ a) → q ≡ length b + p → BeforeLabel b → AfterLabel a
+    → LeafShown y p x → LeafShown text q x
+unfolding inner
+leaf-inner b y a text x p q e f o k s =
+    record {
+      shown = inner b y a text x p q e f (s .shown);
+      starts = before-inner b (s .shown .before) o (s .starts);
+      ends = after-inner (s .shown .after) a (s .ends) k;
+    }
+
 -- the place in the node's own text, and where that text starts
-placed : (t : Tree) (x : Label) → holds t x ≡ true → (q : ℕ) → (p : ℕ) × (placeIn t q x ≡ q + p) × Within (written t) p x
+placed : (t : Tree) (x : Label) → holds t x ≡ true → (q : ℕ) → (p : ℕ) × (placeIn t q x ≡ q + p) × LeafShown (written t) p x
 unfolding placeIn written
 placed (leaf y) x h q =
-    let e = holds-leaf y x h in
-    (0, omega arith, record { before = []; after = []; is = sym e ∙ sym (append-nil x); place = refl })
+    let e = holds-leaf y x h in (
+      0,
+      omega arith,
+      record {
+        shown = record { before = []; after = []; is = sym e ∙ sym (append-nil x); place = refl };
+        starts = inl refl;
+        ends = inl refl;
+      },
+    )
 placed (node a b) x h q = go (bool-cases (holds a x)) second (placed a x) (placed b x)
   where
     second : holds a x ≡ false → holds b x ≡ true
     second k = ⊎-elim (λ (z : holds a x ≡ true). clash z k) (λ (z : holds b x ≡ true). z) (holds-cases a b x h)
 
     go : (holds a x ≡ true) ⊎ (holds a x ≡ false) → (holds a x ≡ false → holds b x ≡ true)
-        → (holds a x ≡ true → (r : ℕ) → (p : ℕ) × (placeIn a r x ≡ r + p) × Within (written a) p x)
-        → (holds b x ≡ true → (r : ℕ) → (p : ℕ) × (placeIn b r x ≡ r + p) × Within (written b) p x)
-        → (p : ℕ) × (placeIn (node a b) q x ≡ q + p) × Within (written (node a b)) p x
+        → (holds a x ≡ true → (r : ℕ) → (p : ℕ) × (placeIn a r x ≡ r + p) × LeafShown (written a) p x)
+        → (holds b x ≡ true → (r : ℕ) → (p : ℕ) × (placeIn b r x ≡ r + p) × LeafShown (written b) p x)
+        → (p : ℕ) × (placeIn (node a b) q x ≡ q + p) × LeafShown (written (node a b)) p x
     go (inl k) hb f g =
-        let w = f k (q + 1) in
-        (1 + w .0, rw k (omega (arith, w .1)), inner (40 ∷ []) (written a) (44 ∷ (written b ++ (41 ∷ []))) _ x (w .0) (1 + w .0) refl refl (w .2))
+        let w = f k (q + 1) in (
+          1 + w .0,
+          rw k (omega (arith, w .1)),
+          leaf-inner (40 ∷ []) (written a) (44 ∷ (written b ++ (41 ∷ []))) _ x (w .0) (1 + w .0) refl refl
+              (inr ([], 40, refl, inl refl)) (inr (44, written b ++ (41 ∷ []), refl, inl refl)) (w .2),
+        )
     go (inr k) hb f g =
         let w = g (hb k) (q + 1 + length (written a) + 1) in (
           1 + length (written a) + 1 + w .0,
           rw k (omega (arith, w .1)),
-          inner (40 ∷ (written a ++ (44 ∷ []))) (written b) (41 ∷ []) _ x (w .0) (1 + length (written a) + 1 + w .0)
+          leaf-inner (40 ∷ (written a ++ (44 ∷ []))) (written b) (41 ∷ []) _ x (w .0) (1 + length (written a) + 1 + w .0)
               (ap (λ (l : List ℕ). 40 ∷ l) (sym (append-assoc (written a) (44 ∷ []) (written b ++ (41 ∷ [])))))
               (omega (arith, length-append (written a) (44 ∷ [])))
-              (w .2),
+              (inr (40 ∷ written a, 44, refl, inr refl)) (inr (41, [], refl, inr (inl refl))) (w .2),
         )
 
 -- a label of a tree stands at its place
-pub tree-shown : (t : Tree) (x : Label) → holds t x ≡ true → Within (textOf t) (placeIn t 0 x) x
+pub leaf-shown : (t : Tree) (x : Label) → holds t x ≡ true → LeafShown (textOf t) (placeIn t 0 x) x
 unfolding textOf
-tree-shown t x h =
+leaf-shown t x h =
     let w = placed t x h 0 in
-    inner [] (written t) (59 ∷ []) (written t ++ (59 ∷ [])) x (w .0) (placeIn t 0 x) refl (w .1) (w .2)
+    leaf-inner [] (written t) (59 ∷ []) (written t ++ (59 ∷ [])) x (w .0) (placeIn t 0 x) refl (w .1)
+    (inl refl) (inr (59, [], refl, inr (inr refl))) (w .2)
+
+pub tree-shown : (t : Tree) (x : Label) → holds t x ≡ true → Within (textOf t) (placeIn t 0 x) x
+tree-shown t x h = leaf-shown t x h .shown
 
 -- a part of a part of a text
 pub within-part : (text : List ℕ) (q : ℕ) (y : List ℕ) (p : ℕ) (x : List ℕ) → Within text q y → Within y p x → Within text (q + p) x
 within-part text q y p x w v = inner (w .before) y (w .after) text x p (q + p) (w .is) (ap (λ (k : ℕ). k + p) (w .place)) v
 
 -- the labels of a list
-
--- a label of the list, with what ends it
-pub record Listed (text : List ℕ) (p : ℕ) (x : Label) : Type 0 where
-  pub shown : Within text p x
-  pub ends : (shown .after ≡ []) ⊎ ((rest : List ℕ) × (shown .after ≡ 44 ∷ rest))
 
 listed-later : (y text : List ℕ) (p q : ℕ) (x : Label) → q ≡ length y + 1 + p → Listed text p x → Listed (y ++ (44 ∷ text)) q x
 listed-later y text p q x e l =
@@ -91,7 +120,25 @@ listed-later y text p q x e l =
                 ∙ sym (append-assoc y (44 ∷ l .shown .before) (x ++ l .shown .after));
             place = omega (arith, l .shown .place, length-append y (44 ∷ l .shown .before));
           };
+      starts = later (l .starts);
       ends = l .ends;
+    }
+  where
+    later : {b : List ℕ} → (b ≡ []) ⊎ ((rest : List ℕ) × (b ≡ rest ++ (44 ∷ [])))
+        → (y ++ (44 ∷ b) ≡ []) ⊎ ((rest : List ℕ) × (y ++ (44 ∷ b) ≡ rest ++ (44 ∷ [])))
+    later (inl f) = inr (y, ap (λ (z : List ℕ). y ++ (44 ∷ z)) f)
+    later (inr f) = inr (y ++ (44 ∷ f .0), ap (λ (z : List ℕ). y ++ (44 ∷ z)) (f .1) ∙ sym (append-assoc y (44 ∷ f .0) (44 ∷ [])))
+
+-- the first label of a list
+listed-first : (y : Label) (xs : List Label) → Listed (joined (y ∷ xs)) 0 y
+unfolding joined
+listed-first y [] =
+    record { shown = record { before = []; after = []; is = sym (append-nil y); place = refl }; starts = inl refl; ends = inl refl }
+listed-first y (z ∷ xs) =
+    record {
+      shown = record { before = []; after = 44 ∷ joined (z ∷ xs); is = refl; place = refl };
+      starts = inl refl;
+      ends = inr (joined (z ∷ xs), refl);
     }
 
 listed-at : (xs : List Label) (x : Label) → isIn x xs ≡ true → (q : ℕ) → (p : ℕ) × (placeOfLabel xs q x ≡ q + p) × Listed (joined xs) p x
@@ -101,33 +148,14 @@ listed-at (y ∷ []) x h q = go (bool-cases (sameLabel x y))
   where
     go : (sameLabel x y ≡ true) ⊎ (sameLabel x y ≡ false)
         → (p : ℕ) × (placeOfLabel (y ∷ []) q x ≡ q + p) × Listed (joined (y ∷ [])) p x
-    go (inl k) =
-        let e = same-eq x y k in (
-          0,
-          rw k (omega arith),
-          record { shown = record { before = []; after = []; is = sym e ∙ sym (append-nil x); place = refl }; ends = inl refl },
-        )
+    go (inl k) = (0, rw k (omega arith), subst (Listed (joined (y ∷ [])) 0) (sym (same-eq x y k)) (listed-first y []))
     go (inr k) = clash (rw k at h) refl
 listed-at (y ∷ z ∷ xs) x h q = go (bool-cases (sameLabel x y)) (listed-at (z ∷ xs) x)
   where
     go : (sameLabel x y ≡ true) ⊎ (sameLabel x y ≡ false)
         → (isIn x (z ∷ xs) ≡ true → (r : ℕ) → (p : ℕ) × (placeOfLabel (z ∷ xs) r x ≡ r + p) × Listed (joined (z ∷ xs)) p x)
         → (p : ℕ) × (placeOfLabel (y ∷ z ∷ xs) q x ≡ q + p) × Listed (joined (y ∷ z ∷ xs)) p x
-    go (inl k) f =
-        let e = same-eq x y k in (
-          0,
-          rw k (omega arith),
-          record {
-            shown =
-                record {
-                  before = [];
-                  after = 44 ∷ joined (z ∷ xs);
-                  is = ap (λ (l : List ℕ). l ++ (44 ∷ joined (z ∷ xs))) (sym e);
-                  place = refl;
-                };
-            ends = inr (joined (z ∷ xs), refl);
-          },
-        )
+    go (inl k) f = (0, rw k (omega arith), subst (Listed (joined (y ∷ z ∷ xs)) 0) (sym (same-eq x y k)) (listed-first y (z ∷ xs)))
     go (inr k) f =
         let w = f (rw k at h) (q + length y + 1) in
         (length y + 1 + w .0, rw k (omega (arith, w .1)), listed-later y (joined (z ∷ xs)) (w .0) (length y + 1 + w .0) x refl (w .2))
@@ -139,34 +167,28 @@ list-listed xs x h =
     let e : w .0 ≡ placeOfLabel xs 0 x = omega (arith, w .1) in
     subst (λ (p : ℕ). Listed (joined xs) p x) e (w .2)
 
+pub list-shown : (xs : List Label) (x : Label) → isIn x xs ≡ true → Within (joined xs) (placeOfLabel xs 0 x) x
+list-shown xs x h = list-listed xs x h .shown
+
 -- the label with a number
 
 numbered-at : (xs : List Label) (n : ℕ) → n < length xs → (q : ℕ)
-    → (p : ℕ) × (getD (startsOf xs q) n 0 ≡ q + p) × Within (joined xs) p (getD xs n [])
+    → (p : ℕ) × (getD (startsOf xs q) n 0 ≡ q + p) × Listed (joined xs) p (getD xs n [])
 unfolding startsOf joined
 numbered-at [] n h q = absurd (not-suc-le-zero h)
-numbered-at (y ∷ []) zero h q = (0, omega arith, record { before = []; after = []; is = sym (append-nil y); place = refl })
+numbered-at (y ∷ xs) zero h q = (0, omega arith, listed-first y xs)
 numbered-at (y ∷ []) (suc n) h q = absurd (not-suc-le-zero (le-of-suc-le-suc h))
-numbered-at (y ∷ z ∷ xs) zero h q =
-    (0, omega arith, record { before = []; after = 44 ∷ joined (z ∷ xs); is = refl; place = refl })
 numbered-at (y ∷ z ∷ xs) (suc n) h q =
     let w = numbered-at (z ∷ xs) n (le-of-suc-le-suc h) (q + length y + 1) in
-    let x : Label = getD (z ∷ xs) n [] in (
-      length y + 1 + w .0,
-      w .1 ∙ omega arith,
-      inner (y ++ (44 ∷ [])) (joined (z ∷ xs)) [] (y ++ (44 ∷ joined (z ∷ xs))) x (w .0) (length y + 1 + w .0)
-          (sym (append-assoc y (44 ∷ []) (joined (z ∷ xs) ++ []) ∙ ap (λ (l : List ℕ). y ++ (44 ∷ l)) (append-nil (joined (z ∷ xs)))))
-          (omega (arith, length-append y (44 ∷ [])))
-          (w .2),
-    )
+    (length y + 1 + w .0, w .1 ∙ omega arith, listed-later y (joined (z ∷ xs)) (w .0) (length y + 1 + w .0) (getD (z ∷ xs) n []) refl (w .2))
 
 -- the label with number n stands at its place
-pub number-shown : (xs : List Label) (n : ℕ) → n < length xs → Within (joined xs) (placeOfNumber xs n) (getD xs n [])
+pub number-listed : (xs : List Label) (n : ℕ) → n < length xs → Listed (joined xs) (placeOfNumber xs n) (getD xs n [])
 unfolding placeOfNumber
-number-shown xs n h =
+number-listed xs n h =
     let w = numbered-at xs n h 0 in
     let e : w .0 ≡ getD (startsOf xs 0) n 0 = omega (arith, w .1) in
-    subst (λ (p : ℕ). Within (joined xs) p (getD xs n [])) e (w .2)
+    subst (λ (p : ℕ). Listed (joined xs) p (getD xs n [])) e (w .2)
 
-pub list-shown : (xs : List Label) (x : Label) → isIn x xs ≡ true → Within (joined xs) (placeOfLabel xs 0 x) x
-list-shown xs x h = list-listed xs x h .shown
+pub number-shown : (xs : List Label) (n : ℕ) → n < length xs → Within (joined xs) (placeOfNumber xs n) (getD xs n [])
+number-shown xs n h = number-listed xs n h .shown

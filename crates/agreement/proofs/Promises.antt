@@ -9,14 +9,13 @@ use lib.ListN.{length, getD}
 use Rattle.trees.specs.Label.{Label, distinct, isIn}
 use Rattle.trees.specs.Tree.{Tree, leaves, leafLimit, Valid, Proper, normal}
 use Rattle.trees.specs.Text.{textOf, normalText}
-use Rattle.trees.specs.Words.{Within}
 use Rattle.trees.specs.Reading.{good}
 use Rattle.newick.specs.ReadTree.{readTree}
 use Rattle.lists.specs.ReadList.{joined}
 use Rattle.agreement.specs.Closer.{holds, closer, OneOf, Agree, Common}
 use Rattle.agreement.specs.Restrict.{restrict}
 use Rattle.agreement.specs.SameKept.{SameKept}
-use Rattle.agreement.specs.Places.{placeIn, placeOfNumber, placeOfLabel, keptText}
+use Rattle.agreement.specs.Places.{placeIn, placeOfNumber, placeOfLabel, LeafShown, Listed, keptText}
 use Rattle.agreement.specs.Sets.{increasing, sorted, common, setOf}
 use Rattle.agreement.specs.Weights.{forcedUnit, best}
 use Rattle.agreement.specs.Answer.{Answer, firstLacks, secondLacks, disagree, largest, agreeOn, largestSet, answer}
@@ -33,7 +32,7 @@ use Rattle.agreement.proofs.CloserOnce.{closer-once}
 use Rattle.agreement.proofs.AgreeRestrict.{agree-iff-same}
 use Rattle.agreement.proofs.RestrictText.{kept-none, kept-some, kept-read, one-text}
 use Rattle.agreement.proofs.Recurrence.{best-greatest}
-use Rattle.agreement.proofs.PlaceLaws.{tree-shown, list-shown, number-shown}
+use Rattle.agreement.proofs.PlaceLaws.{leaf-shown, list-listed, number-listed}
 use Rattle.agreement.proofs.Table
 
 -- "Of three different leaves in a binary tree, exactly one pair has its least common ancestor below that of all three"
@@ -122,14 +121,14 @@ module _ (s t : Tree) (K : List Label) (proper : Proper s) (different : distinct
 
 -- where a label stands: a leaf in its tree's text, a label in the text of a list, by itself ("its three labels") and by its number ("its
 -- first byte in K")
-pub leaf-place : (t : Tree) (x : Label) → holds t x ≡ true → Within (textOf t) (placeIn t 0 x) x
-leaf-place = tree-shown
+pub leaf-place : (t : Tree) (x : Label) → holds t x ≡ true → LeafShown (textOf t) (placeIn t 0 x) x
+leaf-place = leaf-shown
 
-pub label-place : (xs : List Label) (x : Label) → isIn x xs ≡ true → Within (joined xs) (placeOfLabel xs 0 x) x
-label-place = list-shown
+pub label-place : (xs : List Label) (x : Label) → isIn x xs ≡ true → Listed (joined xs) (placeOfLabel xs 0 x) x
+label-place = list-listed
 
-pub number-place : (xs : List Label) (n : ℕ) → n < length xs → Within (joined xs) (placeOfNumber xs n) (getD xs n [])
-number-place = number-shown
+pub number-place : (xs : List Label) (n : ℕ) → n < length xs → Listed (joined xs) (placeOfNumber xs n) (getD xs n [])
+number-place = number-listed
 
 -- "The starred cases are shown of the definitions, gathered in one table with one theorem."
 pub starred-promise : map answered rows ≡ map (λ (r : Row). some (r .expected)) rows

@@ -1,13 +1,17 @@
 -- Where the labels of an answer stand in the texts. Scope paper, "Why a job is turned down": the places of 6 and 7 are the
 -- label's "first byte in K".
 use Prim.Native.Nat.{ℕ, _+_}
+use mathlib.Core.Path.{_≡_}
 use mathlib.Core.Bool.{cond}
-use mathlib.Core.List.{List, [], _∷_}
+use mathlib.Core.Logic.{_⊎_}
+use mathlib.Core.List.{List, [], _∷_, _++_}
 use mathlib.Core.Option.{Option, some, none}
 use lib.ListN.{length, getD}
+use Rattle.trees.specs.Bytes.{openByte, closeByte, commaByte, semicolonByte}
 use Rattle.trees.specs.Label.{Label, sameLabel}
 use Rattle.trees.specs.Tree.{Tree, leaf, node}
 use Rattle.trees.specs.Text.{written, normalText}
+use Rattle.trees.specs.Words.{Within}
 use Rattle.lists.specs.ReadList.{startsOf}
 use Rattle.agreement.specs.Closer.{holds}
 
@@ -16,6 +20,19 @@ unfoldable pub placeIn : Tree → ℕ → Label → ℕ
 unfolding holds written
 placeIn (leaf y) p x = p
 placeIn (node a b) p x = cond (holds a x) (placeIn a (p + 1) x) (placeIn b (p + 1 + length (written a) + 1) x)
+
+-- the bytes before a leaf's label, none or up to a `(` or `,`, and those after it, none or from a `,`, `)` or `;`
+abbrev pub BeforeLabel : List ℕ → Type 0
+BeforeLabel b = (b ≡ []) ⊎ ((rest : List ℕ) × (c : ℕ) × (b ≡ rest ++ (c ∷ [])) × ((c ≡ openByte) ⊎ (c ≡ commaByte)))
+
+abbrev pub AfterLabel : List ℕ → Type 0
+AfterLabel a = (a ≡ []) ⊎ ((c : ℕ) × (rest : List ℕ) × (a ≡ c ∷ rest) × ((c ≡ commaByte) ⊎ ((c ≡ closeByte) ⊎ (c ≡ semicolonByte))))
+
+-- a leaf's label stands at place p as a whole, not as a part of a longer one
+pub record LeafShown (text : List ℕ) (p : ℕ) (x : Label) : Type 0 where
+  pub shown : Within text p x
+  pub starts : BeforeLabel (shown .before)
+  pub ends : AfterLabel (shown .after)
 
 -- the first byte of the label with number n in a list's text
 unfoldable pub placeOfNumber : List Label → ℕ → ℕ
@@ -26,6 +43,12 @@ placeOfNumber xs n = getD (startsOf xs 0) n 0
 unfoldable pub placeOfLabel : List Label → ℕ → Label → ℕ
 placeOfLabel [] p x = p
 placeOfLabel (y ∷ ys) p x = cond (sameLabel x y) p (placeOfLabel ys (p + length y + 1) x)
+
+-- a list's label stands at place p as a whole: from the list's start or a `,` to a `,` or the list's end
+pub record Listed (text : List ℕ) (p : ℕ) (x : Label) : Type 0 where
+  pub shown : Within text p x
+  pub starts : (shown .before ≡ []) ⊎ ((rest : List ℕ) × (shown .before ≡ rest ++ (commaByte ∷ [])))
+  pub ends : (shown .after ≡ []) ⊎ ((rest : List ℕ) × (shown .after ≡ commaByte ∷ rest))
 
 -- the text of a restriction: "The empty set of leaves has a text of no bytes"
 unfoldable pub keptText : Option Tree → List ℕ

@@ -19,7 +19,7 @@ use Rattle.trees.proofs.LabelLaws.{same-eq}
 use Rattle.trees.proofs.ListLaws.{at-in}
 use Rattle.lists.specs.ReadList.{joined, padded, listLimit}
 use Rattle.agreement.proofs.SetLaws.{in-head, in-tail}
-use Rattle.agreement.proofs.PlaceLaws.{Listed}
+use Rattle.agreement.specs.Places.{Listed}
 use Rattle.job.specs.Answered.{labelIn}
 use Rattle.job.specs.Areas.{labelsIn, untilComma}
 

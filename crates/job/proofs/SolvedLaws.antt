@@ -27,7 +27,8 @@ use Rattle.agreement.proofs.SetLaws.{within-few}
 use Rattle.mast.specs.Largest.{Solution, solved, clashed, turned, fitted, solutionOf, solveList, solveSecond, solveFirst, task, solve}
 use Rattle.trees.specs.Words.{Within}
 use Rattle.trees.proofs.TreeLaws.{valid-proper}
-use Rattle.agreement.proofs.PlaceLaws.{tree-shown, Listed, list-listed}
+use Rattle.agreement.specs.Places.{Listed}
+use Rattle.agreement.proofs.PlaceLaws.{tree-shown, list-listed}
 use Rattle.job.proofs.ShownLaws.{good-in, good-short}
 
 pub record SolvedBy (first list : List ℕ) (room : ℕ) (s : Tree) (X : List Label) (text : List ℕ) : Type 0 where

@@ -1,4 +1,4 @@
-use mathlib.Core.Path.{_≡_, refl, _∙_, ap}
+use mathlib.Core.Path.{_∙_, ap}
 use Prim.Native.Nat.{ℕ}
 use Rattle.trees.specs.Stored.{partOf, storedBytes, storedOf}
 use Rattle.trees.proofs.StoredLaws.{stored-back}
@@ -7,25 +7,16 @@ use Rattle.job.proofs.AreaLaws.{label-short}
 use borrow.Author.Needs.{needs}
 use Rattle.job.proofs.lines.label_in.Statement.{statement}
 use Rattle.job.proofs.lines.label_in.Tie as tie
-use Rattle.job.proofs.lines.label_in.Reads as reads
-use Rattle.job.proofs.lines.label_in.Lts as lts
-use Rattle.trees.proofs.least.Reads as least-reads
-use Rattle.trees.proofs.part.Reads as part-reads
-use Rattle.trees.proofs.stored.Reads as stored-reads
 
--- src/lines.rt:60:44
 least-requires : tie.Need-least-requires
 least-requires c κs = search needs
 
--- src/lines.rt:60:19
 part-requires : tie.Need-part-requires
 part-requires c κs = search needs
 
--- src/lines.rt:60:5
 stored-requires : tie.Need-stored-requires
 stored-requires c κs = search needs
 
--- src/lines.rt:57:1
 returns : tie.Need-returns
 unfolding labelIn
 returns c =

@@ -1,3 +1,4 @@
+-- `bodies::answer_bodies` meets its contract. Assumes nothing.
 use mathlib.Core.Path.{_∙_, sym, ap}
 use native.Mathlib.Omega.{arith}
 use Rattle.agreement.specs.Sets.{common}
@@ -8,34 +9,22 @@ use Rattle.mast.proofs.BodyLaws.{in-range, by-rank, some-clash, clash-i
 use borrow.Author.Needs.{needs}
 use Rattle.mast.proofs.bodies.answer_bodies.Statement.{statement}
 use Rattle.mast.proofs.bodies.answer_bodies.Tie as tie
-use Rattle.mast.proofs.bodies.answer_bodies.Reads as reads
-use Rattle.mast.proofs.bodies.answer_bodies.Lts as lts
-use Rattle.mast.proofs.bodies.eight.Reads as eight-reads
-use Rattle.mast.proofs.bodies.find_set.Reads as find-set-reads
-use Rattle.mast.proofs.bodies.lacks.Reads as lacks-reads
-use Rattle.mast.proofs.bodies.order_in.Reads as order-in-reads
-use Rattle.mast.proofs.finish.solution.Reads as solution-reads
-use Rattle.mast.proofs.required.mark_required.Reads as mark-required-reads
 
--- src/bodies.rt:167:9
 order-in-requires : tie.Need-order-in-requires
 order-in-requires c κs =
     let p = c .before .before .before .before .before .before .pre in
     (first-few _ _ _ _ _ _ (p .0), p .1 .few)
 
--- src/bodies.rt:169:9
 mark-required-requires : tie.Need-mark-required-requires
 mark-required-requires c κs =
     let p = c .before .before .before .before .before .before .before .before .before .pre in
     (c .before .before .order-in .ensures .0, list-few _ _ _ _ _ _ (p .0))
 
--- src/bodies.rt:171:9
 lacks-requires : tie.Need-lacks-requires
 lacks-requires c κs =
     let p = c .before .before .before .before .before .before .before .before .before .before .before .before .pre in
     omega (arith, c .if1 .taken, list-few _ _ _ _ _ _ (p .0))
 
--- src/bodies.rt:171:9
 returns : tie.Need-returns
 returns c =
     let p = c .before .before .before .before .before .before .before .before .before .before .before .before .before .pre in
@@ -49,7 +38,6 @@ returns c =
       lack-output (b .s) (b .t) (b .K) _ _ _ _ _ f _ _ ∙ ap (λ (x : Solution). outputOf x (c .before .before .before .before .before .before .before .before .before .before .before .before .before .args .out .now)) (sym e),
     )
 
--- src/bodies.rt:174:8
 find-set-requires : tie.Need-find-set-requires
 find-set-requires c κs =
     let p = c .before .before .before .before .before .before .before .before .before .before .before .before .before .before .before .before .pre in
@@ -60,7 +48,6 @@ find-set-requires c κs =
     let a = all-asked _ _ _ _ _ _ _ _ _ o (c .before .before .before .before .before .before .before .before .before .order-in .ensures .0) _ _ k (c .before .before .before .before .if1 .left) (c .before .before .before .before .before .before .mark-required .ensures .0) in
     (some-first _ _ _ _ _ _ _ _ _ _ _ a, some-second _ _ _ _ _ _ _ _ _ _ _ a)
 
--- src/bodies.rt:175:9
 solution-requires : tie.Need-solution-requires
 solution-requires c κs =
     let p = c .before .before .before .before .before .before .before .before .before .before .before .before .before .before .before .before .before .before .before .before .before .pre in
@@ -71,7 +58,6 @@ solution-requires c κs =
     let a = all-asked _ _ _ _ _ _ _ _ _ o (c .before .before .before .before .before .before .before .before .before .before .before .before .before .before .order-in .ensures .0) _ _ k (c .before .before .before .before .before .before .before .before .before .if1 .left) (c .before .before .before .before .before .before .before .before .before .before .before .mark-required .ensures .0) in
     (c .before .before .before .before .before .before .before .before .before .before .before .before .before .before .order-in .ensures .0, in-range _ _ _ _ _ _ _ _ _ _ _ a)
 
--- src/bodies.rt:177:9
 eight-requires : tie.Need-eight-requires
 eight-requires c κs =
     let p = c .before .before .before .before .before .before .before .before .before .before .before .before .before .before .before .before .before .before .before .before .before .pre in
@@ -82,11 +68,9 @@ eight-requires c κs =
     let a = all-asked _ _ _ _ _ _ _ _ _ o (c .before .before .before .before .before .before .before .before .before .before .before .before .before .before .order-in .ensures .0) _ _ k (c .before .before .before .before .before .before .before .before .before .if1 .left) (c .before .before .before .before .before .before .before .before .before .before .before .mark-required .ensures .0) in
     some-clash _ _ _ _ _ _ _ _ _ _ _ a _ _ (c .before .before .before .before .find-set .ensures _ _ _ (a .asked)) (c .before .before .before .if2 .left)
 
--- src/bodies.rt:148:1
 same-length : tie.Need-same-length
 same-length c = search needs
 
--- src/bodies.rt:148:1
 returns-2 : tie.Need-returns-2
 returns-2 c =
     let p = c .before .before .before .before .before .before .before .before .before .before .before .before .before .before .before .before .before .before .before .before .before .before .before .before .pre in
@@ -102,7 +86,6 @@ returns-2 c =
       c .before .before .solution .ensures .1 _ _ r ∙ ap (λ (x : Solution). outputOf x (c .before .before .before .before .before .before .before .before .before .before .before .before .before .before .before .before .before .before .before .before .before .before .before .before .args .out .now)) w,
     )
 
--- src/bodies.rt:148:1
 returns-3 : tie.Need-returns-3
 returns-3 c =
     let p = c .before .before .before .before .before .before .before .before .before .before .before .before .before .before .before .before .before .before .before .before .before .before .pre in

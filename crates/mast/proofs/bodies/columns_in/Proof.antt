@@ -1,22 +1,16 @@
+-- `bodies::columns_in` meets its contract. Assumes nothing.
 use Rattle.mast.proofs.SideLaws.{own-columns, own-rooted, children-low}
 use borrow.Author.Needs.{needs}
 use Rattle.mast.proofs.bodies.columns_in.Statement.{statement}
 use Rattle.mast.proofs.bodies.columns_in.Tie as tie
-use Rattle.mast.proofs.bodies.columns_in.Reads as reads
-use Rattle.mast.proofs.bodies.columns_in.Lts as lts
-use Rattle.mast.proofs.columns.gathered.Reads as gathered-reads
-use Rattle.mast.proofs.ranks.rank_leaves.Reads as rank-leaves-reads
 
--- src/bodies.rt:83:5
 rank-leaves-requires : tie.Need-rank-leaves-requires
 rank-leaves-requires c κs = search needs
 
--- src/bodies.rt:84:5
 gathered-requires : tie.Need-gathered-requires
 gathered-requires c κs =
     children-low _ _ _ (c .before .before .before .before .before .before .before .pre)
 
--- src/bodies.rt:75:1
 returns : tie.Need-returns
 returns c =
     let h = c .before .before .before .before .before .before .before .before .pre in (

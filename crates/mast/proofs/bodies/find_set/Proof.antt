@@ -1,24 +1,17 @@
+-- `bodies::find_set` meets its contract. Assumes nothing.
 use borrow.Author.Needs.{needs}
 use Rattle.mast.proofs.bodies.find_set.Statement.{statement}
 use Rattle.mast.proofs.bodies.find_set.Tie as tie
-use Rattle.mast.proofs.bodies.find_set.Reads as reads
-use Rattle.mast.proofs.bodies.find_set.Lts as lts
-use Rattle.mast.proofs.bodies.columns_in.Reads as columns-in-reads
-use Rattle.mast.proofs.solve.solve_set.Reads as solve-set-reads
 
--- src/bodies.rt:103:17
 columns-in-requires : tie.Need-columns-in-requires
 columns-in-requires c κs = search needs
 
--- src/bodies.rt:104:18
 columns-in-requires-2 : tie.Need-columns-in-requires-2
 columns-in-requires-2 c κs = search needs
 
--- src/bodies.rt:105:5
 solve-set-requires : tie.Need-solve-set-requires
 solve-set-requires c κs = search needs
 
--- src/bodies.rt:88:1
 returns : tie.Need-returns
 returns c =
     λ s t xs a.

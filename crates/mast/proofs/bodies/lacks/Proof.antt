@@ -1,4 +1,5 @@
-use mathlib.Core.Path.{_≡_, sym, _∙_, ap}
+-- `bodies::lacks` meets its contract. Assumes nothing.
+use mathlib.Core.Path.{_∙_, ap}
 use native.Mathlib.Omega.{arith}
 use Rattle.agreement.specs.Closer.{holds}
 use Rattle.mast.proofs.BodyLaws.{lack-answered}
@@ -6,46 +7,31 @@ use Rattle.mast.proofs.RequiredLaws.{list-part}
 use borrow.Author.Needs.{needs}
 use Rattle.mast.proofs.bodies.lacks.Statement.{statement}
 use Rattle.mast.proofs.bodies.lacks.Tie as tie
-use Rattle.mast.proofs.bodies.lacks.Reads as reads
-use Rattle.mast.proofs.bodies.lacks.Lts as lts
-use Rattle.mast.proofs.bodies.lacking.Reads as lacking-reads
-use Rattle.mast.proofs.finish.without_set.Reads as without-set-reads
-use Rattle.mast.proofs.required.holds_label.Reads as holds-label-reads
-use Rattle.trees.proofs.part.Reads as part-reads
 
--- src/bodies.rt:147:14
 mul-at : tie.Need-mul-at
 mul-at c = search needs
 
--- src/bodies.rt:147:14
 array-read-at : tie.Need-array-read-at
 array-read-at c = search needs
 
--- src/bodies.rt:148:64
 mul-part : tie.Need-mul-part
 mul-part c = search needs
 
--- src/bodies.rt:148:64
 array-read-part : tie.Need-array-read-part
 array-read-part c = search needs
 
--- src/bodies.rt:148:42
 part-requires : tie.Need-part-requires
 part-requires c κs = search needs
 
--- src/bodies.rt:148:9
 holds-label-requires : tie.Need-holds-label-requires
 holds-label-requires c κs = search needs
 
--- src/bodies.rt:150:17
 lacking-requires : tie.Need-lacking-requires
 lacking-requires c κs = search needs
 
--- src/bodies.rt:149:5
 without-set-requires : tie.Need-without-set-requires
 without-set-requires c κs = search needs
 
--- src/bodies.rt:139:1
 returns : tie.Need-returns
 returns c =
     λ s t xs room h.

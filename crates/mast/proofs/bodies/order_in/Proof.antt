@@ -1,5 +1,5 @@
-use Rattle.trees.specs.Arrays.{nodesOf}
-use mathlib.Core.Path.{_≡_, subst}
+-- `bodies::order_in` meets its contract. Assumes nothing.
+use mathlib.Core.Path.{subst}
 use Prim.Native.Nat.{ℕ}
 use Rattle.mast.specs.Ranks.{Partners}
 use Rattle.mast.proofs.RankLaws.{collected-all}
@@ -7,29 +7,19 @@ use Rattle.mast.proofs.BodyLaws.{first-leaves, second-leaves}
 use borrow.Author.Needs.{needs}
 use Rattle.mast.proofs.bodies.order_in.Statement.{statement}
 use Rattle.mast.proofs.bodies.order_in.Tie as tie
-use Rattle.mast.proofs.bodies.order_in.Reads as reads
-use Rattle.mast.proofs.bodies.order_in.Lts as lts
-use Rattle.mast.proofs.ranks.common_order.Reads as common-order-reads
-use Rattle.mast.proofs.ranks.partners.Reads as partners-reads
-use Rattle.mast.proofs.required.entries_at.Reads as entries-at-reads
 
--- src/bodies.rt:53:19
 partners-requires : tie.Need-partners-requires
 partners-requires c κs = search needs
 
--- src/bodies.rt:54:9
 common-order-requires : tie.Need-common-order-requires
 common-order-requires c κs = search needs
 
--- src/bodies.rt:55:34
 slice-aggregate-entries-at : tie.Need-slice-aggregate-entries-at
 slice-aggregate-entries-at c = search needs
 
--- src/bodies.rt:55:15
 entries-at-requires : tie.Need-entries-at-requires
 entries-at-requires c κs = search needs
 
--- src/bodies.rt:37:1
 returns : tie.Need-returns
 returns c = (
   c .before .before .before .common-order .ensures .0,

@@ -1,16 +1,12 @@
-use Prim.Native.Nat.{ℕ, _-_, _≤_, _%_}
-use lib.ListN.{set, replicate}
-use mathlib.Core.Path.{_≡_, subst, sym}
+-- `columns::gathered` meets its contract. Assumes nothing.
+use Prim.Native.Nat.{_-_, _≤_}
+use mathlib.Core.Path.{_≡_}
 use native.Mathlib.Omega.{arith}
 use Rattle.mast.specs.Columns.{Gathered}
 use borrow.Author.Needs.{needs}
 use Rattle.mast.proofs.ColumnLaws.{gathered-none, gathered-next}
 use Rattle.mast.proofs.columns.gathered.Statement.{statement}
 use Rattle.mast.proofs.columns.gathered.Tie as tie
-use Rattle.mast.proofs.columns.gathered.Reads as reads
-use Rattle.mast.proofs.columns.gathered.Lts as lts
-use Rattle.mast.proofs.columns.narrow.Reads as narrow-reads
-use Rattle.mast.proofs.columns.put_node.Reads as put-node-reads
 
 abbrev Inv-loop : tie.InvT-loop
 Inv-loop left right rank nodes columns₀ u₀ columns u =
@@ -20,76 +16,62 @@ abbrev μ-loop : tie.MeasureT-loop
 μ-loop left right rank nodes columns₀ u₀ columns u =
     nodes - u
 
--- src/columns.rt:73:20
 narrow-requires : tie.Need-narrow-requires Inv-loop μ-loop
 narrow-requires c κs =
     search needs
 
--- src/columns.rt:73:5
 array-write-columns : tie.Need-array-write-columns Inv-loop μ-loop
 array-write-columns c =
     omega arith
 
--- src/columns.rt:75:5
 loop-holds : tie.Need-loop-holds Inv-loop μ-loop
 loop-holds c =
     (omega arith, rw (c .narrow .ensures) (gathered-none _ _ _ _))
 
--- src/columns.rt:76:35
 mul-put-node : tie.Need-mul-put-node Inv-loop μ-loop
 mul-put-node c =
     omega arith
 
--- src/columns.rt:76:35
 element-copy-out-put-node : tie.Need-element-copy-out-put-node Inv-loop μ-loop
 element-copy-out-put-node c =
     omega arith
 
--- src/columns.rt:76:44
 mul-put-node-2 : tie.Need-mul-put-node-2 Inv-loop μ-loop
 mul-put-node-2 c =
     omega arith
 
--- src/columns.rt:76:44
 element-copy-out-put-node-2 : tie.Need-element-copy-out-put-node-2 Inv-loop μ-loop
 element-copy-out-put-node-2 c =
     omega arith
 
--- src/columns.rt:76:54
 mul-put-node-3 : tie.Need-mul-put-node-3 Inv-loop μ-loop
 mul-put-node-3 c =
     omega arith
 
--- src/columns.rt:76:54
 element-copy-out-put-node-3 : tie.Need-element-copy-out-put-node-3 Inv-loop μ-loop
 element-copy-out-put-node-3 c =
     omega arith
 
--- src/columns.rt:76:9
 put-node-requires : tie.Need-put-node-requires Inv-loop μ-loop
 put-node-requires c κs =
     let p = c .before .before .before .before .before .before .before .pre in
     let h = c .before .before .before .before .loop-test .taken in
     (omega (arith, h, p .0), p .1 _ h .0, p .1 _ h .1)
 
--- src/columns.rt:77:9
 add-u : tie.Need-add-u Inv-loop μ-loop
 add-u c =
     omega arith
 
--- src/columns.rt:75:5
 loop-less : tie.Need-loop-less Inv-loop μ-loop
 loop-less c =
     omega arith
 
--- src/columns.rt:75:5
 loop-again : tie.Need-loop-again Inv-loop μ-loop
 loop-again c =
     let p = c .before .before .before .before .before .before .before .before .pre in
     let h = c .before .before .before .before .before .loop-test .taken in
     (omega arith, gathered-next _ _ _ _ _ _ _ h (p .0) (p .1) (c .before .before .before .before .before .before .loop .inv .1) (c .put-node .ensures))
 
--- src/columns.rt:63:1
 returns : tie.Need-returns Inv-loop μ-loop
 returns c =
     let e : c .before .loop .u ≡ c .before .before .before .args .nodes = omega (arith, c .loop-test .left, c .before .loop .inv .0) in

@@ -1,3 +1,4 @@
+-- `columns::joined_need` meets its contract. Assumes nothing.
 use mathlib.Core.Path.{refl}
 use native.Mathlib.Omega.{arith}
 use borrow.Author.Tests.{lt-ltb, le-ltb}
@@ -5,32 +6,25 @@ use Rattle.mast.specs.Table.{joinNeed}
 use borrow.Author.Needs.{needs}
 use Rattle.mast.proofs.columns.joined_need.Statement.{statement}
 use Rattle.mast.proofs.columns.joined_need.Tie as tie
-use Rattle.mast.proofs.columns.joined_need.Reads as reads
-use Rattle.mast.proofs.columns.joined_need.Lts as lts
 
--- src/columns.rt:23:9
 returns : tie.Need-returns
 unfolding joinNeed
 returns c =
     rw (lt-ltb _ _ (c .if1 .taken)) refl
 
--- src/columns.rt:26:9
 returns-2 : tie.Need-returns-2
 unfolding joinNeed
 returns-2 c =
     rw (le-ltb _ _ (c .before .if1 .left), lt-ltb _ _ (c .if2 .taken)) refl
 
--- src/columns.rt:28:18
 add-result : tie.Need-add-result
 add-result c = search needs
 
--- src/columns.rt:19:1
 returns-3 : tie.Need-returns-3
 unfolding joinNeed
 returns-3 c =
     rw (le-ltb _ _ (c .before .before .if1 .left), le-ltb _ _ (c .before .if2 .left)) (omega arith)
 
--- src/columns.rt:19:1
 returns-4 : tie.Need-returns-4
 unfolding joinNeed
 returns-4 c =

@@ -1,12 +1,10 @@
 -- `fill::fill_node` meets its contract. It is a cycle of one: the measure is the node's number, and children have smaller numbers.
 -- Assumes nothing.
-use Prim.Native.Nat.{ℕ, _<_, _≤_}
-use mathlib.Core.Path.{_≡_, sym, _∙_}
-use mathlib.Core.Bool.{Bool, true, false, cond}
+use Prim.Native.Nat.{ℕ, _<_}
+use mathlib.Core.Path.{sym, _∙_}
 use native.Mathlib.Omega.{arith}
 use borrow.Fn.Kinds.{In}
 use borrow.Fn.PlainCycle.{Measures, is, falls, and}
-use Rattle.mast.specs.Table.{columnAt, nodesAt, Shape, SplitAt}
 use Rattle.mast.proofs.FillLaws.{leaf-made, node-made, nothing-made, child-low}
 use Rattle.mast.proofs.fill.fill_node.Reads as fill-node
 use Rattle.mast.proofs.fill.fill_node.Kinds as fill-node-kinds

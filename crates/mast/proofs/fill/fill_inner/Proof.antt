@@ -1,17 +1,15 @@
-use Prim.Native.Nat.{ℕ, _+_, _-_, _*_, _<_, _≤_}
-use mathlib.Core.Path.{_≡_, refl, sym, _∙_, ap, ap₂}
+-- `fill::fill_inner` meets its contract. Assumes nothing.
+use Prim.Native.Nat.{ℕ, _-_, _<_, _≤_}
+use mathlib.Core.Path.{_≡_, _∙_}
 use mathlib.Core.List.{List}
 use native.Mathlib.Omega.{arith}
 use lib.ListN.{length, length-set}
 use Rattle.trees.specs.Label.{Label}
-use Rattle.trees.specs.Tree.{Tree, leaf, node, leaves, leafLimit}
-use Rattle.mast.specs.Table.{valueAt, Outside, Columns, RowTo, Light, RankIs, weightPlace}
-use Rattle.mast.proofs.RowLaws.{outside-store, row-store, other-row, outside-none, inner-right, leaf-right}
+use Rattle.trees.specs.Tree.{Tree, node, leaves, leafLimit}
+use Rattle.mast.specs.Table.{Outside, Columns, RowTo, Light}
+use Rattle.mast.proofs.RowLaws.{outside-store, row-store, other-row, outside-none, inner-right}
 use Rattle.mast.proofs.fill.fill_inner.Statement.{statement}
 use Rattle.mast.proofs.fill.fill_inner.Tie as tie
-use Rattle.mast.proofs.fill.fill_inner.Reads as reads
-use Rattle.mast.proofs.fill.fill_inner.Lts as lts
-use Rattle.mast.proofs.fill.pair_cell.Reads as pair-cell-reads
 
 abbrev Inv-loop : tie.InvT-loop
 Inv-loop second nodes high₀ low₀ left right row a b u v₀ high low v =
@@ -27,22 +25,18 @@ abbrev μ-loop : tie.MeasureT-loop
 μ-loop second nodes high₀ low₀ left right row a b u v₀ high low v =
     nodes - v
 
--- src/fill.rt:205:13
 mul-a : tie.Need-mul-a Inv-loop μ-loop
 mul-a c =
     omega arith
 
--- src/fill.rt:206:13
 mul-b : tie.Need-mul-b Inv-loop μ-loop
 mul-b c =
     omega arith
 
--- src/fill.rt:207:13
 mul-u : tie.Need-mul-u Inv-loop μ-loop
 mul-u c =
     omega arith
 
--- src/fill.rt:209:5
 loop-holds : tie.Need-loop-holds Inv-loop μ-loop
 loop-holds c = (
   omega arith,
@@ -52,56 +46,46 @@ loop-holds c = (
   λ ts w p q sh sl two light few nl nr rl rr. record { right = λ v h. absurd (omega arith) },
 )
 
--- src/fill.rt:210:13
 pair-cell-requires : tie.Need-pair-cell-requires Inv-loop μ-loop
 pair-cell-requires c κs =
     let s = c .before .before .before .before .pre in
     let h = c .before .before .loop-test .taken in
     ((omega arith, omega arith, omega arith, omega (arith, h, s .0 .few)), (s .0 .left-low _ h, s .0 .right-low _ h))
 
--- src/fill.rt:211:14
 add-high : tie.Need-add-high Inv-loop μ-loop
 add-high c =
     omega arith
 
--- src/fill.rt:211:9
 mul-high : tie.Need-mul-high Inv-loop μ-loop
 mul-high c =
     omega arith
 
--- src/fill.rt:211:9
 element-write-high : tie.Need-element-write-high Inv-loop μ-loop
 element-write-high c =
     let s = c .before .before .before .before .before .pre in
     omega (arith, s .0 .few)
 
--- src/fill.rt:212:13
 add-low : tie.Need-add-low Inv-loop μ-loop
 add-low c =
     omega arith
 
--- src/fill.rt:212:9
 mul-low : tie.Need-mul-low Inv-loop μ-loop
 mul-low c =
     omega arith
 
--- src/fill.rt:212:9
 element-write-low : tie.Need-element-write-low Inv-loop μ-loop
 element-write-low c =
     let s = c .before .before .before .before .before .pre in
     omega (arith, s .0 .few)
 
--- src/fill.rt:213:9
 add-v : tie.Need-add-v Inv-loop μ-loop
 add-v c =
     omega arith
 
--- src/fill.rt:209:5
 loop-less : tie.Need-loop-less Inv-loop μ-loop
 loop-less c =
     omega arith
 
--- src/fill.rt:209:5
 loop-again : tie.Need-loop-again Inv-loop μ-loop
 loop-again c =
     let s = c .before .before .before .before .before .pre in
@@ -122,7 +106,6 @@ loop-again c =
           ∙ inner-right _ _ ts w two _ _ v h p q _ _ light few (λ k l. one .right k (omega arith)) (λ k l. other .right k (omega arith)) (here .right)),
     )
 
--- src/fill.rt:185:1
 returns : tie.Need-returns Inv-loop μ-loop
 returns c =
     let i = c .before .loop .inv in

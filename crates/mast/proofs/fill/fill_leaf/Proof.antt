@@ -1,18 +1,16 @@
-use Prim.Native.Nat.{ℕ, _+_, _-_, _*_, _<_, _≤_}
-use mathlib.Core.Path.{_≡_, refl, sym, _∙_, ap, ap₂}
+-- `fill::fill_leaf` meets its contract. Assumes nothing.
+use Prim.Native.Nat.{ℕ, _-_, _<_, _≤_}
+use mathlib.Core.Path.{_≡_, _∙_}
 use mathlib.Core.List.{List}
 use native.Mathlib.Omega.{arith}
 use lib.ListN.{length, length-set}
 use Rattle.trees.specs.Label.{Label}
-use Rattle.trees.specs.Tree.{Tree, leaf, node, leaves, leafLimit}
-use Rattle.mast.specs.Table.{valueAt, Outside, Columns, RowTo, Light, RankIs, weightPlace}
+use Rattle.trees.specs.Tree.{Tree, leaf}
+use Rattle.mast.specs.Table.{valueAt, Outside, Columns, RowTo, RankIs, weightPlace}
 use Rattle.mast.proofs.RowLaws.{outside-store, row-store, outside-none, leaf-right, rank-kept}
 use mathlib.Core.Logic.{inr}
 use Rattle.mast.proofs.fill.fill_leaf.Statement.{statement}
 use Rattle.mast.proofs.fill.fill_leaf.Tie as tie
-use Rattle.mast.proofs.fill.fill_leaf.Reads as reads
-use Rattle.mast.proofs.fill.fill_leaf.Lts as lts
-use Rattle.mast.proofs.fill.leaf_cell.Reads as leaf-cell-reads
 
 abbrev Inv-loop : tie.InvT-loop
 Inv-loop second nodes high₀ low₀ rank row u v₀ high low v =
@@ -26,66 +24,54 @@ abbrev μ-loop : tie.MeasureT-loop
 μ-loop second nodes high₀ low₀ rank row u v₀ high low v =
     nodes - v
 
--- src/fill.rt:174:13
 mul-u : tie.Need-mul-u Inv-loop μ-loop
 mul-u c =
     omega arith
 
--- src/fill.rt:176:5
 loop-holds : tie.Need-loop-holds Inv-loop μ-loop
 loop-holds c =
     (omega arith, λ e. e, λ e. e, outside-none _ _ _, λ ts w x sh sl two is. record { right = λ v h. absurd (omega arith) })
 
--- src/fill.rt:177:13
 leaf-cell-requires : tie.Need-leaf-cell-requires Inv-loop μ-loop
 leaf-cell-requires c κs =
     let s = c .before .before .before .before .pre in
     let h = c .before .before .loop-test .taken in
     ((s .1 .0, omega arith, omega (arith, h, s .0 .few)), (s .0 .left-low _ h, s .0 .right-low _ h))
 
--- src/fill.rt:178:14
 add-high : tie.Need-add-high Inv-loop μ-loop
 add-high c =
     omega arith
 
--- src/fill.rt:178:9
 mul-high : tie.Need-mul-high Inv-loop μ-loop
 mul-high c =
     omega arith
 
--- src/fill.rt:178:9
 element-write-high : tie.Need-element-write-high Inv-loop μ-loop
 element-write-high c =
     let s = c .before .before .before .before .before .pre in
     omega (arith, s .0 .few)
 
--- src/fill.rt:179:13
 add-low : tie.Need-add-low Inv-loop μ-loop
 add-low c =
     omega arith
 
--- src/fill.rt:179:9
 mul-low : tie.Need-mul-low Inv-loop μ-loop
 mul-low c =
     omega arith
 
--- src/fill.rt:179:9
 element-write-low : tie.Need-element-write-low Inv-loop μ-loop
 element-write-low c =
     let s = c .before .before .before .before .before .pre in
     omega (arith, s .0 .few)
 
--- src/fill.rt:180:9
 add-v : tie.Need-add-v Inv-loop μ-loop
 add-v c =
     omega arith
 
--- src/fill.rt:176:5
 loop-less : tie.Need-loop-less Inv-loop μ-loop
 loop-less c =
     omega arith
 
--- src/fill.rt:176:5
 loop-again : tie.Need-loop-again Inv-loop μ-loop
 loop-again c =
     let s = c .before .before .before .before .before .pre in
@@ -103,7 +89,6 @@ loop-again c =
           (c .leaf-cell .ensures ∙ leaf-right _ _ ts w two _ _ v h x _ (rank-kept _ _ ts w x _ _ _ (i .3 .same _ (inr (omega arith))) is) (here .right)),
     )
 
--- src/fill.rt:156:1
 returns : tie.Need-returns Inv-loop μ-loop
 returns c =
     let i = c .before .loop .inv in

@@ -1,73 +1,54 @@
+-- `fill::inner_cell` meets its contract. Assumes nothing.
 use Prim.Native.Nat.{ℕ, max}
-use mathlib.Core.Path.{_≡_, refl, sym, _∙_, ap, ap₂}
+use mathlib.Core.Path.{_≡_, _∙_, ap₂}
 use native.Mathlib.Omega.{arith}
 use Rattle.mast.specs.Table.{innerAt}
 use borrow.Author.Needs.{needs}
 use Rattle.mast.proofs.fill.inner_cell.Statement.{statement}
 use Rattle.mast.proofs.fill.inner_cell.Tie as tie
-use Rattle.mast.proofs.fill.inner_cell.Reads as reads
-use Rattle.mast.proofs.fill.inner_cell.Lts as lts
-use Rattle.mast.proofs.fill.heavier.Reads as heavier-reads
-use Rattle.mast.proofs.fill.heavier_cell.Reads as heavier-cell-reads
-use Rattle.mast.proofs.fill.joined_cells.Reads as joined-cells-reads
 
--- src/fill.rt:100:41
 add-heavier-cell : tie.Need-add-heavier-cell
 add-heavier-cell c = search needs
 
--- src/fill.rt:100:48
 add-heavier-cell-2 : tie.Need-add-heavier-cell-2
 add-heavier-cell-2 c = search needs
 
--- src/fill.rt:100:9
 heavier-cell-requires : tie.Need-heavier-cell-requires
 heavier-cell-requires c κs = search needs
 
--- src/fill.rt:101:44
 add-joined-cells : tie.Need-add-joined-cells
 add-joined-cells c = search needs
 
--- src/fill.rt:101:51
 add-joined-cells-2 : tie.Need-add-joined-cells-2
 add-joined-cells-2 c = search needs
 
--- src/fill.rt:101:9
 joined-cells-requires : tie.Need-joined-cells-requires
 joined-cells-requires c κs = search needs
 
--- src/fill.rt:102:43
 add-joined-cells-3 : tie.Need-add-joined-cells-3
 add-joined-cells-3 c = search needs
 
--- src/fill.rt:102:50
 add-joined-cells-4 : tie.Need-add-joined-cells-4
 add-joined-cells-4 c = search needs
 
--- src/fill.rt:102:9
 joined-cells-requires-2 : tie.Need-joined-cells-requires-2
 joined-cells-requires-2 c κs = search needs
 
--- src/fill.rt:104:42
 add-heavier-cell-3 : tie.Need-add-heavier-cell-3
 add-heavier-cell-3 c = search needs
 
--- src/fill.rt:104:49
 add-heavier-cell-4 : tie.Need-add-heavier-cell-4
 add-heavier-cell-4 c = search needs
 
--- src/fill.rt:104:9
 heavier-cell-requires-2 : tie.Need-heavier-cell-requires-2
 heavier-cell-requires-2 c κs = search needs
 
--- src/fill.rt:105:28
 heavier-requires : tie.Need-heavier-requires
 heavier-requires c κs = search needs
 
--- src/fill.rt:105:13
 heavier-requires-2 : tie.Need-heavier-requires-2
 heavier-requires-2 c κs = search needs
 
--- src/fill.rt:105:5
 heavier-requires-3 : tie.Need-heavier-requires-3
 heavier-requires-3 c κs = search needs
 

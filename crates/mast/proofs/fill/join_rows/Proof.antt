@@ -1,38 +1,28 @@
-use mathlib.Core.Path.{_≡_, refl, sym, _∙_, ap, subst}
+-- `fill::join_rows` meets its contract. Assumes nothing.
 use borrow.Author.Needs.{needs}
 use Rattle.mast.proofs.fill.join_rows.Statement.{statement}
 use Rattle.mast.proofs.fill.join_rows.Tie as tie
-use Rattle.mast.proofs.fill.join_rows.Reads as reads
-use Rattle.mast.proofs.fill.join_rows.Lts as lts
-use Rattle.mast.proofs.fill.fill_inner.Reads as fill-inner-reads
-use Rattle.mast.proofs.fill.wide.Reads as wide-reads
 
--- src/fill.rt:250:22
 element-copy-out-wide : tie.Need-element-copy-out-wide
 element-copy-out-wide c = search needs
 
--- src/fill.rt:250:9
 wide-requires : tie.Need-wide-requires
 wide-requires c κs = search needs
 
--- src/fill.rt:252:9
 fill-inner-requires : tie.Need-fill-inner-requires
 fill-inner-requires c κs =
     let s = c .before .before .before .before .before .pre in
     (rw (c .before .before .before .wide .ensures) (s .0), (s .1 .2, s .1 .1, s .1 .0))
 
--- src/fill.rt:254:9
 fill-inner-requires-2 : tie.Need-fill-inner-requires-2
 fill-inner-requires-2 c κs =
     let s = c .before .before .before .before .before .pre in
     (rw (c .before .before .before .wide .ensures) (s .0), (s .1 .1, s .1 .2, s .1 .0))
 
--- src/fill.rt:237:1
 returns : tie.Need-returns
 returns c =
     rw (← c .before .before .before .before .wide .ensures, c .before .before .before .if1 .taken) (c .fill-inner .ensures)
 
--- src/fill.rt:237:1
 returns-2 : tie.Need-returns-2
 returns-2 c =
     rw (← c .before .before .before .before .wide .ensures, c .before .before .before .if1 .left) (c .fill-inner2 .ensures)

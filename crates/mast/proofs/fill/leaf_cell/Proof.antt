@@ -1,33 +1,23 @@
-use mathlib.Core.Path.{_≡_, refl, sym, _∙_, ap, ap₂}
-use native.Mathlib.Omega.{arith}
+-- `fill::leaf_cell` meets its contract. Assumes nothing.
+use mathlib.Core.Path.{refl, sym, _∙_}
 use borrow.Author.Tests.{eq-eqb, ne-eqb}
 use Rattle.mast.specs.Table.{leafCellAt}
 use borrow.Author.Needs.{needs}
 use Rattle.mast.proofs.fill.leaf_cell.Statement.{statement}
 use Rattle.mast.proofs.fill.leaf_cell.Tie as tie
-use Rattle.mast.proofs.fill.leaf_cell.Reads as reads
-use Rattle.mast.proofs.fill.leaf_cell.Lts as lts
-use Rattle.mast.proofs.fill.cell.Reads as cell-reads
-use Rattle.mast.proofs.fill.column.Reads as column-reads
-use Rattle.mast.proofs.fill.heavier_cell.Reads as heavier-cell-reads
 
--- src/fill.rt:152:9
 column-requires : tie.Need-column-requires
 column-requires c κs = search needs
 
--- src/fill.rt:154:13
 column-requires-2 : tie.Need-column-requires-2
 column-requires-2 c κs = search needs
 
--- src/fill.rt:156:36
 add-cell : tie.Need-add-cell
 add-cell c = search needs
 
--- src/fill.rt:156:13
 cell-requires : tie.Need-cell-requires
 cell-requires c κs = search needs
 
--- src/fill.rt:156:13
 returns : tie.Need-returns
 unfolding leafCellAt
 returns c =
@@ -37,7 +27,6 @@ returns c =
     )
     (c .cell .ensures)
 
--- src/fill.rt:158:9
 returns-2 : tie.Need-returns-2
 unfolding leafCellAt
 returns-2 c =
@@ -48,23 +37,18 @@ returns-2 c =
     )
     refl
 
--- src/fill.rt:160:9
 column-requires-3 : tie.Need-column-requires-3
 column-requires-3 c κs = search needs
 
--- src/fill.rt:161:29
 add-heavier-cell : tie.Need-add-heavier-cell
 add-heavier-cell c = search needs
 
--- src/fill.rt:161:36
 add-heavier-cell-2 : tie.Need-add-heavier-cell-2
 add-heavier-cell-2 c = search needs
 
--- src/fill.rt:161:5
 heavier-cell-requires : tie.Need-heavier-cell-requires
 heavier-cell-requires c κs = search needs
 
--- src/fill.rt:140:1
 returns-3 : tie.Need-returns-3
 unfolding leafCellAt
 returns-3 c =

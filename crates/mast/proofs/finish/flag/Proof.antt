@@ -1,20 +1,16 @@
+-- `finish::flag` meets its contract. Assumes nothing.
 use mathlib.Core.Path.{refl}
 use borrow.Author.Needs.{needs}
 use Rattle.mast.proofs.finish.flag.Statement.{statement}
 use Rattle.mast.proofs.finish.flag.Tie as tie
-use Rattle.mast.proofs.finish.flag.Reads as reads
-use Rattle.mast.proofs.finish.flag.Lts as lts
 
--- src/finish.rt:79:9
 element-write-kept : tie.Need-element-write-kept
 element-write-kept c = search needs
 
--- src/finish.rt:74:1
 returns : tie.Need-returns
 returns c =
     rw (c .if1 .taken) refl
 
--- src/finish.rt:74:1
 returns-2 : tie.Need-returns-2
 returns-2 c = search needs
 

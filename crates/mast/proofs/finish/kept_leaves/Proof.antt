@@ -1,4 +1,5 @@
-use Prim.Native.Nat.{ℕ, _-_}
+-- `finish::kept_leaves` meets its contract. Assumes nothing.
+use Prim.Native.Nat.{_-_}
 use mathlib.Core.Path.{_≡_, refl, subst}
 use mathlib.Core.Bool.{false}
 use mathlib.Core.List.{List}
@@ -11,9 +12,6 @@ use Rattle.mast.specs.Finish.{Flagged}
 use Rattle.mast.proofs.FinishLaws.{chosenTo, flags-none, flags-next, flags-length, chosen-all}
 use Rattle.mast.proofs.finish.kept_leaves.Statement.{statement}
 use Rattle.mast.proofs.finish.kept_leaves.Tie as tie
-use Rattle.mast.proofs.finish.kept_leaves.Reads as reads
-use Rattle.mast.proofs.finish.kept_leaves.Lts as lts
-use Rattle.mast.proofs.finish.flag.Reads as flag-reads
 
 abbrev Inv-loop : tie.InvT-loop
 Inv-loop order1 m chosen kept₀ r₀ kept r =
@@ -23,42 +21,34 @@ abbrev μ-loop : tie.MeasureT-loop
 μ-loop order1 m chosen kept₀ r₀ kept r =
     m - r
 
--- src/finish.rt:91:5
 loop-holds : tie.Need-loop-holds Inv-loop μ-loop
 loop-holds c =
     (refl, λ s C v k n. flags-none s v (c .args .chosen .now) C)
 
--- src/finish.rt:92:14
 element-copy-out-flag : tie.Need-element-copy-out-flag Inv-loop μ-loop
 element-copy-out-flag c =
     omega arith
 
--- src/finish.rt:92:25
 mul-flag : tie.Need-mul-flag Inv-loop μ-loop
 mul-flag c =
     omega arith
 
--- src/finish.rt:92:25
 element-copy-out-flag-2 : tie.Need-element-copy-out-flag-2 Inv-loop μ-loop
 element-copy-out-flag-2 c =
     omega arith
 
--- src/finish.rt:92:9
 flag-requires : tie.Need-flag-requires Inv-loop μ-loop
 flag-requires c κs =
     c .before .before .before .before .before .pre .1 _ (omega arith)
 
--- src/finish.rt:93:9
 add-r : tie.Need-add-r Inv-loop μ-loop
 add-r c =
     omega arith
 
--- src/finish.rt:91:5
 loop-less : tie.Need-loop-less Inv-loop μ-loop
 loop-less c =
     omega arith
 
--- src/finish.rt:91:5
 loop-again : tie.Need-loop-again Inv-loop μ-loop
 loop-again c =
     let a = c .before .before .before .before .before .before .args in (
@@ -68,7 +58,6 @@ loop-again c =
           (c .before .before .before .before .before .loop .inv .1 s C v k n) (c .flag .ensures),
     )
 
--- src/finish.rt:84:1
 returns : tie.Need-returns Inv-loop μ-loop
 returns c =
     let a = c .before .before .args in

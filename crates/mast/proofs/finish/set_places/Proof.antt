@@ -1,4 +1,5 @@
-use Prim.Native.Nat.{ℕ, _-_, _≤_}
+-- `finish::set_places` meets its contract. Assumes nothing.
+use Prim.Native.Nat.{_-_, _≤_}
 use mathlib.Core.Path.{_≡_, _∙_, ap}
 use mathlib.Core.List.{List}
 use lib.ListN.{length}
@@ -12,9 +13,6 @@ use Rattle.mast.specs.Finish.{placesFrom}
 use Rattle.mast.proofs.FinishLaws.{chosenTo, places-none, places-next, stored-count, chosen-all}
 use Rattle.mast.proofs.finish.set_places.Statement.{statement}
 use Rattle.mast.proofs.finish.set_places.Tie as tie
-use Rattle.mast.proofs.finish.set_places.Reads as reads
-use Rattle.mast.proofs.finish.set_places.Lts as lts
-use Rattle.mast.proofs.finish.add_place.Reads as add-place-reads
 
 abbrev Inv-loop : tie.InvT-loop
 Inv-loop order1 m chosen start1 size1 start₀ size₀ count₀ r₀ start size count r =
@@ -25,62 +23,50 @@ abbrev μ-loop : tie.MeasureT-loop
 μ-loop order1 m chosen start1 size1 start₀ size₀ count₀ r₀ start size count r =
     m - r
 
--- src/finish.rt:65:5
 loop-holds : tie.Need-loop-holds Inv-loop μ-loop
 loop-holds c =
     (omega arith, λ s C v e f k n. places-none s (c .args .chosen .now) C)
 
--- src/finish.rt:66:17
 mul-u : tie.Need-mul-u Inv-loop μ-loop
 mul-u c =
     omega arith
 
--- src/finish.rt:66:17
 element-copy-out-u : tie.Need-element-copy-out-u Inv-loop μ-loop
 element-copy-out-u c =
     omega arith
 
--- src/finish.rt:67:27
 element-copy-out-add-place : tie.Need-element-copy-out-add-place Inv-loop μ-loop
 element-copy-out-add-place c =
     omega arith
 
--- src/finish.rt:67:38
 mul-add-place : tie.Need-mul-add-place Inv-loop μ-loop
 mul-add-place c =
     omega (arith, c .before .before .before .before .pre .1 (c .before .before .before .loop .r) (omega arith))
 
--- src/finish.rt:67:38
 element-copy-out-add-place-2 : tie.Need-element-copy-out-add-place-2 Inv-loop μ-loop
 element-copy-out-add-place-2 c =
     c .before .before .before .before .pre .1 (c .before .before .before .loop .r) (omega arith)
 
--- src/finish.rt:67:49
 mul-add-place-2 : tie.Need-mul-add-place-2 Inv-loop μ-loop
 mul-add-place-2 c =
     omega (arith, c .before .before .before .before .before .pre .1 (c .before .before .before .before .loop .r) (omega arith))
 
--- src/finish.rt:67:49
 element-copy-out-add-place-3 : tie.Need-element-copy-out-add-place-3 Inv-loop μ-loop
 element-copy-out-add-place-3 c =
     c .before .before .before .before .before .pre .1 (c .before .before .before .before .loop .r) (omega arith)
 
--- src/finish.rt:67:9
 add-place-requires : tie.Need-add-place-requires Inv-loop μ-loop
 add-place-requires c κs =
     omega arith
 
--- src/finish.rt:68:9
 add-r : tie.Need-add-r Inv-loop μ-loop
 add-r c =
     omega arith
 
--- src/finish.rt:65:5
 loop-less : tie.Need-loop-less Inv-loop μ-loop
 loop-less c =
     omega arith
 
--- src/finish.rt:65:5
 loop-again : tie.Need-loop-again Inv-loop μ-loop
 loop-again c =
     let a = c .before .before .before .before .before .before .before .before .before .args in (
@@ -90,7 +76,6 @@ loop-again c =
           (rw (e, f) at (c .add-place .ensures)),
     )
 
--- src/finish.rt:49:1
 returns : tie.Need-returns Inv-loop μ-loop
 returns c =
     let a = c .before .before .args in

@@ -1,3 +1,4 @@
+-- `ranks::add_common` meets its contract. Assumes nothing.
 use Prim.Native.Nat.{_+_}
 use native.Mathlib.Omega.{arith}
 use Rattle.mast.specs.Ranks.{commonFrom}
@@ -5,29 +6,21 @@ use Rattle.mast.proofs.RankLaws.{collected-full, collected-none, collec
 use borrow.Author.Needs.{needs}
 use Rattle.mast.proofs.ranks.add_common.Statement.{statement}
 use Rattle.mast.proofs.ranks.add_common.Tie as tie
-use Rattle.mast.proofs.ranks.add_common.Reads as reads
-use Rattle.mast.proofs.ranks.add_common.Lts as lts
-use Rattle.mast.proofs.ranks.insert_leaf.Reads as insert-leaf-reads
 
--- src/ranks.rt:170:9
 returns : tie.Need-returns
 returns c =
     (omega arith, λ s t left nodes o vt b h p k. collected-full o vt h p k _ b (c .if1 .taken))
 
--- src/ranks.rt:173:9
 returns-2 : tie.Need-returns-2
 returns-2 c =
     (omega arith, λ s t left nodes o vt b h p k. collected-none o vt h p k (c .if2 .taken))
 
--- src/ranks.rt:175:5
 insert-leaf-requires : tie.Need-insert-leaf-requires
 insert-leaf-requires c κs = search needs
 
--- src/ranks.rt:176:5
 add-result : tie.Need-add-result
 add-result c = search needs
 
--- src/ranks.rt:152:1
 returns-3 : tie.Need-returns-3
 returns-3 c = (
   omega arith,

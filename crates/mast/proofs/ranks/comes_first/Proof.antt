@@ -1,39 +1,30 @@
-use mathlib.Core.Path.{_≡_, sym, _∙_}
+-- `ranks::comes_first` meets its contract. Assumes nothing.
+use mathlib.Core.Path.{sym, _∙_}
 use Rattle.trees.proofs.LabelLaws.{order-less, equal-before, greater-before}
 use borrow.Author.Needs.{needs}
 use Rattle.mast.proofs.ranks.comes_first.Statement.{statement}
 use Rattle.mast.proofs.ranks.comes_first.Tie as tie
-use Rattle.mast.proofs.ranks.comes_first.Reads as reads
-use Rattle.mast.proofs.ranks.comes_first.Lts as lts
-use Rattle.trees.proofs.compare_stored.Reads as compare-stored-reads
 
--- src/ranks.rt:74:9
 compare-stored-requires : tie.Need-compare-stored-requires
 compare-stored-requires c κs = search needs
 
--- src/ranks.rt:76:24
 enum-told : tie.Need-enum-told
 enum-told c = search needs
 
--- src/ranks.rt:77:25
 enum-told-2 : tie.Need-enum-told-2
 enum-told-2 c = search needs
 
--- src/ranks.rt:78:27
 enum-told-3 : tie.Need-enum-told-3
 enum-told-3 c = search needs
 
--- src/ranks.rt:71:1
 returns : tie.Need-returns
 returns c =
     sym (order-less _ _ (sym (c .before .before .compare-stored .ensures) ∙ c .enum-told .given .1))
 
--- src/ranks.rt:71:1
 returns-2 : tie.Need-returns-2
 returns-2 c =
     sym (equal-before _ _ (sym (c .before .before .compare-stored .ensures) ∙ c .enum-told2 .given .1))
 
--- src/ranks.rt:71:1
 returns-3 : tie.Need-returns-3
 returns-3 c =
     sym (greater-before _ _ (sym (c .before .before .compare-stored .ensures) ∙ c .enum-told3 .given .1))

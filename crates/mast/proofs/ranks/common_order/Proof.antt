@@ -1,6 +1,6 @@
+-- `ranks::common_order` meets its contract. Assumes nothing.
 use Prim.Native.Nat.{ℕ, _-_, _+_, _<_, _≤_}
 use mathlib.Core.Path.{_≡_, refl, subst}
-use mathlib.Core.List.{List}
 use native.Mathlib.Omega.{arith}
 use borrow.Author.Needs.{needs}
 use Rattle.trees.specs.Tree.{Tree, Valid}
@@ -9,10 +9,6 @@ use Rattle.mast.specs.Ranks.{Partners, mostCommon, Collected}
 use Rattle.mast.proofs.RankLaws.{collected-start, node-partner}
 use Rattle.mast.proofs.ranks.common_order.Statement.{statement}
 use Rattle.mast.proofs.ranks.common_order.Tie as tie
-use Rattle.mast.proofs.ranks.common_order.Reads as reads
-use Rattle.mast.proofs.ranks.common_order.Lts as lts
-use Rattle.mast.proofs.ranks.add_common.Reads as add-common-reads
-use Rattle.mast.proofs.ranks.leaf_partner.Reads as leaf-partner-reads
 
 abbrev Inv-loop : tie.InvT-loop
 Inv-loop text1 partner order1₀ most left1 start1 size1 m₀ u₀ order1 m u =
@@ -23,51 +19,41 @@ abbrev μ-loop : tie.MeasureT-loop
 μ-loop text1 partner order1₀ most left1 start1 size1 m₀ u₀ order1 m u =
     u
 
--- src/ranks.rt:200:5
 loop-holds : tie.Need-loop-holds Inv-loop μ-loop
 loop-holds c =
     (omega arith, omega arith, λ s t o vt b p. collected-start s t _ _ (o .nodes-is) refl)
 
--- src/ranks.rt:201:9
 sub-u : tie.Need-sub-u Inv-loop μ-loop
 sub-u c =
     omega arith
 
--- src/ranks.rt:202:30
 mul-leaf-partner : tie.Need-mul-leaf-partner Inv-loop μ-loop
 mul-leaf-partner c =
     omega arith
 
--- src/ranks.rt:202:30
 array-read-leaf-partner : tie.Need-array-read-leaf-partner Inv-loop μ-loop
 array-read-leaf-partner c =
     omega arith
 
--- src/ranks.rt:202:43
 mul-leaf-partner-2 : tie.Need-mul-leaf-partner-2 Inv-loop μ-loop
 mul-leaf-partner-2 c =
     omega arith
 
--- src/ranks.rt:202:43
 element-copy-out-leaf-partner : tie.Need-element-copy-out-leaf-partner Inv-loop μ-loop
 element-copy-out-leaf-partner c =
     omega arith
 
--- src/ranks.rt:202:13
 leaf-partner-requires : tie.Need-leaf-partner-requires Inv-loop μ-loop
 leaf-partner-requires c κs = search needs
 
--- src/ranks.rt:203:9
 add-common-requires : tie.Need-add-common-requires Inv-loop μ-loop
 add-common-requires c κs =
     omega arith
 
--- src/ranks.rt:200:5
 loop-less : tie.Need-loop-less Inv-loop μ-loop
 loop-less c =
     omega arith
 
--- src/ranks.rt:200:5
 loop-again : tie.Need-loop-again Inv-loop μ-loop
 loop-again c =
     let i = c .before .before .before .before .before .before .before .loop .inv in
@@ -80,7 +66,6 @@ loop-again c =
           (subst (λ (n : ℕ). Collected s t n (c .before .before .before .before .before .before .before .loop .order1) (c .before .before .before .before .before .before .before .loop .m)) u-is (i .2 s t o vt b p)),
     )
 
--- src/ranks.rt:181:1
 returns : tie.Need-returns Inv-loop μ-loop
 returns c =
     let i = c .before .loop .inv in

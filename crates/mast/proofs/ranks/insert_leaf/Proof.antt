@@ -1,29 +1,21 @@
-use mathlib.Core.Path.{_≡_, ap, subst}
+-- `ranks::insert_leaf` meets its contract. Assumes nothing.
+use mathlib.Core.Path.{ap, subst}
 use Rattle.trees.specs.Label.{Label}
 use Rattle.trees.specs.Stored.{storedBytes}
 use Rattle.mast.specs.Ranks.{Place}
 use borrow.Author.Needs.{needs}
 use Rattle.mast.proofs.ranks.insert_leaf.Statement.{statement}
 use Rattle.mast.proofs.ranks.insert_leaf.Tie as tie
-use Rattle.mast.proofs.ranks.insert_leaf.Reads as reads
-use Rattle.mast.proofs.ranks.insert_leaf.Lts as lts
-use Rattle.mast.proofs.ranks.open_at.Reads as open-at-reads
-use Rattle.mast.proofs.ranks.place_of.Reads as place-of-reads
-use Rattle.trees.proofs.stored_leaf.Reads as stored-leaf-reads
 
--- src/ranks.rt:138:9
 stored-leaf-requires : tie.Need-stored-leaf-requires
 stored-leaf-requires c κs = search needs
 
--- src/ranks.rt:139:9
 place-of-requires : tie.Need-place-of-requires
 place-of-requires c κs = search needs
 
--- src/ranks.rt:140:5
 open-at-requires : tie.Need-open-at-requires
 open-at-requires c κs = search needs
 
--- src/ranks.rt:124:1
 returns : tie.Need-returns
 returns c =
     λ t left nodes C o inc e n size.

@@ -1,5 +1,6 @@
-use Prim.Native.Nat.{ℕ, _-_, _<_, _≤_}
-use mathlib.Core.Path.{_≡_, _∙_, sym, ap, subst}
+-- `ranks::partners` meets its contract. Assumes nothing.
+use Prim.Native.Nat.{ℕ, _-_, _≤_}
+use mathlib.Core.Path.{_≡_, _∙_, subst}
 use mathlib.Core.List.{List}
 use lib.ListN.{length, length-set, length-replicate}
 use native.Mathlib.Omega.{arith}
@@ -11,10 +12,6 @@ use Rattle.mast.specs.Ranks.{Partners, PartnerIs}
 use Rattle.mast.proofs.RankLaws.{partners-none, partners-next, own-part, own-leaf-at}
 use Rattle.mast.proofs.ranks.partners.Statement.{statement}
 use Rattle.mast.proofs.ranks.partners.Tie as tie
-use Rattle.mast.proofs.ranks.partners.Reads as reads
-use Rattle.mast.proofs.ranks.partners.Lts as lts
-use Rattle.mast.proofs.ranks.look_up.Reads as look-up-reads
-use Rattle.trees.proofs.leaf_label.Reads as leaf-label-reads
 
 abbrev Inv-loop : tie.InvT-loop
 Inv-loop first tree1 second tree2 start1 size1 left2 start2 size2 partner₀ u₀ partner u =
@@ -25,52 +22,42 @@ abbrev μ-loop : tie.MeasureT-loop
 μ-loop first tree1 second tree2 start1 size1 left2 start2 size2 partner₀ u₀ partner u =
     tree1 .nodes - u
 
--- src/ranks.rt:63:5
 loop-holds : tie.Need-loop-holds Inv-loop μ-loop
 loop-holds c =
     (omega arith, length-replicate {A = ℕ} 159 159, λ s t left1 o q. partners-none s t _)
 
--- src/ranks.rt:64:46
 slice-aggregate-leaf-label : tie.Need-slice-aggregate-leaf-label Inv-loop μ-loop
 slice-aggregate-leaf-label c =
     search needs
 
--- src/ranks.rt:64:55
 slice-aggregate-leaf-label-2 : tie.Need-slice-aggregate-leaf-label-2 Inv-loop μ-loop
 slice-aggregate-leaf-label-2 c =
     search needs
 
--- src/ranks.rt:64:13
 leaf-label-requires : tie.Need-leaf-label-requires Inv-loop μ-loop
 leaf-label-requires c κs =
     search needs
 
--- src/ranks.rt:65:22
 look-up-requires : tie.Need-look-up-requires Inv-loop μ-loop
 look-up-requires c κs =
     search needs
 
--- src/ranks.rt:65:9
 mul-partner : tie.Need-mul-partner Inv-loop μ-loop
 mul-partner c =
     omega arith
 
--- src/ranks.rt:65:9
 array-write-partner : tie.Need-array-write-partner Inv-loop μ-loop
 array-write-partner c =
     omega arith
 
--- src/ranks.rt:66:9
 add-u : tie.Need-add-u Inv-loop μ-loop
 add-u c =
     omega arith
 
--- src/ranks.rt:63:5
 loop-less : tie.Need-loop-less Inv-loop μ-loop
 loop-less c =
     omega arith
 
--- src/ranks.rt:63:5
 loop-again : tie.Need-loop-again Inv-loop μ-loop
 loop-again c =
     let i = c .before .before .before .before .before .before .before .before .before .loop .inv in (
@@ -84,7 +71,6 @@ loop-again c =
           (i .2 s t left1 o q),
     )
 
--- src/ranks.rt:44:1
 returns : tie.Need-returns Inv-loop μ-loop
 returns c =
     λ s t o q.

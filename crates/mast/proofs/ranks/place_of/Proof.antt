@@ -1,8 +1,9 @@
+-- `ranks::place_of` meets its contract. Assumes nothing.
 use Prim.Native.Nat.{ℕ, _-_, _+_, _/_, _<_, _≤_}
 use mathlib.Core.Path.{_≡_, _∙_, sym, ap}
 use mathlib.Core.Bool.{true}
-use mathlib.Core.List.{List, []}
-use lib.ListN.{length, getD}
+use mathlib.Core.List.{List}
+use lib.ListN.{length}
 use native.Mathlib.Omega.{arith}
 use borrow.Author.Needs.{needs}
 use Rattle.trees.specs.Label.{Label, labelLess}
@@ -14,10 +15,6 @@ use Rattle.mast.specs.Engine.{OwnLeaves}
 use Rattle.mast.proofs.RankLaws.{Halved, halved-all, halved-low, halved-high, halved-place, stored-at}
 use Rattle.mast.proofs.ranks.place_of.Statement.{statement}
 use Rattle.mast.proofs.ranks.place_of.Tie as tie
-use Rattle.mast.proofs.ranks.place_of.Reads as reads
-use Rattle.mast.proofs.ranks.place_of.Lts as lts
-use Rattle.mast.proofs.ranks.comes_first.Reads as comes-first-reads
-use Rattle.trees.proofs.stored_leaf.Reads as stored-leaf-reads
 
 abbrev Inv-loop : tie.InvT-loop
 Inv-loop text start size order m label low₀ high₀ low high =
@@ -28,47 +25,38 @@ abbrev μ-loop : tie.MeasureT-loop
 μ-loop text start size order m label low₀ high₀ low high =
     high - low
 
--- src/ranks.rt:99:5
 loop-holds : tie.Need-loop-holds Inv-loop μ-loop
 loop-holds c =
     (omega arith, omega arith, λ t left nodes C o i e n. halved-all _ C _ e)
 
--- src/ranks.rt:100:26
 sub-mid : tie.Need-sub-mid Inv-loop μ-loop
 sub-mid c =
     omega arith
 
--- src/ranks.rt:100:19
 add-mid : tie.Need-add-mid Inv-loop μ-loop
 add-mid c =
     omega arith
 
--- src/ranks.rt:101:69
 mul-stored-leaf : tie.Need-mul-stored-leaf Inv-loop μ-loop
 mul-stored-leaf c =
     omega arith
 
--- src/ranks.rt:101:69
 element-copy-out-stored-leaf : tie.Need-element-copy-out-stored-leaf Inv-loop μ-loop
 element-copy-out-stored-leaf c =
     omega arith
 
--- src/ranks.rt:101:31
 stored-leaf-requires : tie.Need-stored-leaf-requires Inv-loop μ-loop
 stored-leaf-requires c κs =
     search needs
 
--- src/ranks.rt:101:12
 comes-first-requires : tie.Need-comes-first-requires Inv-loop μ-loop
 comes-first-requires c κs =
     search needs
 
--- src/ranks.rt:99:5
 loop-less : tie.Need-loop-less Inv-loop μ-loop
 loop-less c =
     omega arith
 
--- src/ranks.rt:99:5
 loop-again : tie.Need-loop-again Inv-loop μ-loop
 loop-again c =
     let mid = c .before .before .before .before .before .before .before .loop .low + (c .before .before .before .before .before .before .before .loop .high - c .before .before .before .before .before .before .before .loop .low) / 2 in (
@@ -82,17 +70,14 @@ loop-again c =
           (c .before .before .before .before .before .before .before .loop .inv .2 t left nodes C o i e n),
     )
 
--- src/ranks.rt:104:19
 add-low : tie.Need-add-low Inv-loop μ-loop
 add-low c =
     omega arith
 
--- src/ranks.rt:99:5
 loop-less-2 : tie.Need-loop-less-2 Inv-loop μ-loop
 loop-less-2 c =
     omega arith
 
--- src/ranks.rt:99:5
 loop-again-2 : tie.Need-loop-again-2 Inv-loop μ-loop
 loop-again-2 c =
     let mid = c .before .before .before .before .before .before .before .loop .low + (c .before .before .before .before .before .before .before .loop .high - c .before .before .before .before .before .before .before .loop .low) / 2 in (
@@ -106,7 +91,6 @@ loop-again-2 c =
           (c .before .before .before .before .before .before .before .loop .inv .2 t left nodes C o i e n),
     )
 
--- src/ranks.rt:83:1
 returns : tie.Need-returns Inv-loop μ-loop
 returns c =
     let i = c .before .loop .inv in (

@@ -1,31 +1,22 @@
+-- `required::clash_places` meets its contract. Assumes nothing.
 use mathlib.Core.Path.{_∙_}
 use Rattle.mast.proofs.ClashLaws.{first-placed, second-placed, third-placed, three-places}
 use borrow.Author.Needs.{needs}
 use Rattle.mast.proofs.required.clash_places.Statement.{statement}
 use Rattle.mast.proofs.required.clash_places.Tie as tie
-use Rattle.mast.proofs.required.clash_places.Reads as reads
-use Rattle.mast.proofs.required.clash_places.Lts as lts
-use Rattle.mast.proofs.required.place_at.Reads as place-at-reads
-use Rattle.mast.proofs.required.required_ranks.Reads as required-ranks-reads
-use Rattle.triples.proofs.first_clash.Reads as first-clash-reads
 
--- src/required.rt:165:17
 required-ranks-requires : tie.Need-required-ranks-requires
 required-ranks-requires c κs = search needs
 
--- src/required.rt:166:17
 entries-at-requires : tie.Need-entries-at-requires
 entries-at-requires c κs = search needs
 
--- src/required.rt:167:17
 entries-at-requires-2 : tie.Need-entries-at-requires-2
 entries-at-requires-2 c κs = search needs
 
--- src/required.rt:168:9
 first-clash-requires : tie.Need-first-clash-requires
 first-clash-requires c κs = search needs
 
--- src/required.rt:170:16
 place-at-requires : tie.Need-place-at-requires
 place-at-requires c κs =
     let h = c .before .before .before .before .before .before .before .before .before .before .before .before .before .before .before .before .before .pre in
@@ -33,7 +24,6 @@ place-at-requires c κs =
     (c .before .before .before .before .before .before .before .entries-at2 .ensures) (c .before .before .first-clash .ensures .1) in
     (p .small, p .rank-small, p .some-number, p .number-small)
 
--- src/required.rt:171:17
 place-at-requires-2 : tie.Need-place-at-requires-2
 place-at-requires-2 c κs =
     let h = c .before .before .before .before .before .before .before .before .before .before .before .before .before .before .before .before .before .before .before .before .pre in
@@ -41,7 +31,6 @@ place-at-requires-2 c κs =
     (c .before .before .before .before .before .before .before .before .before .before .entries-at2 .ensures) (c .before .before .before .before .before .first-clash .ensures .1) in
     (p .small, p .rank-small, p .some-number, p .number-small)
 
--- src/required.rt:172:16
 place-at-requires-3 : tie.Need-place-at-requires-3
 place-at-requires-3 c κs =
     let h = c .before .before .before .before .before .before .before .before .before .before .before .before .before .before .before .before .before .before .before .before .before .before .before .pre in
@@ -49,7 +38,6 @@ place-at-requires-3 c κs =
     (c .before .before .before .before .before .before .before .before .before .before .before .before .before .entries-at2 .ensures) (c .before .before .before .before .before .before .before .before .first-clash .ensures .1) in
     (p .small, p .rank-small, p .some-number, p .number-small)
 
--- src/required.rt:147:1
 returns : tie.Need-returns
 returns c =
     λ s t K x y z h.

@@ -1,13 +1,10 @@
-use Prim.Native.Nat.{ℕ, _-_, _<_, _≤_}
-use mathlib.Core.Path.{_≡_, _∙_}
+-- `required::entries_at` meets its contract. Assumes nothing.
+use Prim.Native.Nat.{_-_, _≤_}
 use native.Mathlib.Omega.{arith}
 use borrow.Author.Needs.{needs}
 use Rattle.mast.proofs.RequiredLaws.{EntriesTo, entries-none, entries-next}
 use Rattle.mast.proofs.required.entries_at.Statement.{statement}
 use Rattle.mast.proofs.required.entries_at.Tie as tie
-use Rattle.mast.proofs.required.entries_at.Reads as reads
-use Rattle.mast.proofs.required.entries_at.Lts as lts
-use Rattle.trees.proofs.entry.Reads as entry-reads
 
 abbrev Inv-loop : tie.InvT-loop
 Inv-loop places values count found₀ i₀ found i =
@@ -17,52 +14,42 @@ abbrev μ-loop : tie.MeasureT-loop
 μ-loop places values count found₀ i₀ found i =
     count - i
 
--- src/required.rt:137:5
 loop-holds : tie.Need-loop-holds Inv-loop μ-loop
 loop-holds c =
     (omega arith, entries-none _ _)
 
--- src/required.rt:138:41
 mul-entry : tie.Need-mul-entry Inv-loop μ-loop
 mul-entry c =
     omega arith
 
--- src/required.rt:138:41
 element-copy-out-entry : tie.Need-element-copy-out-entry Inv-loop μ-loop
 element-copy-out-entry c =
     omega arith
 
--- src/required.rt:138:20
 entry-requires : tie.Need-entry-requires Inv-loop μ-loop
 entry-requires c κs =
     search needs
 
--- src/required.rt:138:9
 mul-found : tie.Need-mul-found Inv-loop μ-loop
 mul-found c =
     omega arith
 
--- src/required.rt:138:9
 array-write-found : tie.Need-array-write-found Inv-loop μ-loop
 array-write-found c =
     omega arith
 
--- src/required.rt:139:9
 add-i : tie.Need-add-i Inv-loop μ-loop
 add-i c =
     omega arith
 
--- src/required.rt:137:5
 loop-less : tie.Need-loop-less Inv-loop μ-loop
 loop-less c =
     omega arith
 
--- src/required.rt:137:5
 loop-again : tie.Need-loop-again Inv-loop μ-loop
 loop-again c =
     (omega arith, entries-next (c .before .before .before .loop .i) _ _ _ _ (omega arith) (c .entry .ensures) (c .before .before .before .loop .inv .1))
 
--- src/required.rt:131:1
 returns : tie.Need-returns Inv-loop μ-loop
 returns c =
     λ i h. c .before .loop .inv .1 .each i (omega (arith, c .loop-test .left))

@@ -1,19 +1,15 @@
-use mathlib.Core.Path.{_≡_, _∙_, ap}
+-- `required::holds_label` meets its contract. Assumes nothing.
+use mathlib.Core.Path.{_∙_, ap}
 use Prim.Native.Nat.{ℕ}
 use lib.Dec.{ltb}
 use Rattle.mast.proofs.RequiredLaws.{search-holds}
 use borrow.Author.Needs.{needs}
 use Rattle.mast.proofs.required.holds_label.Statement.{statement}
 use Rattle.mast.proofs.required.holds_label.Tie as tie
-use Rattle.mast.proofs.required.holds_label.Reads as reads
-use Rattle.mast.proofs.required.holds_label.Lts as lts
-use Rattle.leaves.proofs.find_leaf.Reads as find-leaf-reads
 
--- src/required.rt:91:5
 find-leaf-requires : tie.Need-find-leaf-requires
 find-leaf-requires c κs = search needs
 
--- src/required.rt:83:1
 returns : tie.Need-returns
 returns c =
     λ t o. ap (λ (u : ℕ). ltb u (c .before .before .before .before .before .before .before .before .before .args .tree .nodes)) (c .find-leaf .ensures) ∙ search-holds o (c .before .before .before .before .before .before .before .before .before .args .label .now)

@@ -1,8 +1,9 @@
-use Prim.Native.Nat.{ℕ, _-_, _<_, _≤_, _+_}
-use mathlib.Core.Path.{_≡_, sym, _∙_, ap, subst}
+-- `required::mark_required` meets its contract. Assumes nothing.
+use Prim.Native.Nat.{ℕ, _-_, _<_, _≤_}
+use mathlib.Core.Path.{_≡_, _∙_, subst}
 use mathlib.Core.Bool.{true, false}
-use mathlib.Core.List.{List, []}
-use lib.ListN.{length, getD}
+use mathlib.Core.List.{List}
+use lib.ListN.{length}
 use native.Mathlib.Omega.{arith}
 use borrow.Author.Needs.{needs}
 use Rattle.trees.specs.Label.{Label, isIn}
@@ -10,15 +11,10 @@ use Rattle.trees.specs.Tree.{Tree}
 use Rattle.agreement.specs.Sets.{increasing}
 use Rattle.leaves.specs.Numbered.{Numbered}
 use Rattle.mast.specs.Engine.{OwnLeaves, OwnList}
-use Rattle.mast.specs.Required.{FoundRank, Marks}
+use Rattle.mast.specs.Required.{Marks}
 use Rattle.mast.proofs.RequiredLaws.{list-part, marks-none, marks-next}
 use Rattle.mast.proofs.required.mark_required.Statement.{statement}
 use Rattle.mast.proofs.required.mark_required.Tie as tie
-use Rattle.mast.proofs.required.mark_required.Reads as reads
-use Rattle.mast.proofs.required.mark_required.Lts as lts
-use Rattle.mast.proofs.columns.narrow.Reads as narrow-reads
-use Rattle.mast.proofs.required.rank_in.Reads as rank-in-reads
-use Rattle.trees.proofs.part.Reads as part-reads
 
 abbrev Inv-loop : tie.InvT-loop
 Inv-loop text1 order1 m list places number₀ start1 size1 starts sizes k₀ number k =
@@ -29,42 +25,34 @@ abbrev μ-loop : tie.MeasureT-loop
 μ-loop text1 order1 m list places number₀ start1 size1 starts sizes k₀ number k =
     places .count - k
 
--- src/required.rt:71:5
 loop-holds : tie.Need-loop-holds Inv-loop μ-loop
 loop-holds c =
     (omega arith, λ s left nodes C K o l i e n. marks-none C K)
 
--- src/required.rt:72:78
 mul-part : tie.Need-mul-part Inv-loop μ-loop
 mul-part c =
     omega arith
 
--- src/required.rt:72:78
 array-read-part : tie.Need-array-read-part Inv-loop μ-loop
 array-read-part c =
     omega arith
 
--- src/required.rt:72:89
 mul-part-2 : tie.Need-mul-part-2 Inv-loop μ-loop
 mul-part-2 c =
     omega arith
 
--- src/required.rt:72:89
 array-read-part-2 : tie.Need-array-read-part-2 Inv-loop μ-loop
 array-read-part-2 c =
     omega arith
 
--- src/required.rt:72:60
 part-requires : tie.Need-part-requires Inv-loop μ-loop
 part-requires c κs =
     search needs
 
--- src/required.rt:72:13
 rank-in-requires : tie.Need-rank-in-requires Inv-loop μ-loop
 rank-in-requires c κs =
     c .before .before .before .before .before .before .before .before .before .before .before .before .before .pre .0
 
--- src/required.rt:74:13
 returns : tie.Need-returns Inv-loop μ-loop
 returns c = (
   omega arith,
@@ -79,32 +67,26 @@ returns c = (
       },
 )
 
--- src/required.rt:76:28
 add-narrow : tie.Need-add-narrow Inv-loop μ-loop
 add-narrow c =
     omega arith
 
--- src/required.rt:76:21
 narrow-requires : tie.Need-narrow-requires Inv-loop μ-loop
 narrow-requires c κs =
     search needs
 
--- src/required.rt:76:9
 element-write-number : tie.Need-element-write-number Inv-loop μ-loop
 element-write-number c =
     omega (arith, c .before .before .rank-in .ensures .0, c .before .if2 .left, c .before .before .before .before .before .before .before .before .before .before .before .before .before .before .before .before .pre .0)
 
--- src/required.rt:77:9
 add-k : tie.Need-add-k Inv-loop μ-loop
 add-k c =
     omega arith
 
--- src/required.rt:71:5
 loop-less : tie.Need-loop-less Inv-loop μ-loop
 loop-less c =
     omega arith
 
--- src/required.rt:71:5
 loop-again : tie.Need-loop-again Inv-loop μ-loop
 loop-again c = (
   omega arith,
@@ -117,7 +99,6 @@ loop-again c = (
       (omega (arith, l .count-is)) (omega (arith, c .before .before .before .before .before .before .before .before .before .before .before .before .before .before .before .before .pre .1)) low (f .at low ∙ x) (c .narrow .ensures) (c .before .before .before .before .before .before .before .before .loop .inv .1 s left nodes C K o l i e n),
 )
 
--- src/required.rt:49:1
 returns-2 : tie.Need-returns-2 Inv-loop μ-loop
 returns-2 c = (
   omega arith,

@@ -1,7 +1,7 @@
+-- `required::rank_in` meets its contract. Assumes nothing.
 use Prim.Native.Nat.{ℕ, _-_, _<_, _≤_}
 use mathlib.Core.Path.{_≡_, sym, _∙_, ap}
 use mathlib.Core.List.{List, []}
-use mathlib.Core.Bool.{Bool}
 use lib.ListN.{length, getD}
 use native.Mathlib.Omega.{arith}
 use borrow.Author.Needs.{needs}
@@ -12,10 +12,6 @@ use Rattle.mast.specs.Engine.{OwnLeaves}
 use Rattle.mast.proofs.RequiredLaws.{rank-here, not-here, rank-missing, past-next}
 use Rattle.mast.proofs.required.rank_in.Statement.{statement}
 use Rattle.mast.proofs.required.rank_in.Tie as tie
-use Rattle.mast.proofs.required.rank_in.Reads as reads
-use Rattle.mast.proofs.required.rank_in.Lts as lts
-use Rattle.trees.proofs.leaf_label.Reads as leaf-label-reads
-use Rattle.trees.proofs.same_label.Reads as same-label-reads
 
 abbrev Inv-loop : tie.InvT-loop
 Inv-loop text1 start1 size1 order1 m label r₀ r =
@@ -26,32 +22,26 @@ abbrev μ-loop : tie.MeasureT-loop
 μ-loop text1 start1 size1 order1 m label r₀ r =
     m - r
 
--- src/required.rt:38:5
 loop-holds : tie.Need-loop-holds Inv-loop μ-loop
 loop-holds c =
     (omega arith, λ s left nodes C o e n q h. absurd (omega arith))
 
--- src/required.rt:39:70
 mul-leaf-label : tie.Need-mul-leaf-label Inv-loop μ-loop
 mul-leaf-label c =
     omega arith
 
--- src/required.rt:39:70
 element-copy-out-leaf-label : tie.Need-element-copy-out-leaf-label Inv-loop μ-loop
 element-copy-out-leaf-label c =
     omega arith
 
--- src/required.rt:39:30
 leaf-label-requires : tie.Need-leaf-label-requires Inv-loop μ-loop
 leaf-label-requires c κs =
     search needs
 
--- src/required.rt:39:12
 same-label-requires : tie.Need-same-label-requires Inv-loop μ-loop
 same-label-requires c κs =
     search needs
 
--- src/required.rt:40:13
 returns : tie.Need-returns Inv-loop μ-loop
 returns c =
     let a = c .before .before .before .before .before .before .before .before .before .before .args in (
@@ -62,17 +52,14 @@ returns c =
           (ap (λ (x : Label). sameLabel x (a .label .now)) (sym (c .before .before .leaf-label .ensures)) ∙ sym (c .before .same-label .ensures) ∙ c .if1 .taken),
     )
 
--- src/required.rt:42:9
 add-r : tie.Need-add-r Inv-loop μ-loop
 add-r c =
     omega arith
 
--- src/required.rt:38:5
 loop-less : tie.Need-loop-less Inv-loop μ-loop
 loop-less c =
     omega arith
 
--- src/required.rt:38:5
 loop-again : tie.Need-loop-again Inv-loop μ-loop
 loop-again c =
     let a = c .before .before .before .before .before .before .before .before .before .before .args in (
@@ -84,7 +71,6 @@ loop-again c =
           (ap (λ (x : Label). sameLabel x (a .label .now)) (sym (c .before .before .leaf-label .ensures)) ∙ sym (c .before .same-label .ensures) ∙ c .if1 .left)),
     )
 
--- src/required.rt:23:1
 returns-2 : tie.Need-returns-2 Inv-loop μ-loop
 returns-2 c = (
   omega arith,

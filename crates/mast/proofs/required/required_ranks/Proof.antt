@@ -1,12 +1,10 @@
-use Prim.Native.Nat.{ℕ, _-_, _≤_}
+-- `required::required_ranks` meets its contract. Assumes nothing.
+use Prim.Native.Nat.{_-_, _≤_}
 use mathlib.Core.Path.{_≡_}
 use native.Mathlib.Omega.{arith}
 use Rattle.mast.proofs.RequiredLaws.{RanksTo, ranks-none, ranks-next}
 use Rattle.mast.proofs.required.required_ranks.Statement.{statement}
 use Rattle.mast.proofs.required.required_ranks.Tie as tie
-use Rattle.mast.proofs.required.required_ranks.Reads as reads
-use Rattle.mast.proofs.required.required_ranks.Lts as lts
-use Rattle.mast.proofs.required.add_rank.Reads as add-rank-reads
 
 abbrev Inv-loop : tie.InvT-loop
 Inv-loop number m ranks₀ n₀ r₀ ranks n r =
@@ -16,37 +14,30 @@ abbrev μ-loop : tie.MeasureT-loop
 μ-loop number m ranks₀ n₀ r₀ ranks n r =
     m - r
 
--- src/required.rt:114:5
 loop-holds : tie.Need-loop-holds Inv-loop μ-loop
 loop-holds c =
     (omega arith, ranks-none _)
 
--- src/required.rt:115:37
 element-copy-out-add-rank : tie.Need-element-copy-out-add-rank Inv-loop μ-loop
 element-copy-out-add-rank c =
     omega arith
 
--- src/required.rt:115:9
 add-rank-requires : tie.Need-add-rank-requires Inv-loop μ-loop
 add-rank-requires c κs =
     omega (arith, c .before .before .before .loop .inv .1 .low)
 
--- src/required.rt:116:9
 add-r : tie.Need-add-r Inv-loop μ-loop
 add-r c =
     omega arith
 
--- src/required.rt:114:5
 loop-less : tie.Need-loop-less Inv-loop μ-loop
 loop-less c =
     omega arith
 
--- src/required.rt:114:5
 loop-again : tie.Need-loop-again Inv-loop μ-loop
 loop-again c =
     (omega arith, ranks-next _ (c .before .before .before .before .loop .r) _ _ _ _ (omega arith) (c .before .before .before .before .loop .inv .1) (c .add-rank .ensures))
 
--- src/required.rt:107:1
 returns : tie.Need-returns Inv-loop μ-loop
 returns c =
     let e : c .before .loop .r ≡ c .before .before .args .m = omega (arith, c .loop-test .left, c .before .loop .inv .0) in

@@ -1,46 +1,33 @@
+-- `solve::root_weight` meets its contract. Assumes nothing.
 use Rattle.mast.proofs.FillLaws.{top-made}
 use borrow.Author.Needs.{needs}
 use Rattle.mast.proofs.solve.root_weight.Statement.{statement}
 use Rattle.mast.proofs.solve.root_weight.Tie as tie
-use Rattle.mast.proofs.solve.root_weight.Reads as reads
-use Rattle.mast.proofs.solve.root_weight.Lts as lts
-use Rattle.mast.proofs.fill.cell.Reads as cell-reads
-use Rattle.mast.proofs.fill.fill_node.Reads as fill-node-reads
-use Rattle.mast.proofs.fill.wide.Reads as wide-reads
 
--- src/solve.rt:31:18
 element-copy-out-wide : tie.Need-element-copy-out-wide
 element-copy-out-wide c = search needs
 
--- src/solve.rt:31:13
 wide-requires : tie.Need-wide-requires
 wide-requires c κs = search needs
 
--- src/solve.rt:31:13
 sub-u : tie.Need-sub-u
 sub-u c = search needs
 
--- src/solve.rt:32:18
 element-copy-out-wide-2 : tie.Need-element-copy-out-wide-2
 element-copy-out-wide-2 c = search needs
 
--- src/solve.rt:32:13
 wide-requires-2 : tie.Need-wide-requires-2
 wide-requires-2 c κs = search needs
 
--- src/solve.rt:32:13
 sub-v : tie.Need-sub-v
 sub-v c = search needs
 
--- src/solve.rt:33:5
 fill-node-requires : tie.Need-fill-node-requires
 fill-node-requires c κs = search needs
 
--- src/solve.rt:34:5
 cell-requires : tie.Need-cell-requires
 cell-requires c κs = search needs
 
--- src/solve.rt:21:1
 returns : tie.Need-returns
 returns c =
     let p = c .before .before .before .before .before .before .before .before .before .before .pre in

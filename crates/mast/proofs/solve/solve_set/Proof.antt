@@ -1,31 +1,21 @@
+-- `solve::solve_set` meets its contract. Assumes nothing.
 use Prim.Native.Nat.{ℕ}
-use mathlib.Core.Path.{_≡_, refl, sym, _∙_, ap}
-use native.Mathlib.Omega.{arith}
+use mathlib.Core.Path.{sym, _∙_}
 use lib.ListN.{length-replicate}
 use Rattle.mast.proofs.SolveLaws.{solved-set, solved-eight, powers-kept, area-zero}
 use borrow.Author.Needs.{needs}
 use Rattle.mast.proofs.solve.solve_set.Statement.{statement}
 use Rattle.mast.proofs.solve.solve_set.Tie as tie
-use Rattle.mast.proofs.solve.solve_set.Reads as reads
-use Rattle.mast.proofs.solve.solve_set.Lts as lts
-use Rattle.mast.proofs.solve.root_weight.Reads as root-weight-reads
-use Rattle.mast.proofs.weights.held.Reads as held-reads
-use Rattle.mast.proofs.weights.put_weights.Reads as put-weights-reads
-use Rattle.mast.proofs.weights.read_set.Reads as read-set-reads
 
--- src/solve.rt:57:5
 put-weights-requires : tie.Need-put-weights-requires
 put-weights-requires c κs = search needs
 
--- src/solve.rt:58:9
 root-weight-requires : tie.Need-root-weight-requires
 root-weight-requires c κs = search needs
 
--- src/solve.rt:59:8
 held-requires : tie.Need-held-requires
 held-requires c κs = search needs
 
--- src/solve.rt:60:9
 returns : tie.Need-returns
 returns c =
     λ s t K job different held count marked.
@@ -33,11 +23,9 @@ returns c =
     (c .before .before .before .before .before .put-weights .ensures) _ (c .before .before .root-weight .ensures) _
     (λ e. c .if1 .taken (c .before .held .ensures ∙ e ∙ sym count))
 
--- src/solve.rt:62:5
 read-set-requires : tie.Need-read-set-requires
 read-set-requires c κs = search needs
 
--- src/solve.rt:41:1
 returns-2 : tie.Need-returns-2
 returns-2 c =
     λ s t K job different held count marked.

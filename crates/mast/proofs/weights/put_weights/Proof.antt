@@ -1,5 +1,6 @@
-use Prim.Native.Nat.{ℕ, _+_, _-_, _<_, _≤_}
-use mathlib.Core.Path.{_≡_, refl, sym, _∙_}
+-- `weights::put_weights` meets its contract. Assumes nothing.
+use Prim.Native.Nat.{_-_, _<_, _≤_}
+use mathlib.Core.Path.{_≡_, _∙_}
 use native.Mathlib.Omega.{arith}
 use borrow.Author.Needs.{needs}
 use Rattle.agreement.specs.Powers.{power}
@@ -8,10 +9,6 @@ use Rattle.mast.specs.Weighing.{WeightsPut}
 use Rattle.mast.proofs.WeighingLaws.{power-79, power-half, weights-none, weights-next}
 use Rattle.mast.proofs.weights.put_weights.Statement.{statement}
 use Rattle.mast.proofs.weights.put_weights.Tie as tie
-use Rattle.mast.proofs.weights.put_weights.Reads as reads
-use Rattle.mast.proofs.weights.put_weights.Lts as lts
-use Rattle.mast.proofs.weights.halved.Reads as halved-reads
-use Rattle.mast.proofs.weights.units.Reads as units-reads
 
 abbrev Inv-loop : tie.InvT-loop
 Inv-loop number m high₀ low₀ p₀ r₀ high low p r =
@@ -21,77 +18,62 @@ abbrev μ-loop : tie.MeasureT-loop
 μ-loop number m high₀ low₀ p₀ r₀ high low p r =
     m - r
 
--- src/weights.rt:59:5
 loop-holds : tie.Need-loop-holds Inv-loop μ-loop
 loop-holds c =
     (omega arith, omega arith, λ h. power-79, weights-none _ _ _)
 
--- src/weights.rt:60:32
 element-copy-out-units : tie.Need-element-copy-out-units Inv-loop μ-loop
 element-copy-out-units c =
     omega arith
 
--- src/weights.rt:60:26
 units-requires : tie.Need-units-requires Inv-loop μ-loop
 units-requires c κs =
     search needs
 
--- src/weights.rt:60:26
 mul-high : tie.Need-mul-high Inv-loop μ-loop
 mul-high c =
     omega arith
 
--- src/weights.rt:60:26
 add-high : tie.Need-add-high Inv-loop μ-loop
 add-high c =
     omega arith
 
--- src/weights.rt:60:14
 add-high-2 : tie.Need-add-high-2 Inv-loop μ-loop
 add-high-2 c =
     omega arith
 
--- src/weights.rt:60:9
 mul-high-2 : tie.Need-mul-high-2 Inv-loop μ-loop
 mul-high-2 c =
     omega arith
 
--- src/weights.rt:60:9
 element-write-high : tie.Need-element-write-high Inv-loop μ-loop
 element-write-high c =
     omega arith
 
--- src/weights.rt:61:13
 add-low : tie.Need-add-low Inv-loop μ-loop
 add-low c =
     omega arith
 
--- src/weights.rt:61:9
 mul-low : tie.Need-mul-low Inv-loop μ-loop
 mul-low c =
     omega arith
 
--- src/weights.rt:61:9
 element-write-low : tie.Need-element-write-low Inv-loop μ-loop
 element-write-low c =
     omega arith
 
--- src/weights.rt:62:9
 halved-requires : tie.Need-halved-requires Inv-loop μ-loop
 halved-requires c κs =
     search needs
 
--- src/weights.rt:63:9
 add-r : tie.Need-add-r Inv-loop μ-loop
 add-r c =
     omega arith
 
--- src/weights.rt:59:5
 loop-less : tie.Need-loop-less Inv-loop μ-loop
 loop-less c =
     omega arith
 
--- src/weights.rt:59:5
 loop-again : tie.Need-loop-again Inv-loop μ-loop
 loop-again c =
     let i = c .before .before .before .before .before .loop .inv in
@@ -105,7 +87,6 @@ loop-again c =
       weights-next (c .before .before .before .before .before .loop .r) _ _ _ _ _ _ _ small (i .3) (omega (arith, c .before .before .units .ensures .0, e, i .1)),
     )
 
--- src/weights.rt:45:1
 returns : tie.Need-returns Inv-loop μ-loop
 returns c =
     let i = c .before .loop .inv in

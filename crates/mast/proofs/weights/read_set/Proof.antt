@@ -1,18 +1,15 @@
-use Prim.Native.Nat.{ℕ, _+_, _-_, _<_, _≤_}
-use mathlib.Core.Path.{_≡_, refl, sym, _∙_}
+-- `weights::read_set` meets its contract. Assumes nothing.
+use Prim.Native.Nat.{_-_, _<_, _≤_}
+use mathlib.Core.Path.{_≡_, _∙_}
 use mathlib.Core.Bool.{Bool, false}
 use native.Mathlib.Omega.{arith}
 use borrow.Author.Needs.{needs}
 use lib.ListN.{length-replicate}
 use Rattle.mast.specs.Table.{valueOf}
-use Rattle.mast.specs.Weighing.{Powers, Bits}
+use Rattle.mast.specs.Weighing.{Powers}
 use Rattle.mast.proofs.WeighingLaws.{ReadTo, read-none, read-next, bits-read}
 use Rattle.mast.proofs.weights.read_set.Statement.{statement}
 use Rattle.mast.proofs.weights.read_set.Tie as tie
-use Rattle.mast.proofs.weights.read_set.Reads as reads
-use Rattle.mast.proofs.weights.read_set.Lts as lts
-use Rattle.mast.proofs.weights.power_at.Reads as power-at-reads
-use Rattle.mast.proofs.weights.take.Reads as take-reads
 
 abbrev Inv-loop : tie.InvT-loop
 Inv-loop high low m chosen₀ rest₀ r₀ chosen rest r =
@@ -22,37 +19,30 @@ abbrev μ-loop : tie.MeasureT-loop
 μ-loop high low m chosen₀ rest₀ r₀ chosen rest r =
     m - r
 
--- src/weights.rt:130:5
 loop-holds : tie.Need-loop-holds Inv-loop μ-loop
 loop-holds c =
     (omega arith, λ h. read-none 80 _ _ (length-replicate {A = Bool} 80 false))
 
--- src/weights.rt:131:31
 power-at-requires : tie.Need-power-at-requires Inv-loop μ-loop
 power-at-requires c κs =
     omega arith
 
--- src/weights.rt:131:13
 take-requires : tie.Need-take-requires Inv-loop μ-loop
 take-requires c κs =
     search needs
 
--- src/weights.rt:132:9
 element-write-chosen : tie.Need-element-write-chosen Inv-loop μ-loop
 element-write-chosen c =
     omega arith
 
--- src/weights.rt:134:9
 add-r : tie.Need-add-r Inv-loop μ-loop
 add-r c =
     omega arith
 
--- src/weights.rt:130:5
 loop-less : tie.Need-loop-less Inv-loop μ-loop
 loop-less c =
     omega arith
 
--- src/weights.rt:130:5
 loop-again : tie.Need-loop-again Inv-loop μ-loop
 loop-again c =
     let i = c .before .before .before .before .loop .inv in
@@ -65,7 +55,6 @@ loop-again c =
           (c .before .before .power-at .ensures ∙ powers (c .before .before .before .before .loop .r) h) (c .before .take .ensures .0) (c .before .take .ensures .1),
     )
 
--- src/weights.rt:114:1
 returns : tie.Need-returns Inv-loop μ-loop
 returns c =
     λ powers. bits-read _ _ _ _ _ _ (omega arith) (omega (arith, c .loop-test .left)) (c .before .loop .inv .1 powers)

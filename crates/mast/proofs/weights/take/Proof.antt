@@ -1,48 +1,39 @@
-use mathlib.Core.Path.{_≡_, refl, sym}
+-- `weights::take` meets its contract. Assumes nothing.
+use mathlib.Core.Path.{refl, sym}
 use native.Mathlib.Omega.{arith}
 use borrow.Author.Tests.{le-leb, lt-leb}
 use Rattle.mast.specs.Table.{valueOf}
 use borrow.Author.Needs.{needs}
 use Rattle.mast.proofs.weights.take.Statement.{statement}
 use Rattle.mast.proofs.weights.take.Tie as tie
-use Rattle.mast.proofs.weights.take.Reads as reads
-use Rattle.mast.proofs.weights.take.Lts as lts
 
--- src/weights.rt:78:9
 returns : tie.Need-returns
 returns c =
     let e = lt-leb (valueOf (c .before .before .before .args .p)) (valueOf (c .before .before .before .args .rest)) (omega arith) in
     (sym e, rw e refl)
 
--- src/weights.rt:81:9
 returns-2 : tie.Need-returns-2
 returns-2 c =
     let e = le-leb (valueOf (c .before .before .before .before .before .before .before .before .before .before .args .p)) (valueOf (c .before .before .before .before .before .before .before .before .before .before .args .rest)) (omega arith) in
     (sym e, rw e (omega arith))
 
--- src/weights.rt:90:9
 returns-3 : tie.Need-returns-3
 returns-3 c =
     let e = lt-leb (valueOf (c .before .before .before .before .before .before .before .before .before .args .p)) (valueOf (c .before .before .before .before .before .before .before .before .before .args .rest)) (omega arith) in
     (sym e, rw e refl)
 
--- src/weights.rt:95:19
 sub-t8 : tie.Need-sub-t8
 sub-t8 c = search needs
 
--- src/weights.rt:96:30
 sub-t9 : tie.Need-sub-t9
 sub-t9 c = search needs
 
--- src/weights.rt:96:18
 add-t10 : tie.Need-add-t10
 add-t10 c = search needs
 
--- src/weights.rt:96:18
 add-t11 : tie.Need-add-t11
 add-t11 c = search needs
 
--- src/weights.rt:73:1
 returns-4 : tie.Need-returns-4
 returns-4 c =
     let e = le-leb (valueOf (c .before .before .before .before .before .before .before .before .before .before .before .before .before .args .p)) (valueOf (c .before .before .before .before .before .before .before .before .before .before .before .before .before .args .rest)) (omega arith) in
