@@ -16,10 +16,10 @@ use Rattle.trees.specs.Label.{Label, labelLess}
 use Rattle.trees.specs.Tree.{Tree, leaf, node, leaves, smallest, normal}
 use Rattle.trees.specs.Text.{written}
 use Rattle.trees.specs.Arrays.{isLeaf, labelAt, goodNodes}
-use Rattle.trees.specs.Stored.{partOf}
+use Rattle.trees.specs.Stored.{partOf, leafLabel}
 use Rattle.trees.proofs.Bools.{bool-cases}
 use Rattle.trees.proofs.ArrayLaws.{good-at, label-inside, children-below}
-use Rattle.writer.specs.Passes.{pass, sumAt, labelIn, goesFirst, leastAt, below, nodeText, Leasts}
+use Rattle.writer.specs.Passes.{pass, sumAt, goesFirst, leastAt, below, nodeText, Leasts}
 use Rattle.writer.proofs.NodeLaws.{by-number, below-leaf, below-node}
 
 abbrev in-order : Bool → Tree → Tree → Tree
@@ -90,7 +90,7 @@ module _ (a : TreeArrays) (text : List ℕ) (n : ℕ) (g : goodNodes a text n �
       simp (length-take, length-drop) (omega (arith, label-inside a text u (good-at a text n g u h) e .inside))
 
   -- a leaf's label lies in the text
-  pub label-part : (u : ℕ) → u < n → isLeaf a u ≡ true → labelIn text (a .start) (a .size) u ≡ labelAt a text u
+  pub label-part : (u : ℕ) → u < n → isLeaf a u ≡ true → leafLabel text (a .start) (a .size) u ≡ labelAt a text u
   unfolding partOf labelAt
   label-part u h e =
       rw (le-leb (getD (a .start) u 0 + getD (a .size) u 0) (length text) (label-inside a text u (good-at a text n g u h) e .inside)) refl
@@ -139,28 +139,28 @@ module _ (a : TreeArrays) (text : List ℕ) (n : ℕ) (g : goodNodes a text n �
   pub leasts-found : (t : List ℕ) → n ≤ length t → Leasts a text (pass (leastAt text (a .left) (a .right) (a .start) (a .size)) t n) n
   unfolding leastAt isLeaf smallest goesFirst
   leasts-found t l =
-      pass-holds (λ u v. labelIn text (a .start) (a .size) v ≡ smallest (below a text u))
+      pass-holds (λ u v. leafLabel text (a .start) (a .size) v ≡ smallest (below a text u))
       (leastAt text (a .left) (a .right) (a .start) (a .size)) t n l
       (λ s u h all. go s u h all (bool-cases (isLeaf a u)))
     where
-      pair : (i j : ℕ) (x y : Label) (b : Bool) → labelIn text (a .start) (a .size) i ≡ x → labelIn text (a .start) (a .size) j ≡ y
-          → labelIn text (a .start) (a .size) (cond b i j) ≡ cond b x y
+      pair : (i j : ℕ) (x y : Label) (b : Bool) → leafLabel text (a .start) (a .size) i ≡ x → leafLabel text (a .start) (a .size) j ≡ y
+          → leafLabel text (a .start) (a .size) (cond b i j) ≡ cond b x y
       pair i j x y true p q = p
       pair i j x y false p q = q
 
-      go : (s : List ℕ) (u : ℕ) → u < n → ((k : ℕ) → k < u → labelIn text (a .start) (a .size) (getD s k 0) ≡ smallest (below a text k))
+      go : (s : List ℕ) (u : ℕ) → u < n → ((k : ℕ) → k < u → leafLabel text (a .start) (a .size) (getD s k 0) ≡ smallest (below a text k))
           → (isLeaf a u ≡ true) ⊎ (isLeaf a u ≡ false)
-          → labelIn text (a .start) (a .size) (leastAt text (a .left) (a .right) (a .start) (a .size) s u) ≡ smallest (below a text u)
+          → leafLabel text (a .start) (a .size) (leastAt text (a .left) (a .right) (a .start) (a .size) s u) ≡ smallest (below a text u)
       go s u h all (inl e) = rw (e, below-leaf a text u e) (label-part u h e)
       go s u h all (inr e) =
           let x : ℕ = getD (a .left) u 0 in
           let y : ℕ = getD (a .right) u 0 in
-          let p : labelIn text (a .start) (a .size) (getD s x 0) ≡ smallest (below a text x) =
+          let p : leafLabel text (a .start) (a .size) (getD s x 0) ≡ smallest (below a text x) =
           all x (children-below a text u (good-at a text n g u h) e .left-below) in
-          let q : labelIn text (a .start) (a .size) (getD s y 0) ≡ smallest (below a text y) =
+          let q : leafLabel text (a .start) (a .size) (getD s y 0) ≡ smallest (below a text y) =
           all y (children-below a text u (good-at a text n g u h) e .right-below) in
-          let b : Bool = labelLess (labelIn text (a .start) (a .size) (getD s x 0)) (labelIn text (a .start) (a .size) (getD s y 0)) in
-          ap (λ (d : Bool). labelIn text (a .start) (a .size) (cond d u (cond b (getD s x 0) (getD s y 0)))) e
+          let b : Bool = labelLess (leafLabel text (a .start) (a .size) (getD s x 0)) (leafLabel text (a .start) (a .size) (getD s y 0)) in
+          ap (λ (d : Bool). leafLabel text (a .start) (a .size) (cond d u (cond b (getD s x 0) (getD s y 0)))) e
           ∙ pair (getD s x 0) (getD s y 0) (smallest (below a text x)) (smallest (below a text y)) b p q
           ∙ ap (λ (d : Bool). cond d (smallest (below a text x)) (smallest (below a text y))) (ap₂ labelLess p q)
           ∙ sym (ap smallest (below-node a text n g u h e))
@@ -175,9 +175,9 @@ module _ (a : TreeArrays) (text : List ℕ) (n : ℕ) (g : goodNodes a text n �
   node-written t least u h e b d =
       let x : ℕ = getD (a .left) u 0 in
       let y : ℕ = getD (a .right) u 0 in
-      let p : labelIn text (a .start) (a .size) (getD t x 0) ≡ smallest (below a text x) =
+      let p : leafLabel text (a .start) (a .size) (getD t x 0) ≡ smallest (below a text x) =
       least x (omega (arith, children-below a text u (good-at a text n g u h) e .left-below)) in
-      let q : labelIn text (a .start) (a .size) (getD t y 0) ≡ smallest (below a text y) =
+      let q : leafLabel text (a .start) (a .size) (getD t y 0) ≡ smallest (below a text y) =
       least y (omega (arith, children-below a text u (good-at a text n g u h) e .right-below)) in
       ap (λ (s : Tree). written (normal s)) (below-node a text n g u h e)
       ∙ ap (λ (c : Bool). written (in-order c (normal (below a text x)) (normal (below a text y))))

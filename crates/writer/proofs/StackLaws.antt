@@ -12,8 +12,9 @@ use borrow.Author.Tests.{eq-eqb, ne-eqb, eqb-true, eqb-false, lt-ltb, le-ltb, lt
 use Rattle.trees.specs.declared.TreeArrays.{TreeArrays}
 use Rattle.trees.specs.Tree.{Tree, leaf, node, leaves}
 use Rattle.trees.specs.Arrays.{goodNodes, isLeaf, labelAt}
+use Rattle.trees.specs.Stored.{leafLabel}
 use Rattle.trees.proofs.Bools.{bool-cases}
-use Rattle.writer.specs.Passes.{labelIn, goesFirst, firstAt, below, nodeText, Leasts, Child, own, pair, otherOf, Children}
+use Rattle.writer.specs.Passes.{goesFirst, firstAt, below, nodeText, Leasts, Child, own, pair, otherOf, Children}
 use Rattle.writer.specs.Passes.{markOf, thingText, ownText, goesOn, depthAfter, stackAfter, stackText, thingSteps, stackSteps}
 use Rattle.writer.proofs.NodeLaws.{below-leaf, below-node}
 use Rattle.writer.proofs.PassLaws.{pair-of, leaf-written, label-part}
@@ -248,7 +249,7 @@ module _ (a : TreeArrays) (text first : List ℕ) (n : ℕ) (children : Children
   unfolding ownText stackAfter depthAfter goesOn thingText thingSteps
   step-mark e = record { writes = rw e refl; counts = rw e (omega arith); things = rw e all; long = rw e refl }
 
-  step-leaf : ltb k 159 ≡ true → getD first k 0 ≡ k → isLeaf a k ≡ true → nodeText a text k ≡ labelIn text (a .start) (a .size) k
+  step-leaf : ltb k 159 ≡ true → getD first k 0 ≡ k → isLeaf a k ≡ true → nodeText a text k ≡ leafLabel text (a .start) (a .size) k
       → Step a text first n stack d k
   unfolding ownText stackAfter depthAfter goesOn thingText thingSteps
   step-leaf e f l made =
@@ -321,7 +322,7 @@ module _ (text s z first : List ℕ) (k : ℕ) where
   unfolding ownText
   own-mark h = rw (le-ltb k 159 h) refl
 
-  pub own-label : k < 159 → getD first k 0 ≡ k → ownText text s z first k ≡ labelIn text s z k
+  pub own-label : k < 159 → getD first k 0 ≡ k → ownText text s z first k ≡ leafLabel text s z k
   unfolding ownText
   own-label h e = rw (lt-ltb k 159 h, eq-eqb (getD first k 0) k e) refl
 

@@ -10,7 +10,7 @@ use Rattle.trees.specs.Label.{Label, labelLess}
 use Rattle.trees.specs.Tree.{Tree, leaves, normal, smallest}
 use Rattle.trees.specs.Text.{written}
 use Rattle.trees.specs.Arrays.{treeAt, isLeaf}
-use Rattle.trees.specs.Stored.{partOf}
+use Rattle.trees.specs.Stored.{leafLabel}
 
 abbrev pub arraysFrom : ℕ → List ℕ → List ℕ → List ℕ → List ℕ → TreeArrays
 arraysFrom n l r s z = record { nodes = n; left = l; right = r; start = s; size = z }
@@ -30,13 +30,9 @@ unfoldable pub rootSum : List ℕ → List ℕ → List ℕ → ℕ → ℕ → 
 unfolding pass sumAt
 rootSum l r w plus cap n = getD (pass (sumAt l r w plus cap) (replicate 159 0) n) (n - 1) 0
 
--- the label of leaf u
-abbrev pub labelIn : List ℕ → List ℕ → List ℕ → ℕ → Label
-labelIn text s z u = partOf (getD s u 0) (getD z u 0) text
-
 -- t names for a node the leaf with the smallest label below it: that of i is less than that of j
 unfoldable pub goesFirst : List ℕ → List ℕ → List ℕ → List ℕ → ℕ → ℕ → Bool
-goesFirst text s z t i j = labelLess (labelIn text s z (getD t i 0)) (labelIn text s z (getD t j 0))
+goesFirst text s z t i j = labelLess (leafLabel text s z (getD t i 0)) (leafLabel text s z (getD t j 0))
 
 -- the leaf with the smallest label below node u
 unfoldable pub leastAt : List ℕ → List ℕ → List ℕ → List ℕ → List ℕ → List ℕ → ℕ → ℕ
@@ -62,11 +58,11 @@ nodeText a text u = written (normal (below a text u))
 
 -- t names the leaf with the smallest label below each of the first n nodes
 abbrev pub Leasts : TreeArrays → List ℕ → List ℕ → ℕ → Type 0
-Leasts a text t n = (u : ℕ) → u < n → labelIn text (a .start) (a .size) (getD t u 0) ≡ smallest (below a text u)
+Leasts a text t n = (u : ℕ) → u < n → leafLabel text (a .start) (a .size) (getD t u 0) ≡ smallest (below a text u)
 
 -- node u is a leaf, or has child f written first and child s after it
 pub data Child (a : TreeArrays) (text : List ℕ) (u f s : ℕ) : Type 0 where
-  own : f ≡ u → isLeaf a u ≡ true → nodeText a text u ≡ labelIn text (a .start) (a .size) u → Child a text u f s
+  own : f ≡ u → isLeaf a u ≡ true → nodeText a text u ≡ leafLabel text (a .start) (a .size) u → Child a text u f s
   pair : f < u → s < u
       → nodeText a text u ≡ 40 ∷ (nodeText a text f ++ (44 ∷ (nodeText a text s ++ (41 ∷ []))))
       → length (leaves (below a text u)) ≡ length (leaves (below a text f)) + length (leaves (below a text s))
@@ -93,7 +89,7 @@ thingText a text k = cond (ltb k 159) (nodeText a text k) (markOf k ∷ [])
 unfoldable pub ownText : List ℕ → List ℕ → List ℕ → List ℕ → ℕ → List ℕ
 unfolding markOf
 ownText text s z first k =
-    cond (ltb k 159) (cond (eqb (getD first k 0) k) (labelIn text s z k) (40 ∷ [])) (markOf k ∷ [])
+    cond (ltb k 159) (cond (eqb (getD first k 0) k) (leafLabel text s z k) (40 ∷ [])) (markOf k ∷ [])
 
 -- a thing after which others come
 unfoldable pub goesOn : List ℕ → ℕ → Bool

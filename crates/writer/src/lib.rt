@@ -180,8 +180,8 @@ fn goes_first(
 {
     let x = entry(least, i);
     let y = entry(least, j);
-    let a = trees::part(text, entry(start, x), entry(size, x));
-    let b = trees::part(text, entry(start, y), entry(size, y));
+    let a = trees::leaf_label(text, start, size, x);
+    let b = trees::leaf_label(text, start, size, y);
     trees::comes_before(a, b)
 }
 
@@ -326,7 +326,7 @@ fn put_own(
         return at + 1;
     }
     if entry(first, k) == k {
-        let label = trees::part(text, entry(start, k), entry(size, k));
+        let label = trees::leaf_label(text, start, size, k);
         return put_bytes(label, out, at);
     }
     out[at] = b'(';

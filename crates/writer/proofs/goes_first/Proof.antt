@@ -1,10 +1,8 @@
 -- `writer::goes_first` meets its contract. Assumes nothing.
-use Prim.Native.Nat.{ℕ}
-use mathlib.Core.Path.{_≡_, _∙_, ap, ap₂}
-use lib.ListN.{getD}
+use mathlib.Core.Path.{_∙_, ap, ap₂}
 use Rattle.trees.specs.Label.{labelLess}
-use Rattle.writer.specs.Passes.{labelIn, goesFirst}
-use Rattle.trees.specs.Stored.{partOf}
+use Rattle.trees.specs.Stored.{leafLabel}
+use Rattle.writer.specs.Passes.{goesFirst}
 use borrow.Author.Needs.{needs}
 use Rattle.writer.proofs.goes_first.Statement.{statement}
 use Rattle.writer.proofs.goes_first.Tie as tie
@@ -15,23 +13,11 @@ entry-requires c κs = search needs
 entry-requires-2 : tie.Need-entry-requires-2
 entry-requires-2 c κs = search needs
 
-entry-requires-3 : tie.Need-entry-requires-3
-entry-requires-3 c κs = search needs
+leaf-label-requires : tie.Need-leaf-label-requires
+leaf-label-requires c κs = search needs
 
-entry-requires-4 : tie.Need-entry-requires-4
-entry-requires-4 c κs = search needs
-
-part-requires : tie.Need-part-requires
-part-requires c κs = search needs
-
-entry-requires-5 : tie.Need-entry-requires-5
-entry-requires-5 c κs = search needs
-
-entry-requires-6 : tie.Need-entry-requires-6
-entry-requires-6 c κs = search needs
-
-part-requires-2 : tie.Need-part-requires-2
-part-requires-2 c κs = search needs
+leaf-label-requires-2 : tie.Need-leaf-label-requires-2
+leaf-label-requires-2 c κs = search needs
 
 comes-before-requires : tie.Need-comes-before-requires
 comes-before-requires c κs = search needs
@@ -39,20 +25,12 @@ comes-before-requires c κs = search needs
 returns : tie.Need-returns
 unfolding goesFirst
 returns c =
-    let a = c .before .before .before .before .before .before .before .before .before .before .before .before .before .args in
-    let x : c .before .before .before .before .part .result .now
-    ≡ labelIn (a .text .now) (a .start .now) (a .size .now) (getD (a .least .now) (a .i) 0) =
-    c .before .before .before .before .part .ensures
-    ∙ ap₂ (λ (s n : ℕ). partOf s n (a .text .now)) (c .before .before .before .before .before .before .entry3 .ensures)
-    (c .before .before .before .before .before .entry4 .ensures)
-    ∙ ap (labelIn (a .text .now) (a .start .now) (a .size .now))
-    (c .before .before .before .before .before .before .before .before .entry .ensures) in
-    let y : c .before .part2 .result .now ≡ labelIn (a .text .now) (a .start .now) (a .size .now) (getD (a .least .now) (a .j) 0) =
-    c .before .part2 .ensures
-    ∙ ap₂ (λ (s n : ℕ). partOf s n (a .text .now)) (c .before .before .before .entry5 .ensures) (c .before .before .entry6 .ensures)
-    ∙ ap (labelIn (a .text .now) (a .start .now) (a .size .now))
-    (c .before .before .before .before .before .before .before .entry2 .ensures) in
-    c .comes-before .ensures ∙ ap₂ labelLess x y
+    let c4 = c .before .before .before .before in
+    let a = c4 .before .before .before .before .before .args in
+    let label = leafLabel (a .text .now) (a .start .now) (a .size .now) in
+    c .comes-before .ensures
+    ∙ ap₂ labelLess (c .before .before .leaf-label .ensures ∙ ap label (c4 .entry .ensures))
+    (c .before .leaf-label2 .ensures ∙ ap label (c .before .before .before .entry2 .ensures))
 
 pub goes-first-spec : {M : Type 1} → statement M
 goes-first-spec =
@@ -60,11 +38,7 @@ goes-first-spec =
     (tie.spec
     entry-requires
     entry-requires-2
-    entry-requires-3
-    entry-requires-4
-    part-requires
-    entry-requires-5
-    entry-requires-6
-    part-requires-2
+    leaf-label-requires
+    leaf-label-requires-2
     comes-before-requires
     returns)

@@ -1,12 +1,11 @@
 -- `writer::put_own` meets its contract: a mark, a label or `(`. Assumes nothing.
-use mathlib.Core.Path.{_≡_, sym, _∙_, ap, ap₂}
+use mathlib.Core.Path.{_≡_, sym, _∙_, ap}
 use mathlib.Core.List.{List, [], _∷_}
 use Prim.Native.Nat.{ℕ, _+_}
 use native.Mathlib.Omega.{arith}
 use lib.ListN.{length, getD}
 use lib.Seq.{sets}
 use Rattle.writer.proofs.StackLaws.{own-mark, own-label, own-open}
-use Rattle.trees.specs.Stored.{partOf}
 use borrow.Author.Needs.{needs}
 use Rattle.writer.proofs.put_own.Statement.{statement}
 use Rattle.writer.proofs.put_own.Tie as tie
@@ -38,25 +37,16 @@ returns c =
 entry-requires : tie.Need-entry-requires
 entry-requires c κs = search needs
 
-entry-requires-2 : tie.Need-entry-requires-2
-entry-requires-2 c κs = search needs
-
-entry-requires-3 : tie.Need-entry-requires-3
-entry-requires-3 c κs = search needs
-
-part-requires : tie.Need-part-requires
-part-requires c κs = search needs
+leaf-label-requires : tie.Need-leaf-label-requires
+leaf-label-requires c κs = search needs
 
 put-bytes-requires : tie.Need-put-bytes-requires
 put-bytes-requires c κs =
-    let c3 = c .before .before .before in
-    let c4 = c3 .before in
-    let c5 = c4 .before in
-    let c12 = c5 .before .before .before .before .before .before .before in
-    let a = c12 .args in
-    let e = own-label (a .text .now) (a .start .now) (a .size .now) (a .first .now) (a .k) (omega arith) (sym (c5 .entry .ensures) ∙ c4 .if2 .taken) in
-    let p = c .before .part .ensures ∙ ap₂ (λ (s n : ℕ). partOf s n (a .text .now)) (c3 .entry2 .ensures) (c .before .before .entry3 .ensures) ∙ sym e in
-    omega (arith, ap length p)
+    let c2 = c .before .before in
+    let c3 = c2 .before in
+    let a = c3 .before .before .before .before .before .before .before .args in
+    let e = own-label (a .text .now) (a .start .now) (a .size .now) (a .first .now) (a .k) (omega arith) (sym (c3 .entry .ensures) ∙ c2 .if2 .taken) in
+    omega (arith, ap length (c .before .leaf-label .ensures ∙ sym e))
 
 same-length-2 : tie.Need-same-length-2
 same-length-2 c = search needs
@@ -66,12 +56,9 @@ returns-2 c =
     let c4 = c .before .before .before .before in
     let c5 = c4 .before in
     let c6 = c5 .before in
-    let c7 = c6 .before in
-    let c8 = c7 .before in
-    let c15 = c8 .before .before .before .before .before .before .before in
-    let a = c15 .args in
-    let e = own-label (a .text .now) (a .start .now) (a .size .now) (a .first .now) (a .k) (omega arith) (sym (c8 .entry .ensures) ∙ c7 .if2 .taken) in
-    let p = c4 .part .ensures ∙ ap₂ (λ (s n : ℕ). partOf s n (a .text .now)) (c6 .entry2 .ensures) (c5 .entry3 .ensures) ∙ sym e in (
+    let a = c6 .before .before .before .before .before .before .before .args in
+    let e = own-label (a .text .now) (a .start .now) (a .size .now) (a .first .now) (a .k) (omega arith) (sym (c6 .entry .ensures) ∙ c5 .if2 .taken) in
+    let p = c4 .leaf-label .ensures ∙ sym e in (
       c .before .before .put-bytes .ensures .0 ∙ ap (λ (x : List ℕ). a .at + length x) p,
       c .before .before .put-bytes .ensures .1 ∙ ap (sets (a .out .now) (a .at)) p,
     )
@@ -110,9 +97,7 @@ put-own-spec =
     same-length
     returns
     entry-requires
-    entry-requires-2
-    entry-requires-3
-    part-requires
+    leaf-label-requires
     put-bytes-requires
     same-length-2
     returns-2
