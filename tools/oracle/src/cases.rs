@@ -69,24 +69,8 @@ fn list_texts() -> Vec<Vec<u8>> {
     xs
 }
 
-/// A text with a few bytes changed, dropped or added.
-fn damaged(r: &mut Random, text: &[u8]) -> Vec<u8> {
-    let mut t = text.to_vec();
-    for _ in 0..1 + r.below(2) {
-        let b = *r.pick(b"(),;ab_-. '\n\x00\xff0A");
-        match r.below(3) {
-            0 if !t.is_empty() => {
-                let i = r.below(t.len());
-                t[i] = b;
-            }
-            1 if !t.is_empty() => {
-                t.remove(r.below(t.len()));
-            }
-            _ => t.insert(r.below(t.len() + 1), b),
-        }
-    }
-    t
-}
+/// What a damaged text may get.
+const BYTES: &[u8] = b"(),;ab_-. '\n\x00\xff0A";
 
 pub fn cases() -> Vec<Case> {
     let mut r = Random(20);
@@ -115,10 +99,10 @@ pub fn cases() -> Vec<Case> {
         let mut names = labels(12);
         r.shuffle(&mut names);
         let t = random_tree(&mut r, &names[..n]).text();
-        trees.push(damaged(&mut r, &t));
+        trees.push(r.damaged(&t, BYTES));
         trees.push(t);
         let l = joined(&names[..n]);
-        lists.push(damaged(&mut r, &l));
+        lists.push(r.damaged(&l, BYTES));
     }
     let trees = trees.into_iter().map(|text| Case { kind: b't', text });
     let lists = lists.into_iter().map(|text| Case { kind: b'l', text });

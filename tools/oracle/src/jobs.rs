@@ -146,21 +146,7 @@ pub fn large_bodies(r: &mut Random) -> [Vec<u8>; 3] {
 
 /// A job with a few bytes changed, dropped or added.
 pub fn damaged(r: &mut Random, job: &[u8]) -> Vec<u8> {
-    let mut t = job.to_vec();
-    for _ in 0..1 + r.below(2) {
-        let b = *r.pick(b"(),;ab_-. '\n\x00\xff0123STK");
-        match r.below(3) {
-            0 if !t.is_empty() => {
-                let i = r.below(t.len());
-                t[i] = b;
-            }
-            1 if !t.is_empty() => {
-                t.remove(r.below(t.len()));
-            }
-            _ => t.insert(r.below(t.len() + 1), b),
-        }
-    }
-    t
+    r.damaged(job, b"(),;ab_-. '\n\x00\xff0123STK")
 }
 
 /// Bodies with a few bytes changed, the contents fitting.

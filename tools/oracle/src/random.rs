@@ -25,4 +25,23 @@ impl Random {
             xs.swap(i, self.below(i + 1));
         }
     }
+
+    /// A text with a few bytes changed or added, from among these, or dropped.
+    pub fn damaged(&mut self, text: &[u8], bytes: &[u8]) -> Vec<u8> {
+        let mut t = text.to_vec();
+        for _ in 0..1 + self.below(2) {
+            let b = *self.pick(bytes);
+            match self.below(3) {
+                0 if !t.is_empty() => {
+                    let i = self.below(t.len());
+                    t[i] = b;
+                }
+                1 if !t.is_empty() => {
+                    t.remove(self.below(t.len()));
+                }
+                _ => t.insert(self.below(t.len() + 1), b),
+            }
+        }
+        t
+    }
 }
