@@ -5,6 +5,7 @@ use trees::Body;
 use trees::Reason;
 use trees::Refusal;
 use trees::TreeArrays;
+use trees::entry;
 ghost use Prim.Native.Nat.{ℕ, _+_, _-_, _<_, _≤_, min};
 ghost use mathlib.Core.Path.{_≡_};
 ghost use mathlib.Core.Bool.{true, cond};
@@ -22,13 +23,6 @@ pub enum WriteAnswer {
     Written(usize),
     Refused(Refusal),
     NoTree,
-}
-
-// An entry of an array, 0 past its end: no index has to be trusted.
-fn entry(xs: &[usize], i: usize) -> usize
-    ensures { λ r. ⌜ r ≡ getD (now (xs .entry)) i 0 ⌝ }
-{
-    if i < xs.len() { xs[i] } else { 0 }
 }
 
 // One of two numbers.
