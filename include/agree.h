@@ -18,7 +18,7 @@ extern "C" {
 #endif
 
 /* Bytes of stack that a call takes at most, whatever it is given. It is not proved: tools/stack.c holds it against the worst of many
- * inputs (measured: about 70,000 and 77,000 bytes for the two entries). A thread needs what it takes for itself besides. */
+ * inputs (measured: about 67,000 and 75,000 bytes for the two entries). A thread needs what it takes for itself besides. */
 #define AGREE_STACK 98304
 
 /* What comes back.
