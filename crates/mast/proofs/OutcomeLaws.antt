@@ -9,8 +9,7 @@ use lib.Dec.{leb}
 use lib.ListN.{length}
 use borrow.Author.Tests.{leb-true, leb-false, le-leb, lt-leb}
 use Rattle.trees.specs.declared.Reason.the-variants.{FirstLacks, SecondLacks, TooShort}
-use Rattle.trees.specs.declared.Body.the-variants.{K, O}
-use Rattle.trees.specs.declared.Refusal.{Refusal}
+use Rattle.trees.specs.declared.Body.the-variants.{K}
 use Rattle.trees.specs.Label.{Label, distinct}
 use Rattle.trees.specs.Tree.{Tree, Valid}
 use Rattle.trees.proofs.Bools.{bool-cases}
@@ -18,7 +17,7 @@ use Rattle.agreement.specs.Sets.{setOf}
 use Rattle.agreement.specs.Restrict.{restrict}
 use Rattle.agreement.specs.Places.{keptText}
 use Rattle.agreement.specs.Answer.{Answer, firstLacks, secondLacks, disagree, largest, answer}
-use Rattle.mast.specs.Largest.{Solution, solved, clashed, turned, solutionOf, fitted, task, solve}
+use Rattle.mast.specs.Largest.{Solution, solved, clashed, turned, tooShort, solutionOf, fitted, task, solve}
 use Rattle.trees.specs.declared.Reason.{Reason}
 use Rattle.trees.proofs.TreeLaws.{valid-proper}
 use Rattle.newick.proofs.Accepts.{accepts}
@@ -30,10 +29,6 @@ use Rattle.agreement.proofs.RestrictText.{one-text}
 use Rattle.mast.specs.Given.{Reads, SetGiven}
 use Rattle.mast.proofs.BodyLaws.{solve-reads}
 use Rattle.agreement.proofs.Promises as agreement
-
--- number 9, O 0
-abbrev pub tooShort : Refusal
-tooShort = record { reason = TooShort; body = O; place = 0 }
 
 -- the normal text of the restriction of s to X
 abbrev pub textFor : Tree → List Label → List ℕ

@@ -14,7 +14,7 @@ use Rattle.agreement.specs.Sets.{setOf}
 use Rattle.agreement.specs.Restrict.{restrict}
 use Rattle.agreement.specs.Places.{placeIn, placeOfNumber, placeOfLabel, keptText}
 use Rattle.agreement.specs.Answer.{Answer, answer}
-use Rattle.mast.specs.Largest.{Solution, solved, clashed, turned, solutionOf, task, solve, outputOf, largestOf, setPlaces}
+use Rattle.mast.specs.Largest.{Solution, solved, clashed, turned, tooShort, solutionOf, task, solve, outputOf, largestOf, setPlaces}
 use Rattle.trees.specs.declared.Reason.{Reason}
 use Rattle.trees.specs.Reading.{good, refused}
 use Rattle.newick.specs.ReadTree.{readTree}
@@ -23,7 +23,7 @@ use Rattle.agreement.specs.Closer.{holds, Common}
 use Rattle.agreement.specs.Demand.{IsAnswer, Clash}
 use Rattle.agreement.specs.Outcome.{Outcome}
 use Rattle.mast.specs.Given.{Reads, SetGiven}
-use Rattle.mast.proofs.OutcomeLaws.{tooShort, outcome-decides, eight-exactly, set-exactly, nine-exactly}
+use Rattle.mast.proofs.OutcomeLaws.{outcome-decides, eight-exactly, set-exactly, nine-exactly}
 use Rattle.mast.specs.declared.LargestAnswer.the-variants.{Found}
 use Rattle.mast.specs.Rows.{saidOfLargest, saidOfSolution}
 use Rattle.trees.specs.Text.{textOf}

@@ -28,10 +28,14 @@ pub data Solution : Type 0 where
   clashed : List Label → Label → Label → Label → Solution
   turned : Refusal → Solution
 
+-- number 9, O 0
+abbrev pub tooShort : Refusal
+tooShort = record { reason = TooShort; body = O; place = 0 }
+
 -- the text of the set's restriction goes into an output of `room` bytes, "too short exactly if it has fewer bytes than the text"
 unfoldable pub fitted : Tree → List Label → List ℕ → ℕ → Solution
 fitted s X text room =
-    cond (leb (length text) room) (solved s X text) (turned (record { reason = TooShort; body = O; place = 0 }))
+    cond (leb (length text) room) (solved s X text) (turned tooShort)
 
 unfoldable pub solutionOf : Tree → List Label → ℕ → Answer → Solution
 unfolding fitted
