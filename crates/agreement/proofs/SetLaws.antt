@@ -1,5 +1,5 @@
 -- Laws of sets of labels as increasing lists: members, order, sorting, common leaves, sublists. Assumes nothing.
-use Prim.Native.Nat.{suc, _≤_}
+use Prim.Native.Nat.{ℕ, suc, _<_, _≤_}
 use mathlib.Core.Path.{_≡_, refl, sym, _∙_, ap, ap₂, fun-ext}
 use mathlib.Core.Bool.{Bool, true, false, cond, _&&_, _||_}
 use mathlib.Core.Logic.{_⊎_, inl, inr, ⊎-elim, ⊎-map}
@@ -7,7 +7,7 @@ use mathlib.Core.List.{List, [], _∷_, _++_, map}
 use mathlib.Core.List.{List·Memᴰ as Among, List·Memᴰ·head as among-head, List·Memᴰ·tail as among-tail, Memᴰ·append-left, Memᴰ·append-right}
 use mathlib.Core.List.{List·Memᴰ·not-nil as among-nil, List·Memᴰ·cases-cons as among-cases, List·Memᴰ·append-cases as among-append}
 use native.Mathlib.Omega.{arith}
-use lib.ListN.{length}
+use lib.ListN.{length, getD}
 use Rattle.trees.specs.Label.{Label, sameLabel, labelLess, isIn, distinct}
 use Rattle.trees.specs.Tree.{Tree, leaves}
 use Rattle.trees.proofs.Bools.{clash, or-cases, or-inl, or-inr, refute, and-left, and-right, and-intro}
@@ -58,6 +58,20 @@ in-tail x y ys h = or-inr (sameLabel x y) (isIn x ys) h
 pub in-cases : (x y : Label) (ys : List Label) → isIn x (y ∷ ys) ≡ true → (x ≡ y) ⊎ (isIn x ys ≡ true)
 unfolding isIn
 in-cases x y ys h = ⊎-map (same-eq x y) (λ (k : isIn x ys ≡ true). k) (or-cases (sameLabel x y) (isIn x ys) h)
+
+-- a label of a list by its number
+pub record HasNumber (xs : List Label) (x : Label) : Type 0 where
+  pub at : ℕ
+  pub below : at < length xs
+  pub is : getD xs at [] ≡ x
+
+pub number-of : (xs : List Label) (x : Label) → isIn x xs ≡ true → HasNumber xs x
+number-of [] x h = in-nil x h
+number-of (y ∷ ys) x h = go (in-cases x y ys h) (number-of ys x)
+  where
+    go : (x ≡ y) ⊎ (isIn x ys ≡ true) → (isIn x ys ≡ true → HasNumber ys x) → HasNumber (y ∷ ys) x
+    go (inl e) f = record { at = 0; below = omega arith; is = sym e }
+    go (inr m) f = let n = f m in record { at = suc (n .at); below = omega (arith, n .below); is = n .is }
 
 -- a label other than the first stands in the list exactly if it stands in the rest
 pub in-other : (x y : Label) (ys : List Label) → (x ≡ y → ⊥) → isIn x (y ∷ ys) ≡ isIn x ys

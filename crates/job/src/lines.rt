@@ -7,6 +7,7 @@ use trees::LABEL_LIMIT;
 use trees::Reason;
 use trees::Refusal;
 use trees::StoredLabel;
+use trees::wide;
 ghost use mathlib.Core.Path.{_≡_};
 ghost use mathlib.Core.List.{[], _∷_};
 ghost use Prim.Native.Nat.{_+_, _*_, _≤_};
@@ -137,13 +138,6 @@ pub(crate) fn put_refusal(refusal: Refusal, area: &mut [u8]) -> usize
     let d = put_byte(trees::letter(body), area, c);
     let e = put_byte(b' ', area, d);
     put_number(refusal.place, area, e)
-}
-
-// A byte as a number.
-fn wide(b: u8) -> usize
-    ensures { λ r. ⌜ r ≡ b ⌝ }
-{
-    b as usize
 }
 
 // The line of a refusal.

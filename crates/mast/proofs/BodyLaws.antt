@@ -41,10 +41,9 @@ use Rattle.mast.specs.declared.LargestAnswer.{LargestAnswer}
 use Rattle.mast.specs.declared.LargestAnswer.the-variants.{Disagree, Refused}
 use Rattle.mast.specs.Largest.{Solution, clashed, turned, solutionOf, task, solve, largestOf, outputOf}
 use Rattle.leaves.specs.Numbered.{Numbered}
-use Rattle.mast.specs.Weighing.{chosenFrom}
-use Rattle.mast.specs.Engine.{OwnLeaves, OwnList, Ranked}
+use Rattle.table.specs.Choice.{chosenFrom, Solved}
+use Rattle.mast.specs.Engine.{OwnLeaves, OwnList}
 use Rattle.mast.specs.Required.{Marks, MarkedTo}
-use Rattle.mast.specs.Solving.{Solved}
 use Rattle.mast.specs.Asked.{Clashes, SomeTree, SomeClash, placesOfThree, FirstMissing, AskedOf}
 use Rattle.mast.specs.Finish.{InRange, ByRank, fittedSet, resultFrom}
 use Rattle.mast.specs.Given.{Reads}

@@ -17,14 +17,14 @@ use Rattle.agreement.specs.Sets.{increasing, sorted, common}
 use Rattle.agreement.specs.Answer.{Three, firstClash}
 use Rattle.agreement.specs.Demand.{Clash, IsDisagreement}
 use Rattle.agreement.specs.Places.{placeOfLabel}
-use Rattle.agreement.proofs.SetLaws.{in-sorted, length-sorted, sorted-inc, inc-distinct}
+use Rattle.agreement.proofs.SetLaws.{in-sorted, length-sorted, sorted-inc, inc-distinct, number-of}
 use Rattle.agreement.proofs.AnswerLaws.{FirstThree}
 use Rattle.agreement.proofs.DemandLaws.{required-clash, disagreement-unique}
 use Rattle.agreement.proofs.Promises.{eight-names}
 use Rattle.leaves.specs.Numbered.{LeafIs, Numbered}
 use Rattle.triples.specs.declared.Three as Ranks
 use Rattle.triples.specs.Clash.{rankOf, clashRanks, RankedTree}
-use Rattle.triples.proofs.Ranks.{number-of, place-of}
+use Rattle.triples.proofs.Ranks.{place-of}
 use Rattle.triples.proofs.RowLaws.{rank-at}
 use Rattle.mast.specs.Required.{ranksFrom, Entries}
 use Rattle.mast.specs.Asked.{RankedArrays, Clashes, placesOfThree}

@@ -28,7 +28,7 @@ use Rattle.agreement.specs.Closer.{holds}
 use Rattle.agreement.specs.Places.{placeIn}
 use Rattle.leaves.proofs.OwnLaws.{own-leaf}
 use Rattle.leaves.specs.Numbered.{LeafIs, Numbered}
-use Rattle.mast.specs.Weighing.{chosenFrom}
+use Rattle.table.specs.Choice.{chosenFrom}
 use Rattle.mast.specs.Largest.{setPlaces}
 use Rattle.mast.specs.Finish.{placesFrom, Stored, Flagged}
 

@@ -1,16 +1,9 @@
 pub mod BodyLaws
 pub mod ClashLaws
-pub mod ColumnLaws
-pub mod FillLaws
 pub mod FinishLaws
 pub mod OutcomeLaws
 pub mod Promises
 pub mod RankLaws
-pub mod RecurrenceLaws
 pub mod RequiredLaws
-pub mod RowLaws
 pub mod SaidLaws
-pub mod SideLaws
 pub mod SolutionLaws
-pub mod SolveLaws
-pub mod WeighingLaws

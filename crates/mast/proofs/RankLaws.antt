@@ -29,7 +29,8 @@ use Rattle.agreement.proofs.KeepLaws.{distinct-keep}
 use Rattle.leaves.specs.Find.{foundLeaf}
 use Rattle.leaves.proofs.OwnLaws.{own-leaf, own-inner, own-label, ownFound, found, missing}
 use Rattle.leaves.specs.Numbered.{LeafIs, Numbered}
-use Rattle.mast.specs.Engine.{OwnLeaves, Ordered, Ranked}
+use Rattle.mast.specs.Engine.{OwnLeaves, Ordered}
+use Rattle.table.specs.Choice.{Ranked}
 use Rattle.mast.specs.Ranks.{PartnerIs, Partners, NodePartner, storedLabel, Placed, Place, Opened, commonFrom, mostCommon, Collected, ranksOf}
 
 -- what the arrays of a tree tell of a leaf
@@ -505,25 +506,12 @@ module _ (order : List ℕ) where
       go (inr e) ih =
           ranks-other order r (getD order j 0) (f r (omega arith) (eqb-false j r e)) ∙ ih (omega (arith, eqb-false j r e))
 
-  ranks-low : (r u : ℕ) → r ≤ 80 → u < 159 → getD (ranksOf order r) u 0 ≤ 80
-  ranks-low zero u l h = omega (arith, ranks-none 0 u h (λ j k. absurd (omega arith)))
-  ranks-low (suc r) u l h = go (bool-cases (eqb u (getD order r 0))) (ranks-low r u (omega arith) h)
-    where
-      go : (eqb u (getD order r 0) ≡ true) ⊎ (eqb u (getD order r 0) ≡ false) → getD (ranksOf order r) u 0 ≤ 80
-          → getD (ranksOf order (suc r)) u 0 ≤ 80
-      go (inl e) ih =
-          let same = eqb-true u (getD order r 0) e in
-          rw same (omega (arith, ranks-same order r (rw (← same) h)))
-      go (inr e) ih = omega (arith, ranks-other order r u (eqb-false u (getD order r 0) e))
-
-pub ranked : (t : Tree) (C : List Label) (order : List ℕ) (m : ℕ) → Valid t → increasing C ≡ true → m ≡ length C → m ≤ 80
-    → Numbered t C order → Ranked t C (ranksOf order m)
-ranked t C order m v inc e few n =
-    record {
-      low = λ u h. ranks-low order m u few (low u h);
-      held = λ u r h l k. held u r h l k;
-      other = λ u x h k z. ranks-none order m u (low u h) (λ j l d. other u x k z j l d);
-    }
+pub ranked : (t : Tree) (C : List Label) (order : List ℕ) (m : ℕ) → Valid t → increasing C ≡ true → m ≡ length C → Numbered t C order
+    → Ranked t C (ranksOf order m)
+ranked t C order m v inc e n = record {
+  held = λ u r l is. held u r (is .below) l (is .is);
+  other = λ u x is z. ranks-none order m u (low u (is .below)) (λ j l d. other u x (is .is) z j l d);
+}
   where
     low : (u : ℕ) → u < nodesOf t → u < 159
     low u h = omega (arith, few-nodes t v)

@@ -20,17 +20,17 @@ use Rattle.trees.proofs.ListLaws.{at-in}
 use Rattle.lists.specs.ReadList.{placesOf}
 use Rattle.agreement.specs.Closer.{holds, Common}
 use Rattle.agreement.specs.Sets.{increasing, common, sorted, keep, setOf}
-use Rattle.agreement.proofs.SetLaws.{in-sorted, length-sorted, sorted-inc, keep-set, in-common}
+use Rattle.agreement.proofs.SetLaws.{in-sorted, length-sorted, sorted-inc, keep-set, in-common, number-of}
 use Rattle.agreement.proofs.KeepLaws.{keep-cong}
 use Rattle.triples.specs.Loops.{labelIn}
 use Rattle.triples.specs.Clash.{rankOf}
-use Rattle.triples.proofs.Ranks.{number-of, label-at}
+use Rattle.triples.proofs.Ranks.{label-at}
 use Rattle.triples.proofs.RowLaws.{rank-at}
 use Rattle.leaves.specs.Find.{foundLeaf}
 use Rattle.leaves.specs.Numbered.{LeafIs, Numbered}
 use Rattle.mast.specs.Engine.{OwnLeaves, OwnList}
 use Rattle.mast.specs.Required.{FoundRank, Marks, MarkedTo, ranksFrom, Entries, Added}
-use Rattle.mast.specs.Solving.{Marked}
+use Rattle.table.specs.Choice.{Marked}
 use Rattle.mast.proofs.RankLaws.{own-part, search-found, search-missing, inc-differ}
 
 -- the search tells whether the tree holds a label
@@ -124,7 +124,6 @@ marks-next k C K number r x inc dk few hk small hr e v m = record {
 -- all labels are marked
 pub marked-all : (C K : List Label) (number : List ℕ) → Marks (length K) C K number → Marked C K number
 marked-all C K number m = record {
-  size = m .size;
   held = λ r k hr hk e. m .held r k hr hk e;
   other = λ r hr none. m .other r hr (λ k h e. clash {b = isIn (getD C r []) K} (rw e (at-in K k h)) none);
 }

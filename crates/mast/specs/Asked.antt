@@ -18,9 +18,9 @@ use Rattle.agreement.specs.Answer.{answer, disagree}
 use Rattle.agreement.specs.Places.{placeOfLabel}
 use Rattle.leaves.specs.Numbered.{Numbered}
 use Rattle.triples.specs.declared.Three.{Three}
+use Rattle.table.specs.Choice.{Marked}
 use Rattle.mast.specs.Engine.{OwnLeaves, OwnList}
 use Rattle.mast.specs.Required.{MarkedTo}
-use Rattle.mast.specs.Solving.{Marked}
 
 -- a tree by its arrays, with its leaves by the rank of their labels in C
 pub record RankedArrays (t : Tree) (C : List Label) (tree : TreeArrays) (order : List ℕ) (m : ℕ) : Type 0 where

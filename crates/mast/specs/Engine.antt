@@ -38,9 +38,3 @@ pub record Ordered (s t : Tree) (order1 order2 : List ℕ) (m : ℕ) : Type 0 wh
   pub count : m ≡ length (common s t)
   pub first : Numbered s (common s t) order1
   pub second : Numbered t (common s t) order2
-
--- the rank in C of each leaf's label, 80 where it has none
-pub record Ranked (t : Tree) (C : List Label) (rank : List ℕ) : Type 0 where
-  pub low : (u : ℕ) → u < nodesOf t → getD rank u 0 ≤ 80
-  pub held : (u r : ℕ) → u < nodesOf t → r < length C → subtree (postorder t) u ≡ leaf (getD C r []) → getD rank u 0 ≡ r
-  pub other : (u : ℕ) (x : Label) → u < nodesOf t → subtree (postorder t) u ≡ leaf x → isIn x C ≡ false → getD rank u 0 ≡ 80

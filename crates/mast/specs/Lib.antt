@@ -1,6 +1,5 @@
 pub mod Asked
 pub mod Bodies
-pub mod Columns
 pub mod Engine
 pub mod Finish
 pub mod Given
@@ -8,6 +7,3 @@ pub mod Largest
 pub mod Ranks
 pub mod Required
 pub mod Rows
-pub mod Solving
-pub mod Table
-pub mod Weighing

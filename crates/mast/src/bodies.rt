@@ -11,13 +11,11 @@ ghost use Rattle.trees.specs.Tree.{Tree};
 ghost use Rattle.trees.specs.declared.Reason.the-variants.{FirstLacks, SecondLacks};
 ghost use Rattle.agreement.specs.Answer.{answer};
 ghost use Rattle.mast.specs.Largest.{clashed, solutionOf, task, solve, largestOf, outputOf};
-ghost use Rattle.mast.specs.Solving.{Rooted, OwnColumns, Solved};
-ghost use Rattle.mast.specs.Asked.{RankedArrays, Asked, Clashes, SomeTree, SomeClash, FirstMissing};
+ghost use Rattle.table.specs.Choice.{Solved};
+ghost use Rattle.mast.specs.Asked.{Asked, Clashes, SomeTree, SomeClash, FirstMissing};
 ghost use Rattle.mast.specs.Bodies.{Bodies, Bounded, OrderedBodies};
 use crate::LargestAnswer;
 use crate::LargestResult;
-use crate::columns::gathered;
-use crate::fill::COLUMNS;
 use crate::finish::solution;
 use crate::finish::without_set;
 use crate::ranks::NO_RANK;
@@ -28,9 +26,9 @@ use crate::required::clash_places;
 use crate::required::entries_at;
 use crate::required::holds_label;
 use crate::required::mark_required;
-use crate::solve::solve_set;
-use crate::weights::RANKS;
 use lists::LabelPlaces;
+use table::RANKS;
+use table::largest_set;
 use trees::Body;
 use trees::LEAF_LIMIT;
 use trees::NODE_LIMIT;
@@ -61,19 +59,6 @@ fn order_in(
     m
 }
 
-// A tree's columns, with the ranks of the m common labels by the numbers of their leaves.
-fn columns_in(tree: TreeArrays, order: &[usize; LEAF_LIMIT], m: usize) -> [u8; COLUMNS]
-    requires { ⌜ SomeTree tree (now order) m ⌝ }
-    ensures { λ r. ⌜ Rooted r ⌝ }
-    ensures { λ r. ⌜ ((t : Tree) (C : List Label) → RankedArrays t C tree (now (order .entry)) m → OwnColumns t C r) ⌝ }
-{
-    let left = tree.left;
-    let right = tree.right;
-    let mut rank = [NO_RANK; NODE_LIMIT];
-    rank_leaves(order, m, &mut rank);
-    gathered(&left, &right, &rank, tree.nodes)
-}
-
 // Whether the trees agree on the list, of `count` labels; if so, the labels chosen are the answer.
 fn find_set(
     tree1: TreeArrays,
@@ -90,9 +75,11 @@ fn find_set(
         → Asked s t xs tree1 tree2 (now (order1 .entry)) (now (order2 .entry)) m (now (number .entry)) count
         → Solved s t xs found (now (chosen .exit))) ⌝ }
 {
-    let first = columns_in(tree1, order1, m);
-    let second = columns_in(tree2, order2, m);
-    solve_set(&first, &second, number, m, count, chosen)
+    let mut rank1 = [NO_RANK; NODE_LIMIT];
+    let mut rank2 = [NO_RANK; NODE_LIMIT];
+    rank_leaves(order1, m, &mut rank1);
+    rank_leaves(order2, m, &mut rank2);
+    largest_set(tree1, tree2, &rank1, &rank2, m, number, count, chosen)
 }
 
 // Number 8: the first three labels of the list that clash.

@@ -11,7 +11,7 @@ ghost use Rattle.trees.specs.Label.{Label};
 ghost use Rattle.trees.specs.Tree.{Tree, Valid};
 ghost use Rattle.trees.specs.Arrays.{arraysOf};
 ghost use Rattle.leaves.specs.Numbered.{Numbered};
-ghost use Rattle.mast.specs.Weighing.{chosenFrom};
+ghost use Rattle.table.specs.Choice.{chosenFrom};
 ghost use Rattle.lists.specs.ReadList.{placesOf};
 ghost use Rattle.mast.specs.Largest.{setPlaces, largestOf, outputOf};
 ghost use Rattle.mast.specs.Finish.{InRange, placesFrom, Stored, Flagged, ByRank, fittedSet, resultFrom};

@@ -16,13 +16,9 @@ ghost use Rattle.mast.specs.Finish.{resultFrom};
 ghost use Rattle.mast.specs.Bodies.{unreadBody, unreadTree, unreadList};
 
 mod bodies;
-mod columns;
-mod fill;
 mod finish;
 mod ranks;
 mod required;
-mod solve;
-mod weights;
 
 // The size of the set and the length of its tree's text; the places in the list of three required labels that have different
 // closer pairs (number 8); or why the job was turned down.

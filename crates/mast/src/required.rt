@@ -15,13 +15,13 @@ ghost use Rattle.leaves.specs.Numbered.{Numbered};
 ghost use Rattle.mast.specs.Engine.{OwnLeaves, OwnList};
 ghost use Rattle.mast.specs.Required.{FoundRank, MarkedTo, ranksFrom, Entries, Added};
 ghost use Rattle.mast.specs.Asked.{Clashes, SomeClash, placesOfThree};
-use crate::columns::narrow;
-use crate::fill::wide;
-use crate::weights::RANKS;
 use lists::LabelPlaces;
+use table::RANKS;
 use trees::LEAF_LIMIT;
 use trees::NODE_LIMIT;
 use trees::TreeArrays;
+use trees::narrow;
+use trees::wide;
 use triples::Three;
 
 // The rank of a label among the m common ones, or m.

@@ -2,7 +2,7 @@
 //
 // No public function has a `requires`: each answers for all inputs.
 ghost use mathlib.Core.Path.{_≡_};
-ghost use Prim.Native.Nat.{min};
+ghost use Prim.Native.Nat.{_%_, min};
 ghost use lib.ListN.{getD, take};
 ghost use Rattle.trees.specs.Bytes.{classTable, kindOfCode};
 ghost use Rattle.trees.specs.Label.{orderOf, labelLess, sameLabel};
@@ -434,6 +434,19 @@ pub fn comes_before(a: &[u8], b: &[u8]) -> bool
         Order::Equal => false,
         Order::Greater => false,
     }
+}
+
+// A byte as a number, and the low byte of a number.
+pub fn wide(b: u8) -> usize
+    ensures { λ r. ⌜ r ≡ b ⌝ }
+{
+    b as usize
+}
+
+pub fn narrow(n: usize) -> u8
+    ensures { λ r. ⌜ r ≡ n % 256 ⌝ }
+{
+    (n % 256) as u8
 }
 
 // The smaller of two numbers.

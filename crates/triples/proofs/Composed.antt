@@ -26,7 +26,7 @@ use Rattle.agreement.specs.Answer.{Answer, firstLacks, secondLacks, disagree, l
 use Rattle.agreement.specs.Answer.{largestSet, answer}
 use Rattle.agreement.specs.Demand.{Clash}
 use Rattle.agreement.specs.Places.{placeOfNumber, placeOfLabel}
-use Rattle.agreement.proofs.SetLaws.{length-sorted, sorted-inc, inc-distinct}
+use Rattle.agreement.proofs.SetLaws.{length-sorted, sorted-inc, inc-distinct, number-of}
 use Rattle.agreement.proofs.AnswerLaws.{FirstThree, clash-found}
 use Rattle.leaves.specs.Find.{foundLeaf}
 use Rattle.leaves.specs.Numbered.{LeafIs, Numbered}
@@ -37,7 +37,7 @@ use Rattle.triples.specs.declared.Three.{Three as Ranked}
 use Rattle.triples.specs.Verdict.{verdictOf}
 use Rattle.triples.specs.Clash.{rankOf, clashRanks, RankedTree}
 use Rattle.triples.specs.Loops.{labelIn, rankIn, InOrder, LeavesFound, lackFrom, toldOf, Given}
-use Rattle.triples.proofs.Ranks.{number-of, label-at, place-of, place-number, order-sorted}
+use Rattle.triples.proofs.Ranks.{label-at, place-of, place-number, order-sorted}
 use Rattle.triples.proofs.RowLaws.{rank-at}
 
 -- the leaf numbers of the list's labels in a tree

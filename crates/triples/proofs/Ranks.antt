@@ -16,22 +16,8 @@ use Rattle.trees.proofs.AmongLaws.{part-here}
 use Rattle.lists.proofs.ListPlaces.{length-starts, length-sizes}
 use Rattle.agreement.specs.Sets.{insert, sorted, increasing}
 use Rattle.agreement.specs.Places.{placeOfNumber, placeOfLabel}
-use Rattle.agreement.proofs.SetLaws.{in-head, in-tail, in-nil, in-cases, inc-head, inc-tail, in-sorted, sorted-inc, length-sorted}
+use Rattle.agreement.proofs.SetLaws.{in-head, in-tail, inc-head, inc-tail, in-sorted, sorted-inc, length-sorted, HasNumber, number-of}
 use Rattle.triples.specs.Loops.{labelIn, lessCount, rankIn, InOrder}
-
--- labels by number
-pub record Numbered (xs : List Label) (x : Label) : Type 0 where
-  pub at : ℕ
-  pub below : at < length xs
-  pub is : getD xs at [] ≡ x
-
-pub number-of : (xs : List Label) (x : Label) → isIn x xs ≡ true → Numbered xs x
-number-of [] x h = in-nil x h
-number-of (y ∷ ys) x h = go (in-cases x y ys h) (number-of ys x)
-  where
-    go : (x ≡ y) ⊎ (isIn x ys ≡ true) → (isIn x ys ≡ true → Numbered ys x) → Numbered (y ∷ ys) x
-    go (inl e) f = record { at = 0; below = omega arith; is = sym e }
-    go (inr m) f = let n = f m in record { at = suc (n .at); below = omega (arith, n .below); is = n .is }
 
 -- a label in a text
 part-own : (xs : List Label) (before : List ℕ) (p k : ℕ) → p ≡ length before → k < length xs
@@ -149,7 +135,7 @@ module _ (xs : List Label) (d : distinct xs ≡ true) (text start size : List �
       → (getD order r 0 < length xs) × (getD xs (getD order r 0) [] ≡ getD (sorted xs) r [])
   order-sorted order f r h = (omega (arith, g .0), shows)
     where
-      m : Numbered xs (getD (sorted xs) r [])
+      m : HasNumber xs (getD (sorted xs) r [])
       m =
           number-of xs (getD (sorted xs) r [])
           (sym (in-sorted (getD (sorted xs) r []) xs) ∙ at-in (sorted xs) r (omega (arith, length-sorted xs)))
@@ -165,7 +151,7 @@ module _ (xs : List Label) (d : distinct xs ≡ true) (text start size : List �
       low : getD order r 0 < length xs
       low = omega (arith, len, g .0)
 
-      q : Numbered (sorted xs) (getD xs (getD order r 0) [])
+      q : HasNumber (sorted xs) (getD xs (getD order r 0) [])
       q = number-of (sorted xs) (getD xs (getD order r 0) []) (in-sorted (getD xs (getD order r 0) []) xs ∙ at-in xs (getD order r 0) low)
 
       same : q .at ≡ r

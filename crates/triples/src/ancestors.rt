@@ -31,13 +31,6 @@ pub(crate) fn lows(left: &[usize; 159], nodes: usize) -> [usize; 159]
     low
 }
 
-// A node's number as a byte: it is below 159.
-fn byte(n: usize) -> u8
-    ensures { λ r. ⌜ r ≡ n % 256 ⌝ }
-{
-    (n % 256) as u8
-}
-
 // Node w where it spans u, else what the nodes past it give.
 fn nearer(low: &[usize; 159], u: usize, w: usize, later: usize) -> usize
     requires { ⌜ w < 159 ⌝ }
@@ -57,7 +50,7 @@ fn ancestors_after(low: &[usize; 159], nodes: usize, u: usize) -> [u8; 159]
     while u < w {
         w -= 1;
         nearest = nearer(low, u, w, nearest);
-        at[w] = byte(nearest);
+        at[w] = trees::narrow(nearest);
     }
     at
 }
@@ -88,7 +81,7 @@ fn ancestors_before(low: &[usize; 159], nodes: usize, u: usize) -> [u8; 159]
     while 0 < v {
         v -= 1;
         w = next_spanning(low, nodes, w, v);
-        at[v] = byte(w);
+        at[v] = trees::narrow(w);
     }
     at
 }

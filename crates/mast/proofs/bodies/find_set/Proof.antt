@@ -3,22 +3,36 @@ use borrow.Author.Needs.{needs}
 use Rattle.mast.proofs.bodies.find_set.Statement.{statement}
 use Rattle.mast.proofs.bodies.find_set.Tie as tie
 
-columns-in-requires : tie.Need-columns-in-requires
-columns-in-requires c κs = search needs
+rank-leaves-requires : tie.Need-rank-leaves-requires
+rank-leaves-requires c κs = search needs
 
-columns-in-requires-2 : tie.Need-columns-in-requires-2
-columns-in-requires-2 c κs = search needs
+rank-leaves-requires-2 : tie.Need-rank-leaves-requires-2
+rank-leaves-requires-2 c κs = search needs
 
-solve-set-requires : tie.Need-solve-set-requires
-solve-set-requires c κs = search needs
+largest-set-requires : tie.Need-largest-set-requires
+largest-set-requires c κs = search needs
 
 returns : tie.Need-returns
 returns c =
     λ s t xs a.
-    c .solve-set .ensures s t xs
-    (record { one = c .before .before .before .before .before .columns-in .ensures .1 s _ (a .one); two = c .before .before .before .before .columns-in2 .ensures .1 t _ (a .two); count = a .one .count })
-    (a .different) (a .held) (a .count-is) (a .marked)
+    c .largest-set .ensures .0 s t xs (record {
+      one = record {
+        valid = a .one .valid;
+        arrays-are = a .one .arrays-is;
+        ranked = c .before .before .before .before .before .before .rank-leaves .ensures s _ (a .one .valid) (a .one .ordered) (a .one .count) (a .one .numbered);
+      };
+      two = record {
+        valid = a .two .valid;
+        arrays-are = a .two .arrays-is;
+        ranked = c .before .before .before .before .rank-leaves2 .ensures t _ (a .two .valid) (a .two .ordered) (a .two .count) (a .two .numbered);
+      };
+      all = a .one .count;
+      different = a .different;
+      required = a .held;
+      marked = a .marked;
+      count-is = a .count-is;
+    })
 
 pub find-set-spec : {M : Type 1} → statement M
 find-set-spec =
-    tie.close (tie.spec columns-in-requires columns-in-requires-2 solve-set-requires returns)
+    tie.close (tie.spec rank-leaves-requires rank-leaves-requires-2 largest-set-requires returns)

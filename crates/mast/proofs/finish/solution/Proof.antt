@@ -3,7 +3,7 @@ use mathlib.Core.Path.{sym, _∙_, ap}
 use borrow.Author.Needs.{needs}
 use Rattle.mast.proofs.SolutionLaws.{placed-result, restricted-text, not-written, set-written, set-refused, set-output}
 use Rattle.trees.specs.Arrays.{treeOf}
-use Rattle.mast.specs.Weighing.{chosenFrom}
+use Rattle.table.specs.Choice.{chosenFrom}
 use Rattle.mast.proofs.finish.solution.Statement.{statement}
 use Rattle.mast.proofs.finish.solution.Tie as tie
 

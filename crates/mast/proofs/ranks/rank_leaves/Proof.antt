@@ -2,7 +2,7 @@
 use Prim.Native.Nat.{ℕ, _≤_, _-_}
 use mathlib.Core.Path.{_≡_, sym, _∙_, ap, subst}
 use mathlib.Core.List.{List}
-use Rattle.mast.specs.Engine.{Ranked}
+use Rattle.table.specs.Choice.{Ranked}
 use Rattle.mast.specs.Ranks.{ranksOf}
 use Rattle.mast.proofs.RankLaws.{ranks-start, ranks-next, ranked}
 use native.Mathlib.Omega.{arith}
@@ -46,7 +46,7 @@ returns c =
     λ t C v inc e n.
     let r-is : c .before .loop .r ≡ c .before .before .before .args .m = omega (arith, c .before .loop .inv .0, c .loop-test .left) in
     subst (λ (k : List ℕ). Ranked t C k) (sym (c .before .loop .inv .1 ∙ ap (ranksOf (c .before .before .before .args .order .now)) r-is))
-    (ranked t C _ _ v inc e (c .before .before .before .pre) n)
+    (ranked t C _ _ v inc e n)
 
 pub rank-leaves-spec : {M : Type 1} → statement M
 rank-leaves-spec =

@@ -30,8 +30,8 @@ nearer-requires : tie.Need-nearer-requires Inv-loop μ-loop
 nearer-requires c κs =
     omega arith
 
-byte-requires : tie.Need-byte-requires Inv-loop μ-loop
-byte-requires c κs = search needs
+narrow-requires : tie.Need-narrow-requires Inv-loop μ-loop
+narrow-requires c κs = search needs
 
 array-write-at : tie.Need-array-write-at Inv-loop μ-loop
 array-write-at c =
@@ -54,7 +54,7 @@ loop-again c =
       simp length-set (i .1),
       n,
       store-down (λ v x. x ≡ spanFrom (a .low .now) (a .u) (a .nodes) v % 256) (c3 .loop .at) (a .nodes) w _ (omega (arith, i .1))
-          (λ v h k. i .3 v (omega arith) k) (c .byte .ensures ∙ ap (λ (z : ℕ). z % 256) n),
+          (λ v h k. i .3 v (omega arith) k) (c .narrow .ensures ∙ ap (λ (z : ℕ). z % 256) n),
     )
 
 returns : tie.Need-returns Inv-loop μ-loop
@@ -70,7 +70,7 @@ ancestors-after-spec =
     loop-holds
     sub-w
     nearer-requires
-    byte-requires
+    narrow-requires
     array-write-at
     loop-less
     loop-again

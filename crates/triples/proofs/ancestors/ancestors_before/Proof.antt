@@ -30,8 +30,8 @@ next-spanning-requires : tie.Need-next-spanning-requires Inv-loop μ-loop
 next-spanning-requires c κs =
     omega arith
 
-byte-requires : tie.Need-byte-requires Inv-loop μ-loop
-byte-requires c κs =
+narrow-requires : tie.Need-narrow-requires Inv-loop μ-loop
+narrow-requires c κs =
     search needs
 
 array-write-at : tie.Need-array-write-at Inv-loop μ-loop
@@ -54,7 +54,7 @@ loop-again c =
       simp length-set (i .1),
       λ a h. ap (spanFrom (s .low .now) a (s .nodes)) n ∙ span-skip (s .low .now) a v (s .nodes) (c3 .loop .w) (omega arith) ∙ i .2 a (omega arith),
       store-down (λ a x. x ≡ spanFrom (s .low .now) a (s .nodes) (s .u) % 256) (c3 .loop .at) (s .u) v _ (omega (arith, i .1))
-          (λ a h k. i .3 a (omega arith) k) (c .byte .ensures ∙ ap (λ (z : ℕ). z % 256) (n ∙ i .2 v (omega arith))),
+          (λ a h k. i .3 a (omega arith) k) (c .narrow .ensures ∙ ap (λ (z : ℕ). z % 256) (n ∙ i .2 v (omega arith))),
     )
 
 returns : tie.Need-returns Inv-loop μ-loop
@@ -70,7 +70,7 @@ ancestors-before-spec =
     loop-holds
     sub-v
     next-spanning-requires
-    byte-requires
+    narrow-requires
     array-write-at
     loop-less
     loop-again

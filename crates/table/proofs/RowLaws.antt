@@ -1,0 +1,149 @@
+-- Laws of rows: the value computed for a cell is that of the recurrence and a stored cell leaves the others alone. Assumes
+-- nothing.
+use Prim.Native.Nat.{ℕ, _+_, _*_, _<_, _≤_, max}
+use mathlib.Core.Path.{_≡_, refl, sym, _∙_, ap, ap₂}
+use mathlib.Core.Bool.{Bool, true, false, cond}
+use mathlib.Core.Logic.{_⊎_, inl, inr, ⊎-elim}
+use mathlib.Core.List.{List}
+use native.Mathlib.Omega.{arith}
+use lib.Dec.{eqb, ltb}
+use lib.ListN.{length, getD, set, length-set}
+use lib.Seq.{getD-set-same, getD-set-other}
+use borrow.Author.Tests.{eq-eqb, ne-eqb, eqb-true, eqb-false, ltb-true, ltb-false}
+use Rattle.trees.specs.Label.{Label, sameLabel}
+use Rattle.trees.specs.Tree.{Tree, leaf, node, leaves, leafLimit}
+use Rattle.trees.specs.Postorder.{subtree, LaidNode, laid-leaf, laid-node}
+use Rattle.trees.proofs.Bools.{bool-cases}
+use Rattle.agreement.specs.Weights.{best}
+use Rattle.table.specs.Table.{two64, valueAt, wrapped, columnAt, weightPlace, innerAt, cellAt, leafCellAt, Outside}
+use Rattle.table.specs.Table.{Columns, RowTo, Light, RankIs}
+use Rattle.table.proofs.RecurrenceLaws.{best-leaves, best-leaf-node, best-node-leaf, best-inner}
+
+-- what columns tell of node u
+pub data NodeCase (ts : List Tree) (l r u : ℕ) (t : Tree) : Type 0 where
+  is-leaf : (x : Label) → l ≡ u → t ≡ leaf x → NodeCase ts l r u t
+  is-node : l < u → r < u → t ≡ node (subtree ts l) (subtree ts r) → NodeCase ts l r u t
+
+pub node-case : {ts : List Tree} {l r u : ℕ} {t : Tree} → LaidNode ts l r u t → NodeCase ts l r u t
+node-case (laid-leaf {x} e) = is-leaf x e refl
+node-case (laid-node p q) = is-node p q refl
+
+-- the recurrence, at a second tree that is known by an equation
+module _ (w : Label → ℕ) (t : Tree) where
+  two-leaves : (x y : Label) → t ≡ leaf y → cond (sameLabel x y) (w x) 0 ≡ best w (leaf x) t
+  two-leaves x y q = rw q (sym (best-leaves w x y))
+
+  leaf-node : (x : Label) (c d : Tree) → t ≡ node c d → max (best w (leaf x) c) (best w (leaf x) d) ≡ best w (leaf x) t
+  leaf-node x c d q = rw q (sym (best-leaf-node w x c d))
+
+  node-leaf : (a b : Tree) (y : Label) → t ≡ leaf y → max (best w a t) (best w b t) ≡ best w (node a b) t
+  node-leaf a b y q = rw q (sym (best-node-leaf w a b y))
+
+  two-nodes : (a b c d : Tree) → t ≡ node c d → Light w → length (leaves (node a b)) ≤ leafLimit
+      → max (max (best w a t) (best w b t))
+      (max (max (best w (node a b) c) (best w (node a b) d))
+      (max (wrapped (best w a c) (best w b d)) (wrapped (best w a d) (best w b c))))
+      ≡ best w (node a b) t
+  two-nodes a b c d q light few = rw q (best-inner w light a b c d few)
+
+module _ (second : List ℕ) (nodes : ℕ) (ts : List Tree) (w : Label → ℕ) (two : Columns second nodes ts) (f : ℕ → ℕ) (u v : ℕ)
+    (hv : v < nodes) where
+  -- the cell of a leaf
+  pub leaf-right : (x : Label) (rank : ℕ) → RankIs second nodes ts w x rank (f (weightPlace rank))
+      → ((q : ℕ) → q < v → f (u + q) ≡ best w (leaf x) (subtree ts q))
+      → leafCellAt f second rank u v ≡ best w (leaf x) (subtree ts v)
+  unfolding leafCellAt
+  leaf-right x rank is before = go (node-case (two .laid v hv))
+    where
+      go : NodeCase ts (columnAt second 0 v) (columnAt second 1 v) v (subtree ts v)
+          → cond (eqb (columnAt second 0 v) v) (cond (eqb (columnAt second 2 v) rank) (f (weightPlace rank)) 0)
+          (max (f (u + columnAt second 0 v)) (f (u + columnAt second 1 v)))
+          ≡ best w (leaf x) (subtree ts v)
+      go (is-leaf y e q) = rw (eq-eqb _ _ e) (is .is v hv y q ∙ two-leaves w _ x y q)
+      go (is-node l r q) =
+          rw (ne-eqb (columnAt second 0 v) v (omega arith))
+          (ap₂ max (before _ l) (before _ r) ∙ leaf-node w _ x _ _ q)
+
+  -- the cell of an inner node
+  pub inner-right : (p q : Tree) (a b : ℕ) → Light w → length (leaves (node p q)) ≤ leafLimit
+      → ((k : ℕ) → k < v + 1 → f (a + k) ≡ best w p (subtree ts k)) → ((k : ℕ) → k < v + 1 → f (b + k) ≡ best w q (subtree ts k))
+      → ((k : ℕ) → k < v → f (u + k) ≡ best w (node p q) (subtree ts k))
+      → cellAt f second a b u v ≡ best w (node p q) (subtree ts v)
+  unfolding cellAt innerAt
+  inner-right p q a b light few one other before = go (node-case (two .laid v hv))
+    where
+      go : NodeCase ts (columnAt second 0 v) (columnAt second 1 v) v (subtree ts v)
+          → cond (eqb (columnAt second 0 v) v) (max (f (a + v)) (f (b + v))) (innerAt f a b u (columnAt second 0 v) (columnAt second 1 v) v)
+          ≡ best w (node p q) (subtree ts v)
+      go (is-leaf y e d) =
+          rw (eq-eqb _ _ e) (ap₂ max (one v (omega arith)) (other v (omega arith)) ∙ node-leaf w _ p q y d)
+      go (is-node l r d) =
+          rw (
+            ne-eqb (columnAt second 0 v) v (omega arith),
+            one v (omega arith),
+            other v (omega arith),
+            before (columnAt second 0 v) l,
+            before (columnAt second 1 v) r,
+            one (columnAt second 0 v) (omega arith),
+            one (columnAt second 1 v) (omega arith),
+            other (columnAt second 0 v) (omega arith),
+            other (columnAt second 1 v) (omega arith),
+          )
+          (two-nodes w _ p q _ _ d light few)
+
+-- a cell is stored
+
+module _ (row v h l : ℕ) (high low : List ℕ) where
+  abbrev place : ℕ
+  place = row * 159 + v
+
+  pub outside-store : (high0 low0 : List ℕ) → v < 159 → Outside row high0 low0 high low
+      → Outside row high0 low0 (set high (row * 159 + v) h) (set low (row * 159 + v) l)
+  outside-store high0 low0 hv out = record {
+    same = λ i side.
+        ap₂ (λ (x y : ℕ). x * two64 + y) (getD-set-other high place i h 0 (ne i side)) (getD-set-other low place i l 0 (ne i side))
+        ∙ out .same i side;
+  }
+    where
+      ne : (i : ℕ) → (i < row * 159) ⊎ (row * 159 + 159 ≤ i) → i ≡ row * 159 + v → ⊥
+      ne i (inl k) e = omega arith
+      ne i (inr k) e = omega arith
+
+  pub row-store : (ts : List Tree) (w : Label → ℕ) (s : Tree) → row < 8 → v < 159 → length high ≡ 1431 → length low ≡ 1431
+      → RowTo v ts w s row high low → h * two64 + l ≡ best w s (subtree ts v)
+      → RowTo (v + 1) ts w s row (set high (row * 159 + v) h) (set low (row * 159 + v) l)
+  row-store ts w s hr hv sh sl right e = record { right = λ q hq. go q hq (bool-cases (eqb q v)) }
+    where
+      go : (q : ℕ) → q < v + 1 → (eqb q v ≡ true) ⊎ (eqb q v ≡ false)
+          → valueAt (set high (row * 159 + v) h) (set low (row * 159 + v) l) (row * 159 + q) ≡ best w s (subtree ts q)
+      go q hq (inl same) =
+          rw (eqb-true q v same)
+          (ap₂ (λ (x y : ℕ). x * two64 + y) (getD-set-same high place h 0 (omega arith)) (getD-set-same low place l 0 (omega arith)) ∙ e)
+      go q hq (inr other) =
+          let n = eqb-false q v other in
+          let ne : row * 159 + q ≡ row * 159 + v → ⊥ = λ d. n (omega arith) in
+          ap₂ (λ (x y : ℕ). x * two64 + y) (getD-set-other high place (row * 159 + q) h 0 ne) (getD-set-other low place (row * 159 + q) l 0 ne)
+          ∙ right .right q (omega (arith, n))
+
+pub row-apart : (k row v : ℕ) → v < 159 → (k ≡ row → ⊥) → (k * 159 + v < row * 159) ⊎ (row * 159 + 159 ≤ k * 159 + v)
+row-apart k row v hv ne = go (bool-cases (ltb k row))
+  where
+    go : (ltb k row ≡ true) ⊎ (ltb k row ≡ false) → (k * 159 + v < row * 159) ⊎ (row * 159 + 159 ≤ k * 159 + v)
+    go (inl e) = inl (omega (arith, ltb-true k row e))
+    go (inr e) = inr (omega (arith, ltb-false k row e, ne))
+
+-- another row is as it was
+pub other-row : (n row k : ℕ) (ts : List Tree) (w : Label → ℕ) (s : Tree) (high0 low0 high low : List ℕ) → n ≤ 159 → (k ≡ row → ⊥)
+    → Outside row high0 low0 high low → RowTo n ts w s k high0 low0 → RowTo n ts w s k high low
+other-row n row k ts w s high0 low0 high low few ne out right = record {
+  right = λ v hv. out .same (k * 159 + v) (row-apart k row v (omega arith) ne) ∙ right .right v hv;
+}
+
+pub outside-none : (row : ℕ) (high low : List ℕ) → Outside row high low high low
+outside-none row high low = record { same = λ i side. refl }
+
+-- a rank's weight, where its place is as it was
+pub rank-kept : (second : List ℕ) (nodes : ℕ) (ts : List Tree) (w : Label → ℕ) (x : Label) (rank m n : ℕ) → n ≡ m
+    → RankIs second nodes ts w x rank m → RankIs second nodes ts w x rank n
+rank-kept second nodes ts w x rank m n e is =
+    record { is = λ v h y p. ap (λ (k : ℕ). cond (eqb (columnAt second 2 v) rank) k 0) e ∙ is .is v h y p }

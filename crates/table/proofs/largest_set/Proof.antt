@@ -1,0 +1,62 @@
+-- `largest_set` meets its contract. Assumes nothing.
+use mathlib.Core.Path.{refl, sym, _∙_}
+use mathlib.Core.Bool.{true, false}
+use native.Mathlib.Omega.{arith}
+use Rattle.trees.proofs.Bools.{clash}
+use Rattle.table.proofs.SolveLaws.{solved-set, solved-eight}
+use borrow.Author.Needs.{needs}
+use Rattle.table.proofs.largest_set.Statement.{statement}
+use Rattle.table.proofs.largest_set.Tie as tie
+
+columns-of-requires : tie.Need-columns-of-requires
+columns-of-requires c κs = search needs
+
+columns-of-requires-2 : tie.Need-columns-of-requires-2
+columns-of-requires-2 c κs = search needs
+
+least-requires : tie.Need-least-requires
+least-requires c κs = search needs
+
+put-weights-requires : tie.Need-put-weights-requires
+put-weights-requires c κs = search needs
+
+root-weight-requires : tie.Need-root-weight-requires
+root-weight-requires c κs = search needs
+
+held-requires : tie.Need-held-requires
+held-requires c κs = search needs
+
+returns : tie.Need-returns
+returns c = (
+  λ s t K posed.
+      solved-eight s t K _ _ _ _ _ _ _ posed _ _ (c .before .before .before .before .before .before .before .before .before .before .before .before .columns-of .ensures .1) (c .before .before .before .before .before .before .before .before .before .before .before .columns-of2 .ensures .1) _ (c .before .before .before .before .before .before .before .before .before .before .least .ensures)
+      _ _ _ _ (c .before .before .before .before .before .before .before .put-weights .ensures) _ (c .before .before .root-weight .ensures) _
+      (λ e. c .if1 .taken (c .before .held .ensures ∙ e)),
+  (λ e. clash {b = false} e refl, λ e. refl),
+)
+
+read-set-requires : tie.Need-read-set-requires
+read-set-requires c κs = search needs
+
+returns-2 : tie.Need-returns-2
+returns-2 c = (
+  λ s t K posed.
+      solved-set s t K _ _ _ _ _ _ _ posed _ _ (c .before .before .before .before .before .before .before .before .before .before .before .before .before .before .before .before .columns-of .ensures .1) (c .before .before .before .before .before .before .before .before .before .before .before .before .before .before .before .columns-of2 .ensures .1) _ (c .before .before .before .before .before .before .before .before .before .before .before .before .before .before .least .ensures)
+      _ _ _ _ (c .before .before .before .before .before .before .before .before .before .before .before .put-weights .ensures) _ (c .before .before .before .before .before .before .root-weight .ensures) _
+      (sym (c .before .before .before .before .before .held .ensures) ∙ c .before .before .before .before .if1 .left) (c .read-set .ensures .0),
+  (λ e r h. c .read-set .ensures .1 r (omega (arith, c .before .before .before .before .before .before .before .before .before .before .before .before .before .before .least .ensures)), λ e. clash {b = true} refl e),
+)
+
+pub largest-set-spec : {M : Type 1} → statement M
+largest-set-spec =
+    tie.close
+    (tie.spec
+    columns-of-requires
+    columns-of-requires-2
+    least-requires
+    put-weights-requires
+    root-weight-requires
+    held-requires
+    returns
+    read-set-requires
+    returns-2)

@@ -1,0 +1,52 @@
+-- What is asked of the table and what it tells: two trees by their arrays, their common labels and the required ones by rank; the set,
+-- or that three required labels clash. Scope paper, "Agreement", and row 8 of "Why a job is turned down".
+use Prim.Native.Nat.{ℕ, suc, _<_}
+use mathlib.Core.Path.{_≡_}
+use mathlib.Core.Bool.{Bool, true, false, cond}
+use mathlib.Core.List.{List, [], _∷_}
+use lib.ListN.{length, getD}
+use Rattle.trees.specs.declared.TreeArrays.{TreeArrays}
+use Rattle.trees.specs.Label.{Label, isIn, distinct}
+use Rattle.trees.specs.Tree.{Tree, Valid}
+use Rattle.trees.specs.Arrays.{arraysOf}
+use Rattle.leaves.specs.Numbered.{LeafIs}
+use Rattle.agreement.specs.Closer.{Common}
+use Rattle.agreement.specs.Sets.{common, setOf}
+use Rattle.agreement.specs.Answer.{answer, disagree, largest}
+
+-- by node: the rank in C of a leaf's label, counted from 0, and 80 where C has it not ("Agreement": leaves common to both trees)
+pub record Ranked (t : Tree) (C : List Label) (rank : List ℕ) : Type 0 where
+  pub held : (u r : ℕ) → r < length C → LeafIs t u (getD C r []) → getD rank u 0 ≡ r
+  pub other : (u : ℕ) (x : Label) → LeafIs t u x → isIn x C ≡ false → getD rank u 0 ≡ 80
+
+-- by rank in C: a required label's number in the list K, counted from 1, and 0 for any other ("Agreement": a required list)
+pub record Marked (C K : List Label) (number : List ℕ) : Type 0 where
+  pub held : (r k : ℕ) → r < length C → k < length K → getD C r [] ≡ getD K k [] → getD number r 0 ≡ suc k
+  pub other : (r : ℕ) → r < length C → isIn (getD C r []) K ≡ false → getD number r 0 ≡ 0
+
+-- the arrays are those of tree t, and the ranks of its leaves' labels are among the labels of C
+pub record Given (t : Tree) (C : List Label) (tree : TreeArrays) (rank : List ℕ) : Type 0 where
+  pub valid : Valid t
+  pub arrays-are : tree ≡ arraysOf t
+  pub ranked : Ranked t C rank
+
+-- two trees with m common labels, and a required list of `count` different labels that stand in both
+pub record Posed (s t : Tree) (K : List Label) (tree1 tree2 : TreeArrays) (rank1 rank2 : List ℕ) (m : ℕ) (number : List ℕ) (count : ℕ)
+    : Type 0 where
+  pub one : Given s (common s t) tree1 rank1
+  pub two : Given t (common s t) tree2 rank2
+  pub all : m ≡ length (common s t)
+  pub different : distinct K ≡ true
+  pub required : Common s t (setOf K)
+  pub marked : Marked (common s t) K number
+  pub count-is : count ≡ length K
+
+-- the labels of C that are chosen, from rank r on
+unfoldable pub chosenFrom : List Bool → ℕ → List Label → List Label
+chosenFrom chosen r [] = []
+chosenFrom chosen r (c ∷ cs) = cond (getD chosen r false) (c ∷ chosenFrom chosen (suc r) cs) (chosenFrom chosen (suc r) cs)
+
+-- the answer: the labels chosen, or three that clash
+pub record Solved (s t : Tree) (K : List Label) (found : Bool) (chosen : List Bool) : Type 0 where
+  pub set : found ≡ true → answer s t K ≡ largest (chosenFrom chosen 0 (common s t))
+  pub eight : found ≡ false → (a : Label) × (b : Label) × (c : Label) × (answer s t K ≡ disagree a b c)
