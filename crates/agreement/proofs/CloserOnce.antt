@@ -1,6 +1,6 @@
 -- "Of three different leaves in a binary tree, exactly one pair" is the closer pair. Assumes nothing.
 use mathlib.Core.Path.{_≡_, sym, _∙_}
-use mathlib.Core.Bool.{Bool, true, false}
+use mathlib.Core.Bool.{Bool, true}
 use mathlib.Core.Logic.{_⊎_, inl, inr}
 use Rattle.trees.specs.Label.{Label, distinct}
 use Rattle.trees.specs.Tree.{Tree, leaf, node, leaves}

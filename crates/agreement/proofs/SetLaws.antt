@@ -307,6 +307,10 @@ count-held Y L h d f =
 pub within-few : (Y L : List Label) → increasing Y ≡ true → distinct L ≡ true → Within Y L → length Y ≤ length L
 within-few Y L h d f = omega (arith, count-held Y L h d f, keep-few (setOf Y) L)
 
+pub common-short : (s t : Tree) → length (common s t) ≤ length (leaves s)
+unfolding common
+common-short s t = omega (arith, length-sorted (keep (holds t) (leaves s)), keep-few (holds t) (leaves s))
+
 -- sublists
 
 among-map : (x : Label) (Xs : List (List Label)) (Y : List Label) → Among Y (map (_∷_ x) Xs) → (Z : List Label) × Among Z Xs × (Y ≡ x ∷ Z)

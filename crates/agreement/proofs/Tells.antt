@@ -19,7 +19,7 @@ use Rattle.agreement.specs.Answer.{Three, firstClash, disagree, largest,
 use Rattle.agreement.specs.Demand.{Allowed, IsAnswer, Clash}
 use Rattle.agreement.specs.Greatest.{Greatest}
 use Rattle.agreement.proofs.SetLaws.{Within, in-keep, keep-in, set-keep, keep-set, common-inc, in-common, common-in}
-use Rattle.agreement.proofs.SetLaws.{length-sorted, sorted-inc, keep-few}
+use Rattle.agreement.proofs.SetLaws.{length-sorted, sorted-inc, common-short}
 use Rattle.agreement.proofs.KeepLaws.{distinct-keep, keep-cong}
 use Rattle.agreement.proofs.AnswerLaws.{FirstThree}
 use Rattle.agreement.proofs.DemandLaws.{sorted-within, within-sorted, required-clash, required-allowed, largest-exactly, eight-exactly}
@@ -174,8 +174,7 @@ unfolding power
 full-places = refl
 
 pub common-few : (s t : Tree) → Proper s → length (common s t) ≤ leafLimit
-unfolding common
-common-few s t p = omega (arith, length-sorted (keep (holds t) (leaves s)), keep-few (holds t) (leaves s), p .few)
+common-few s t p = omega (arith, common-short s t, p .few)
 
 module _ (s t : Tree) (K : List Label) (proper : Proper s) (dk : distinct K ≡ true) (held : Common s t (setOf K)) (M : ℕ)
     (great : Greatest (telling leafLimit (sorted K) (common s t)) s t M) where

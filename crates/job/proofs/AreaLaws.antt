@@ -6,8 +6,8 @@ use mathlib.Core.List.{List, [], _∷_, _++_, append-assoc, append-nil}
 use native.Mathlib.Nat.{add-zero, zero-add}
 use native.Mathlib.Numerals.{add-one}
 use native.Mathlib.Omega.{arith}
-use lib.Dec.{leb, eqb}
-use lib.ListN.{length, getD, set, take, drop, length-append, length-take, length-drop, length-set, take-append-drop, drop-of-length-le}
+use lib.Dec.{leb}
+use lib.ListN.{length, getD, set, take, drop, length-append, length-take, length-set, take-append-drop, drop-of-length-le}
 use lib.Seq.{take-suc, take-suc-set, drop-set-lt, drop-drop, take-length}
 use borrow.Author.Tests.{le-leb, lt-leb, eq-eqb, ne-eqb}
 use Rattle.trees.specs.Label.{Label, labelLimit}
@@ -159,10 +159,6 @@ put-label text starts sizes n p q =
 pub first-none : (a : List ℕ) (at : ℕ) (text starts sizes : List ℕ) → Put a at (joined (labelsIn text starts sizes 0)) at a
 unfolding labelsIn joined
 first-none a at text starts sizes = put-to (at + 0) at (add-zero at) (put-none a at)
-
--- a part up to the end is what is left
-pub tail-slice : (l : List ℕ) (i n : ℕ) → length l - i ≤ n → take n (drop i l) ≡ drop i l
-tail-slice l i n h = lib.Seq.take-all n (drop i l) (omega (arith, length-drop i l))
 
 -- ---- the bytes before a comma
 

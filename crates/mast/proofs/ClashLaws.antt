@@ -1,6 +1,6 @@
 -- Number 8 by ranks: the three required labels that clash first, and where they stand in the list. Assumes nothing.
 use Prim.Native.Nat.{ℕ, suc, _-_, _<_, _≤_}
-use mathlib.Core.Path.{_≡_, refl, sym, _∙_, ap, subst}
+use mathlib.Core.Path.{_≡_, refl, sym, _∙_, ap}
 use mathlib.Core.Bool.{true}
 use mathlib.Core.List.{List, []}
 use mathlib.Core.Option.{Option, some, none}
@@ -12,7 +12,6 @@ use Rattle.trees.specs.Tree.{Tree, leaves}
 use Rattle.trees.specs.Arrays.{arraysOf}
 use Rattle.trees.proofs.TreeLaws.{valid-proper}
 use Rattle.lists.specs.declared.LabelPlaces.{LabelPlaces}
-use Rattle.lists.specs.ReadList.{placesOf}
 use Rattle.agreement.specs.Sets.{increasing, sorted, common}
 use Rattle.agreement.specs.Answer.{Three, firstClash}
 use Rattle.agreement.specs.Demand.{Clash, IsDisagreement}
@@ -21,7 +20,6 @@ use Rattle.agreement.proofs.SetLaws.{in-sorted, length-sorted, sorted-inc, inc-
 use Rattle.agreement.proofs.AnswerLaws.{FirstThree}
 use Rattle.agreement.proofs.DemandLaws.{required-clash, disagreement-unique}
 use Rattle.agreement.proofs.Promises.{eight-names}
-use Rattle.leaves.specs.Numbered.{LeafIs, Numbered}
 use Rattle.triples.specs.declared.Three as Ranks
 use Rattle.triples.specs.Clash.{rankOf, clashRanks, RankedTree}
 use Rattle.triples.proofs.Ranks.{place-of}

@@ -16,15 +16,16 @@ use Rattle.trees.specs.Tree.{Tree, leaf, node, leaves, Valid}
 use Rattle.trees.specs.Arrays.{nodesOf}
 use Rattle.trees.specs.Stored.{partOf, storedBytes, storedOf}
 use Rattle.trees.specs.Postorder.{postorder, subtree, leafLabels}
+use Rattle.trees.proofs.EntryLaws.{below-next, store-next}
 use Rattle.trees.proofs.Bools.{bool-cases, clash, refute}
 use Rattle.trees.proofs.ArrayLaws.{few-nodes}
 use Rattle.trees.proofs.LabelLaws.{less-ne, less-trans}
-use Rattle.trees.proofs.ListLaws.{at-in, good-head, good-parts, distinct-none, distinct-tail}
+use Rattle.trees.proofs.ListLaws.{at-in, good-head, good-parts, distinct-tail}
 use Rattle.trees.proofs.StoredLaws.{stored-back}
 use Rattle.trees.proofs.PostorderLaws.{length-postorder, leaf-labels, leaf-once, leaf-label, subtree-in, holds-leaf}
 use Rattle.agreement.specs.Closer.{holds}
 use Rattle.agreement.specs.Sets.{increasing, insert, sorted, keep, common}
-use Rattle.agreement.proofs.SetLaws.{in-nil, in-cases, inc-head, inc-tail, length-sorted, length-insert, sorted-inc, common-inc, in-common, keep-few, within-few}
+use Rattle.agreement.proofs.SetLaws.{in-nil, in-cases, inc-head, inc-tail, length-sorted, length-insert, sorted-inc, common-inc, in-common, within-few, common-short}
 use Rattle.agreement.proofs.KeepLaws.{distinct-keep}
 use Rattle.leaves.specs.Find.{foundLeaf}
 use Rattle.leaves.proofs.OwnLaws.{own-leaf, own-inner, own-label, ownFound, found, missing}
@@ -36,9 +37,6 @@ use Rattle.mast.specs.Ranks.{PartnerIs, Partners, NodePartner, storedLab
 -- what the arrays of a tree tell of a leaf
 
 module _ {t : Tree} {text left start size : List ℕ} {nodes : ℕ} (o : OwnLeaves t text left start size nodes) where
-  pub own-low : (u : ℕ) → u < nodes → u < 159
-  own-low u h = omega (arith, o .nodes-is, few-nodes t (o .valid))
-
   pub own-part : (u : ℕ) (x : Label) → LeafIs t u x → partOf (getD start u 0) (getD size u 0) text ≡ x
   own-part u x l = rw (o .text-is, o .start-is, o .size-is) (own-label t (o .valid) u x (l .below) (l .is))
 
@@ -47,22 +45,6 @@ module _ {t : Tree} {text left start size : List ℕ} {nodes : ℕ} (o : OwnLeav
 
   pub own-found : (x : Label) → foundLeaf text left start size x nodes ≡ ownFound t x
   own-found x = rw (o .text-is, o .left-is, o .start-is, o .size-is, o .nodes-is) refl
-
-  -- a node that is its own left child is a leaf, any other is not
-  pub own-is-leaf : (u : ℕ) → u < nodes → getD left u 0 ≡ u → ((x : Label) × LeafIs t u x)
-  own-is-leaf u h e = go (subtree (postorder t) u) refl
-    where
-      below : u < nodesOf t
-      below = rw (← o .nodes-is) h
-
-      go : (s : Tree) → subtree (postorder t) u ≡ s → ((x : Label) × LeafIs t u x)
-      go (leaf x) k = (x, record { below = below; is = k })
-      go (node a b) k =
-          let z : getD left u 0 < u = rw (o .left-is) (own-inner t u a b below k) in
-          absurd (omega arith)
-
-  pub own-is-node : (u : ℕ) → u < nodes → (getD left u 0 ≡ u → ⊥) → (x : Label) → LeafIs t u x → ⊥
-  own-is-node u h n x l = n (rw (o .left-is) (own-leaf t u x (l .below) (l .is)))
 
   -- the search finds a label's leaf exactly if the tree holds it
   pub search-found : (x : Label) → holds t x ≡ true → LeafIs t (foundLeaf text left start size x nodes) x
@@ -144,13 +126,15 @@ halved-low x C low high mid inc h e k = record { before = k .before; after = λ 
 
 pub halved-high : (x : Label) (C : List Label) (low high mid : ℕ) → increasing C ≡ true → mid < length C
     → labelLess x (getD C mid []) ≡ false → Halved x C low high → Halved x C (mid + 1) high
-halved-high x C low high mid inc h e k = record { before = λ r l. go r l (bool-cases (eqb r mid)); after = k .after }
-  where
-    go : (r : ℕ) → r < mid + 1 → (eqb r mid ≡ true) ⊎ (eqb r mid ≡ false) → labelLess x (getD C r []) ≡ false
-    go r l (inl d) = rw (eqb-true r mid d) e
-    go r l (inr d) =
-        refute (labelLess x (getD C r []))
-        (λ f. clash (less-trans x (getD C r []) (getD C mid []) f (inc-less C inc r mid (omega (arith, eqb-false r mid d)) h)) e)
+halved-high x C low high mid inc h e k = record {
+  before =
+      below-next (λ r. labelLess x (getD C r []) ≡ false) mid
+      (λ r less.
+      refute (labelLess x (getD C r []))
+      (λ f. clash (less-trans x (getD C r []) (getD C mid []) f (inc-less C inc r mid less h)) e))
+      e;
+  after = k .after;
+}
 
 pub halved-place : (x : Label) (C : List Label) (low high : ℕ) → high ≤ low → low ≤ length C → Halved x C low high → Place x C low
 halved-place x C low high h l k = record { low = l; before = k .before; at = λ b. k .after low h b }
@@ -194,16 +178,10 @@ partners-none s t partner = record { each = λ u h. absurd (omega arith) }
 
 pub partners-next : (n : ℕ) (s t : Tree) (partner : List ℕ) (v : ℕ) → n < 159 → length partner ≡ 159
     → ((x : Label) → subtree (postorder s) n ≡ leaf x → PartnerIs t x v) → Partners n s t partner → Partners (n + 1) s t (set partner n v)
-partners-next n s t partner v small size here p = record { each = λ u h x e. go u h x e (bool-cases (eqb u n)) }
-  where
-    go : (u : ℕ) → u < n + 1 → (x : Label) → subtree (postorder s) u ≡ leaf x → (eqb u n ≡ true) ⊎ (eqb u n ≡ false)
-        → PartnerIs t x (getD (set partner n v) u 0)
-    go u h x e (inl d) =
-        let q = eqb-true u n d in
-        rw (q, getD-set-same partner n v 0 (omega arith)) (here x (rw q at e))
-    go u h x e (inr d) =
-        let q = eqb-false u n d in
-        rw (getD-set-other partner n u v 0 q) (p .each u (omega (arith, q)) x e)
+partners-next n s t partner v small size here p = record {
+  each =
+      store-next (λ u y. (x : Label) → subtree (postorder s) u ≡ leaf x → PartnerIs t x y) partner n v (omega arith) (p .each) here;
+}
 
 pub node-partner : {s : Tree} {text left start size : List ℕ} {nodes : ℕ} → OwnLeaves s text left start size nodes → (t : Tree) (partner : List ℕ)
     → Partners nodes s t partner → (u v : ℕ) → u < nodes → v ≡ cond (eqb (getD left u 0) u) (getD partner u 0) 159 → NodePartner s t u v
@@ -324,10 +302,6 @@ keep-drop X (leaf x ∷ ts) (suc u) = go (X x) (keep-drop X ts u)
     go false h = h
 keep-drop X (node a b ∷ ts) (suc u) = keep-drop X ts u
 
-pub common-few : (s t : Tree) → length (common s t) ≤ length (leaves s)
-unfolding common
-common-few s t = omega (arith, length-sorted (keep (holds t) (leaves s)), keep-few (holds t) (leaves s))
-
 from-few : (s t : Tree) (u : ℕ) → Valid s → Valid t → length (commonFrom s t u) ≤ mostCommon s t
 unfolding commonFrom holds
 from-few s t u v w =
@@ -341,7 +315,7 @@ from-few s t u v w =
       length-sorted (keep (holds t) ys),
       keep-drop (holds t) (postorder s) u,
       ap (length {A = Label}) (from-start s t),
-      common-few s t,
+      common-short s t,
       all,
     )
 

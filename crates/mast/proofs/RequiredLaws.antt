@@ -1,23 +1,23 @@
 -- The required list by rank: the search for a label's rank, labels marked one after the other, and the ranks that are marked are
 -- those of the required labels in label order. Assumes nothing.
 use Prim.Native.Nat.{ℕ, zero, suc, _+_, _-_, _%_, _<_, _≤_}
-use mathlib.Core.Path.{_≡_, refl, sym, _∙_, ap, subst}
+use mathlib.Core.Path.{_≡_, refl, sym, _∙_, ap}
 use mathlib.Core.Bool.{Bool, true, false, cond, not}
 use mathlib.Core.Logic.{_⊎_, inl, inr}
 use mathlib.Core.List.{List, [], _∷_, _++_, map, append-nil}
 use native.Mathlib.Omega.{arith}
 use native.Mathlib.Numerals.{add-one}
 use lib.Dec.{eqb, ltb}
-use lib.ListN.{length, getD, set, replicate, length-append, length-set, length-replicate, length-map, getD-replicate, List·getD-append, List·getD-eq-default}
+use lib.ListN.{length, getD, set, replicate, length-append, length-set, length-replicate, length-map, List·getD-append}
 use lib.Seq.{getD-set-same, getD-set-other, getD-at}
-use borrow.Author.Tests.{eq-eqb, ne-eqb, eqb-true, eqb-false, ltb-true, ltb-false, lt-ltb, le-ltb}
+use borrow.Author.Tests.{ne-eqb, eqb-true, eqb-false, lt-ltb, le-ltb}
 use Rattle.trees.specs.Label.{Label, sameLabel, isIn, distinct}
 use Rattle.trees.specs.Tree.{Tree, leaves}
 use Rattle.trees.specs.Stored.{partOf, leafLabel}
+use Rattle.trees.proofs.EntryLaws.{below-next, store-next, filled-at}
 use Rattle.trees.proofs.Bools.{bool-cases, clash, refute}
 use Rattle.trees.proofs.LabelLaws.{eq-same, same-eq}
 use Rattle.trees.proofs.ListLaws.{at-in}
-use Rattle.lists.specs.ReadList.{placesOf}
 use Rattle.agreement.specs.Closer.{holds, Common}
 use Rattle.agreement.specs.Sets.{increasing, common, sorted, keep, setOf}
 use Rattle.agreement.proofs.SetLaws.{in-sorted, length-sorted, sorted-inc, keep-set, in-common, number-of}
@@ -27,9 +27,9 @@ use Rattle.triples.specs.Clash.{rankOf}
 use Rattle.triples.proofs.Ranks.{label-at}
 use Rattle.triples.proofs.RowLaws.{rank-at}
 use Rattle.leaves.specs.Find.{foundLeaf}
-use Rattle.leaves.specs.Numbered.{LeafIs, Numbered}
+use Rattle.leaves.specs.Numbered.{Numbered}
 use Rattle.mast.specs.Engine.{OwnLeaves, OwnList}
-use Rattle.mast.specs.Required.{FoundRank, Marks, MarkedTo, ranksFrom, Entries, Added}
+use Rattle.mast.specs.Required.{FoundRank, Marks, ranksFrom, Entries, Added}
 use Rattle.table.specs.Choice.{Marked}
 use Rattle.mast.proofs.RankLaws.{own-part, search-found, search-missing, inc-differ}
 
@@ -76,19 +76,12 @@ rank-missing C x r l none = record {
 different-at : (K : List Label) → distinct K ≡ true → (i j : ℕ) → i < length K → j < length K → getD K i [] ≡ getD K j [] → i ≡ j
 different-at K d i j hi hj e = sym (rank-at K i d hi) ∙ ap (rankOf K) e ∙ rank-at K j d hj
 
-zero-at : (r : ℕ) → _≡_ {A = ℕ} (getD (replicate 81 0) r 0) 0
-zero-at r = go (bool-cases (ltb r 81))
-  where
-    go : (ltb r 81 ≡ true) ⊎ (ltb r 81 ≡ false) → _≡_ {A = ℕ} (getD (replicate 81 0) r 0) 0
-    go (inl e) = getD-replicate {A = ℕ} 81 r 0 0 (ltb-true r 81 e)
-    go (inr e) = List·getD-eq-default {A = ℕ} (replicate 81 0) 0 {n = r} (omega (arith, ltb-false r 81 e, length-replicate {A = ℕ} 81 0))
-
 pub marks-none : (C K : List Label) → Marks 0 C K (replicate 81 0)
 marks-none C K = record {
   size = length-replicate {A = ℕ} 81 0;
   inside = λ k h. absurd (omega arith);
   held = λ r k h l e. absurd (omega arith);
-  other = λ r h n. zero-at r;
+  other = λ r h n. filled-at {A = ℕ} 0 81 r;
 }
 
 pub marks-next : (k : ℕ) (C K : List Label) (number : List ℕ) (r x : ℕ) → increasing C ≡ true → distinct K ≡ true → length C ≤ 80
@@ -96,15 +89,11 @@ pub marks-next : (k : ℕ) (C K : List Label) (number : List ℕ) (r x : ℕ) �
     → Marks (k + 1) C K (set number r x)
 marks-next k C K number r x inc dk few hk small hr e v m = record {
   size = length-set number r x ∙ m .size;
-  inside = λ j h. inside′ j h (bool-cases (eqb j k));
+  inside = below-next (λ j. isIn (getD K j []) C ≡ true) k (m .inside) (rw (← e) (at-in C r hr));
   held = λ q j hq hj d. held′ q j hq hj d (bool-cases (eqb q r)) (bool-cases (eqb j k));
   other = λ q hq n. other′ q hq n (bool-cases (eqb q r));
 }
   where
-    inside′ : (j : ℕ) → j < k + 1 → (eqb j k ≡ true) ⊎ (eqb j k ≡ false) → isIn (getD K j []) C ≡ true
-    inside′ j h (inl d) = rw (eqb-true j k d, ← e) (at-in C r hr)
-    inside′ j h (inr d) = m .inside j (omega (arith, eqb-false j k d))
-
     held′ : (q j : ℕ) → q < length C → j < k + 1 → getD C q [] ≡ getD K j [] → (eqb q r ≡ true) ⊎ (eqb q r ≡ false)
         → (eqb j k ≡ true) ⊎ (eqb j k ≡ false) → getD (set number r x) q 0 ≡ suc j
     held′ q j hq hj d (inl a) b =
@@ -202,17 +191,16 @@ ranks-next number r n k old new small t a = go (eqb (getD number r 0) 0) refl (a
           size = length-set old n r ∙ t .size;
           low = omega (arith, t .low);
           count = sym len;
-          entries = record { each = λ i h. rw grown (at i (omega (arith, len)) (bool-cases (eqb i n))) };
+          entries = record { each = λ i h. rw grown (at i (omega (arith, len))) };
         })
       where
-        at : (i : ℕ) → i < n + 1 → (eqb i n ≡ true) ⊎ (eqb i n ≡ false) → getD (set old n r) i 0 ≡ getD (ranksFrom number 0 r ++ (r ∷ [])) i 0
-        at i h (inl d) =
-            rw (eqb-true i n d)
-            (getD-set-same old n r 0 (omega (arith, t .size, t .low)) ∙ sym (getD-at (ranksFrom number 0 r) r [] 0 n (sym (t .count))))
-        at i h (inr d) =
-            let ne = eqb-false i n d in
-            let l : i < length (ranksFrom number 0 r) = omega (arith, ne, t .count) in
-            getD-set-other old n i r 0 ne ∙ t .entries .each i l ∙ sym (List·getD-append (ranksFrom number 0 r) (r ∷ []) 0 i l)
+        at : (i : ℕ) → i < n + 1 → getD (set old n r) i 0 ≡ getD (ranksFrom number 0 r ++ (r ∷ [])) i 0
+        at =
+            store-next (λ i x. x ≡ getD (ranksFrom number 0 r ++ (r ∷ [])) i 0) old n r (omega (arith, t .size, t .low))
+            (λ i less.
+            let l : i < length (ranksFrom number 0 r) = omega (arith, t .count) in
+            t .entries .each i l ∙ sym (List·getD-append (ranksFrom number 0 r) (r ∷ []) 0 i l))
+            (sym (getD-at (ranksFrom number 0 r) r [] 0 n (sym (t .count))))
 
 -- their labels are the required ones
 labels-kept : (K : List Label) (number : List ℕ) (f : ℕ → Label) (cs : List Label) (r : ℕ)
@@ -287,15 +275,6 @@ module _ (s t : Tree) (K : List Label) (number : List ℕ) (ds : distinct (leave
   pub rank-low : (i : ℕ) → i < length K → getD R i 0 < length C
   rank-low i h = omega (arith, ranks-low number 0 (length C) i (omega (arith, ranks-count)))
 
--- no label up to rank r is x
-pub past-next : (C : List Label) (x : Label) (r : ℕ) → ((q : ℕ) → q < r → getD C q [] ≡ x → ⊥) → (getD C r [] ≡ x → ⊥)
-    → (q : ℕ) → q < r + 1 → getD C q [] ≡ x → ⊥
-past-next C x r before here q h e = go (bool-cases (eqb q r))
-  where
-    go : (eqb q r ≡ true) ⊎ (eqb q r ≡ false) → ⊥
-    go (inl d) = here (ap (λ (i : ℕ). getD C i []) (sym (eqb-true q r d)) ∙ e)
-    go (inr d) = before q (omega (arith, eqb-false q r d)) e
-
 -- entries at places
 
 pub record EntriesTo (n : ℕ) (ranks order leaf : List ℕ) : Type 0 where
@@ -309,9 +288,5 @@ pub entries-next : (n : ℕ) (ranks order leaf : List ℕ) (u : ℕ) → n < 80 
     → EntriesTo (n + 1) ranks order (set leaf n u)
 entries-next n ranks order leaf u small e t = record {
   size = length-set leaf n u ∙ t .size;
-  each = λ i h. go i h (bool-cases (eqb i n));
+  each = store-next (λ i x. x ≡ getD order (getD ranks i 0) 0) leaf n u (omega (arith, t .size)) (t .each) e;
 }
-  where
-    go : (i : ℕ) → i < n + 1 → (eqb i n ≡ true) ⊎ (eqb i n ≡ false) → getD (set leaf n u) i 0 ≡ getD order (getD ranks i 0) 0
-    go i h (inl d) = rw (eqb-true i n d) (getD-set-same leaf n u 0 (omega (arith, t .size)) ∙ e)
-    go i h (inr d) = let ne = eqb-false i n d in getD-set-other leaf n i u 0 ne ∙ t .each i (omega (arith, ne))

@@ -20,7 +20,6 @@ use Rattle.leaves.specs.Numbered.{Numbered}
 use Rattle.triples.specs.declared.Three.{Three}
 use Rattle.table.specs.Choice.{Marked}
 use Rattle.mast.specs.Engine.{OwnLeaves, OwnList}
-use Rattle.mast.specs.Required.{MarkedTo}
 
 -- a tree by its arrays, with its leaves by the rank of their labels in C
 pub record RankedArrays (t : Tree) (C : List Label) (tree : TreeArrays) (order : List ℕ) (m : ℕ) : Type 0 where

@@ -1,15 +1,14 @@
 -- What the parts of the engine hand to each other: arrays lent apart, and common labels by rank.
 -- Intermediate: nothing public rests on this text.
-use Prim.Native.Nat.{ℕ, _<_, _≤_}
+use Prim.Native.Nat.{ℕ, _≤_}
 use mathlib.Core.Path.{_≡_}
-use mathlib.Core.Bool.{true, false}
-use mathlib.Core.List.{List, []}
-use lib.ListN.{length, getD}
-use Rattle.trees.specs.Label.{Label, isIn, distinct, goodLabels}
-use Rattle.trees.specs.Tree.{Tree, leaf, Valid}
+use mathlib.Core.Bool.{true}
+use mathlib.Core.List.{List}
+use lib.ListN.{length}
+use Rattle.trees.specs.Label.{Label, distinct, goodLabels}
+use Rattle.trees.specs.Tree.{Tree, Valid}
 use Rattle.trees.specs.Text.{textOf}
 use Rattle.trees.specs.Arrays.{arraysOf, nodesOf}
-use Rattle.trees.specs.Postorder.{postorder, subtree}
 use Rattle.lists.specs.ReadList.{joined, placesOf, listLimit}
 use Rattle.agreement.specs.Sets.{common}
 use Rattle.leaves.specs.Numbered.{Numbered}

@@ -2,20 +2,21 @@
 -- columns. Assumes nothing.
 use Prim.Native.Nat.{ℕ, zero, suc, _+_, _*_, _%_, _<_, _≤_, min}
 use mathlib.Core.Path.{_≡_, refl, sym, _∙_, ap}
-use mathlib.Core.Bool.{Bool, true, false, cond}
+use mathlib.Core.Bool.{true, false}
 use mathlib.Core.Logic.{_⊎_, inl, inr}
 use mathlib.Core.List.{List}
 use native.Mathlib.Omega.{arith}
-use lib.Dec.{eqb, ltb}
+use lib.Dec.{ltb}
 use lib.ListN.{length, getD, set, replicate, length-set, length-replicate}
 use lib.Seq.{getD-set-same, getD-set-other}
-use borrow.Author.Tests.{eq-eqb, ne-eqb, eqb-true, eqb-false, lt-ltb, le-ltb, ltb-true, ltb-false}
+use borrow.Author.Tests.{eq-eqb, ne-eqb, lt-ltb, le-ltb, ltb-true, ltb-false}
 use Rattle.trees.specs.declared.TreeArrays.{TreeArrays}
 use Rattle.trees.specs.Label.{Label}
-use Rattle.trees.specs.Tree.{Tree, leaf, node, leafLimit}
+use Rattle.trees.specs.Tree.{Tree, leaf, leafLimit}
 use Rattle.trees.specs.Arrays.{nodesOf, arraysOf}
 use Rattle.trees.specs.Postorder.{postorder, subtree, LaidNode, laid-leaf, laid-node}
 use Rattle.trees.proofs.Bools.{bool-cases}
+use Rattle.trees.proofs.EntryLaws.{below-next}
 use Rattle.trees.proofs.ArrayLaws.{few-nodes, nodes-pos}
 use Rattle.trees.proofs.PostorderLaws.{length-postorder, subtree-few}
 use Rattle.leaves.proofs.OwnLaws.{own-laid}
@@ -136,14 +137,10 @@ pub gathered-next : (n : ℕ) (left right rank : List ℕ) (nodes : ℕ) (old ne
 gathered-next n left right rank nodes old new hn g p = record {
   size = p .size ∙ g .size;
   count = p .nodes-kept ∙ g .count;
-  each = λ u hu. go u hu (bool-cases (eqb u n));
+  each =
+      below-next (λ u. NodeIs (getD left u 0) (getD right u 0) (getD rank u 0) u new) n
+      (λ u l. node-kept (getD left u 0) (getD right u 0) (getD rank u 0) u n old new l hn (p .others) (g .each u l)) (p .is (g .size));
 }
-  where
-    go : (u : ℕ) → u < n + 1 → (eqb u n ≡ true) ⊎ (eqb u n ≡ false) → NodeIs (getD left u 0) (getD right u 0) (getD rank u 0) u new
-    go u hu (inl e) = rw (eqb-true u n e) (p .is (g .size))
-    go u hu (inr e) =
-        let l : u < n = omega (arith, eqb-false u n e) in
-        node-kept (getD left u 0) (getD right u 0) (getD rank u 0) u n old new l hn (p .others) (g .each u l)
 
 pub gathered-none : (left right rank : List ℕ) (nodes x : ℕ) → nodes ≤ 159 → x ≡ nodes % 256
     → Gathered 0 left right rank nodes (set (replicate 637 0) 636 x)

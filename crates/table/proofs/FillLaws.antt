@@ -1,7 +1,7 @@
 -- The row of a node from the rows of its children: which rows are used, that there are enough, and which are left alone. Assumes
 -- nothing.
 use Prim.Native.Nat.{ℕ, zero, suc, _+_, _*_, _-_, _<_, _≤_, min}
-use mathlib.Core.Path.{_≡_, refl, sym, _∙_, ap, subst}
+use mathlib.Core.Path.{_≡_, refl, sym, _∙_, ap}
 use mathlib.Core.Bool.{Bool, true, false, cond}
 use mathlib.Core.Logic.{_⊎_, inl, inr}
 use mathlib.Core.List.{List}
@@ -16,7 +16,7 @@ use Rattle.trees.proofs.Bools.{bool-cases}
 use Rattle.agreement.specs.Weights.{best}
 use Rattle.agreement.specs.Powers.{power}
 use Rattle.table.specs.declared.fill.Children.{Children}
-use Rattle.table.specs.Table.{valueAt, columnAt, nodesAt, weightPlace, joinNeed, need, needsMore, SplitAt, Shape, Columns, RowTo}
+use Rattle.table.specs.Table.{valueAt, columnAt, nodesAt, weightPlace, joinNeed, need, SplitAt, Shape, RowTo}
 use Rattle.table.specs.Table.{Filling, Spared, Filled, Rows, InnerRow, Joined, LeafRow, NodeRow}
 use Rattle.table.specs.Solving.{TopIs}
 use Rattle.table.proofs.RowLaws.{NodeCase, is-leaf, is-node, node-case, row-apart, rank-kept}
@@ -134,19 +134,15 @@ module _ (first second : List ℕ) (u row other next : ℕ) (hu : u < nodesAt fi
         enough : (next + cond (c .swapped) (need Q) (need P) ≤ 8) × (next + 1 + cond (c .swapped) (need P) (need Q) ≤ 8)
         enough = need-split (need P) (need Q) next (omega (arith, rows .enough, need-node (subtree ss u) P Q p)) (c .swapped) needs-more
 
+        need-of : (b : Bool) (i j : ℕ) → need (subtree ss (cond b i j)) ≡ cond b (need (subtree ss i)) (need (subtree ss j))
+        need-of true i j = refl
+        need-of false i j = refl
+
         need-more : need (subtree ss (c .more)) ≡ cond (c .swapped) (need Q) (need P)
-        need-more = rw (split .more-is) (go (c .swapped))
-          where
-            go : (b : Bool) → need (subtree ss (cond b (columnAt first 1 u) (columnAt first 0 u))) ≡ cond b (need Q) (need P)
-            go true = refl
-            go false = refl
+        need-more = rw (split .more-is) (need-of (c .swapped) _ _)
 
         need-fewer : need (subtree ss (c .fewer)) ≡ cond (c .swapped) (need P) (need Q)
-        need-fewer = rw (split .fewer-is) (go (c .swapped))
-          where
-            go : (b : Bool) → need (subtree ss (cond b (columnAt first 0 u) (columnAt first 1 u))) ≡ cond b (need P) (need Q)
-            go true = refl
-            go false = refl
+        need-fewer = rw (split .fewer-is) (need-of (c .swapped) _ _)
 
         fill1 : Filled (nodesAt second) ts w (subtree ss (c .more)) other row next h0 l0 h1 l1
         fill1 = one .filled ss ts w sh sl f (record {
@@ -184,6 +180,15 @@ module _ (first second : List ℕ) (u row other next : ℕ) (hu : u < nodesAt fi
         row-more : RowTo (nodesAt second) ts w (subtree ss (c .more)) other h2 l2
         row-more = record { right = λ v hv. fill2 .kept other v (omega arith) spared-other ∙ fill1 .right .right v hv }
 
+        sh2 : length h2 ≡ 1431
+        sh2 = two .sized .high-size (one .sized .high-size sh)
+
+        sl2 : length l2 ≡ 1431
+        sl2 = two .sized .low-size (one .sized .low-size sl)
+
+        few-leaves : length (leaves (node P Q)) ≤ leafLimit
+        few-leaves = rw (← p) (f .few u hu)
+
         made : (b : Bool) → c .more ≡ cond b (columnAt first 1 u) (columnAt first 0 u)
             → c .fewer ≡ cond b (columnAt first 0 u) (columnAt first 1 u)
             → InnerRow second (nodesAt second) (cond b next other) (cond b other next) row h2 l2 h3 l3
@@ -191,27 +196,9 @@ module _ (first second : List ℕ) (u row other next : ℕ) (hu : u < nodesAt fi
         made true em ef j =
             j .right-row ts w P Q sh2 sl2 (f .two) (f .light) few-leaves (λ e. omega (arith, rows .row-low)) (λ e. rows .apart (sym e))
             (rw ef at (fill2 .right)) (rw em at row-more)
-          where
-            sh2 : length h2 ≡ 1431
-            sh2 = two .sized .high-size (one .sized .high-size sh)
-
-            sl2 : length l2 ≡ 1431
-            sl2 = two .sized .low-size (one .sized .low-size sl)
-
-            few-leaves : length (leaves (node P Q)) ≤ leafLimit
-            few-leaves = rw (← p) (f .few u hu)
         made false em ef j =
             j .right-row ts w P Q sh2 sl2 (f .two) (f .light) few-leaves (λ e. rows .apart (sym e)) (λ e. omega (arith, rows .row-low))
             (rw em at row-more) (rw ef at (fill2 .right))
-          where
-            sh2 : length h2 ≡ 1431
-            sh2 = two .sized .high-size (one .sized .high-size sh)
-
-            sl2 : length l2 ≡ 1431
-            sl2 = two .sized .low-size (one .sized .low-size sl)
-
-            few-leaves : length (leaves (node P Q)) ≤ leafLimit
-            few-leaves = rw (← p) (f .few u hu)
 
         kept-all : (k v : ℕ) → v < 159 → Spared row other next k → valueAt h3 l3 (k * 159 + v) ≡ valueAt h0 l0 (k * 159 + v)
         kept-all k v hv s =

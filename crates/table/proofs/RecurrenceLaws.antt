@@ -1,13 +1,14 @@
 -- Laws of the recurrence over pairs of nodes: a leaf against a node goes by the node's children, no value passes 129 * 2^80 for each
 -- leaf, so that sums never wrap. Assumes nothing.
 use Prim.Native.Nat.{ℕ, _+_, _*_, _≤_, max}
-use mathlib.Core.Path.{_≡_}
+use mathlib.Core.Path.{_≡_, sym}
 use mathlib.Core.Bool.{Bool, true, false, cond, _||_, or-false}
 use native.Mathlib.Omega.{arith}
 use native.Mathlib.Nat.{max-le}
-use lib.ListN.{length, length-append}
+use lib.ListN.{length}
 use Rattle.trees.specs.Label.{Label, sameLabel, isIn}
 use Rattle.trees.specs.Tree.{Tree, leaf, node, leaves, leafLimit}
+use Rattle.trees.proofs.TreeLaws.{leaves-node, leaves-some}
 use Rattle.agreement.specs.Closer.{holds}
 use Rattle.agreement.specs.Weights.{best}
 use Rattle.agreement.proofs.HoldsLaws.{holds-node}
@@ -15,7 +16,7 @@ use Rattle.agreement.proofs.Recurrence.{best-leaf-left, best-leaf-right, best-n
 use Rattle.agreement.specs.Powers.{whole}
 use Rattle.table.specs.Table.{wrapped, Light}
 
-pub holds-same : (y x : Label) → holds (leaf y) x ≡ sameLabel x y
+holds-same : (y x : Label) → holds (leaf y) x ≡ sameLabel x y
 unfolding holds leaves isIn
 holds-same y x = or-false (sameLabel x y)
 
@@ -29,31 +30,22 @@ cond-le : (b : Bool) (n k : ℕ) → n ≤ k → cond b n 0 ≤ k
 cond-le true n k h = h
 cond-le false n k h = omega arith
 
--- a leaf against a tree
+-- the recurrence, at a second tree that is known by an equation
 
-pub best-leaves : (w : Label → ℕ) (x y : Label) → best w (leaf x) (leaf y) ≡ cond (sameLabel x y) (w x) 0
-best-leaves w x y = rw (best-leaf-left, holds-same)
+module _ (w : Label → ℕ) (t : Tree) where
+  pub two-leaves : (x y : Label) → t ≡ leaf y → cond (sameLabel x y) (w x) 0 ≡ best w (leaf x) t
+  two-leaves x y q = rw (q, best-leaf-left, holds-same)
 
-pub best-leaf-node : (w : Label → ℕ) (x : Label) (c d : Tree)
-    → best w (leaf x) (node c d) ≡ max (best w (leaf x) c) (best w (leaf x) d)
-best-leaf-node w x c d = simp (best-leaf-left, holds-node) (cond-max (holds c x) (holds d x) (w x))
+  pub leaf-node : (x : Label) (c d : Tree) → t ≡ node c d → max (best w (leaf x) c) (best w (leaf x) d) ≡ best w (leaf x) t
+  leaf-node x c d q = rw q (simp (best-leaf-left, holds-node) (sym (cond-max (holds c x) (holds d x) (w x))))
 
-pub best-node-leaf : (w : Label → ℕ) (a b : Tree) (y : Label)
-    → best w (node a b) (leaf y) ≡ max (best w a (leaf y)) (best w b (leaf y))
-best-node-leaf w a b y = simp (best-leaf-right, holds-node) (cond-max (holds a y) (holds b y) (w y))
+  pub node-leaf : (a b : Tree) (y : Label) → t ≡ leaf y → max (best w a t) (best w b t) ≡ best w (node a b) t
+  node-leaf a b y q = rw q (simp (best-leaf-right, holds-node) (sym (cond-max (holds a y) (holds b y) (w y))))
 
 -- the bound
 
-leaves-node : (a b : Tree) → length (leaves (node a b)) ≡ length (leaves a) + length (leaves b)
-unfolding leaves
-leaves-node a b = length-append (leaves a) (leaves b)
-
-leaves-some : (t : Tree) → 1 ≤ length (leaves t)
-leaves-some (leaf x) = unfold leaves in omega arith
-leaves-some (node a b) = omega (arith, leaves-node a b, leaves-some a)
-
 module _ (w : Label → ℕ) (light : Light w) where
-  pub best-bound : (s t : Tree) → best w s t ≤ 129 * whole * length (leaves s)
+  best-bound : (s t : Tree) → best w s t ≤ 129 * whole * length (leaves s)
   best-bound (leaf x) t =
       rw (best-leaf-left w x t) (cond-le (holds t x) (w x) _ (omega (arith, light x, leaves-some (leaf x))))
   best-bound (node a b) (leaf y) =
@@ -71,9 +63,9 @@ module _ (w : Label → ℕ) (light : Light w) where
       → wrapped (best w a c) (best w b d) ≡ best w a c + best w b d
   wrap-free a b c d few = omega (arith, leaves-node a b, best-bound a c, best-bound b d)
 
-  pub best-inner : (a b c d : Tree) → length (leaves (node a b)) ≤ leafLimit
-      → max (max (best w a (node c d)) (best w b (node c d)))
+  pub two-nodes : (t a b c d : Tree) → t ≡ node c d → length (leaves (node a b)) ≤ leafLimit
+      → max (max (best w a t) (best w b t))
       (max (max (best w (node a b) c) (best w (node a b) d))
       (max (wrapped (best w a c) (best w b d)) (wrapped (best w a d) (best w b c))))
-      ≡ best w (node a b) (node c d)
-  best-inner a b c d few = rw (best-node w a b c d, wrap-free a b c d few, wrap-free a b d c few)
+      ≡ best w (node a b) t
+  two-nodes t a b c d q few = rw (q, best-node w a b c d, wrap-free a b c d few, wrap-free a b d c few)

@@ -1,23 +1,24 @@
 -- Laws of rows: the value computed for a cell is that of the recurrence and a stored cell leaves the others alone. Assumes
 -- nothing.
 use Prim.Native.Nat.{ℕ, _+_, _*_, _<_, _≤_, max}
-use mathlib.Core.Path.{_≡_, refl, sym, _∙_, ap, ap₂}
-use mathlib.Core.Bool.{Bool, true, false, cond}
-use mathlib.Core.Logic.{_⊎_, inl, inr, ⊎-elim}
+use mathlib.Core.Path.{_≡_, refl, _∙_, ap, ap₂}
+use mathlib.Core.Bool.{true, false, cond}
+use mathlib.Core.Logic.{_⊎_, inl, inr}
 use mathlib.Core.List.{List}
 use native.Mathlib.Omega.{arith}
 use lib.Dec.{eqb, ltb}
-use lib.ListN.{length, getD, set, length-set}
+use lib.ListN.{length, set}
 use lib.Seq.{getD-set-same, getD-set-other}
-use borrow.Author.Tests.{eq-eqb, ne-eqb, eqb-true, eqb-false, ltb-true, ltb-false}
-use Rattle.trees.specs.Label.{Label, sameLabel}
+use borrow.Author.Tests.{eq-eqb, ne-eqb, ltb-true, ltb-false}
+use Rattle.trees.specs.Label.{Label}
 use Rattle.trees.specs.Tree.{Tree, leaf, node, leaves, leafLimit}
 use Rattle.trees.specs.Postorder.{subtree, LaidNode, laid-leaf, laid-node}
 use Rattle.trees.proofs.Bools.{bool-cases}
+use Rattle.trees.proofs.EntryLaws.{below-next}
 use Rattle.agreement.specs.Weights.{best}
-use Rattle.table.specs.Table.{two64, valueAt, wrapped, columnAt, weightPlace, innerAt, cellAt, leafCellAt, Outside}
+use Rattle.table.specs.Table.{two64, valueAt, columnAt, weightPlace, innerAt, cellAt, leafCellAt, Outside}
 use Rattle.table.specs.Table.{Columns, RowTo, Light, RankIs}
-use Rattle.table.proofs.RecurrenceLaws.{best-leaves, best-leaf-node, best-node-leaf, best-inner}
+use Rattle.table.proofs.RecurrenceLaws.{two-leaves, leaf-node, node-leaf, two-nodes}
 
 -- what columns tell of node u
 pub data NodeCase (ts : List Tree) (l r u : ℕ) (t : Tree) : Type 0 where
@@ -27,24 +28,6 @@ pub data NodeCase (ts : List Tree) (l r u : ℕ) (t : Tree) : Type 0 where
 pub node-case : {ts : List Tree} {l r u : ℕ} {t : Tree} → LaidNode ts l r u t → NodeCase ts l r u t
 node-case (laid-leaf {x} e) = is-leaf x e refl
 node-case (laid-node p q) = is-node p q refl
-
--- the recurrence, at a second tree that is known by an equation
-module _ (w : Label → ℕ) (t : Tree) where
-  two-leaves : (x y : Label) → t ≡ leaf y → cond (sameLabel x y) (w x) 0 ≡ best w (leaf x) t
-  two-leaves x y q = rw q (sym (best-leaves w x y))
-
-  leaf-node : (x : Label) (c d : Tree) → t ≡ node c d → max (best w (leaf x) c) (best w (leaf x) d) ≡ best w (leaf x) t
-  leaf-node x c d q = rw q (sym (best-leaf-node w x c d))
-
-  node-leaf : (a b : Tree) (y : Label) → t ≡ leaf y → max (best w a t) (best w b t) ≡ best w (node a b) t
-  node-leaf a b y q = rw q (sym (best-node-leaf w a b y))
-
-  two-nodes : (a b c d : Tree) → t ≡ node c d → Light w → length (leaves (node a b)) ≤ leafLimit
-      → max (max (best w a t) (best w b t))
-      (max (max (best w (node a b) c) (best w (node a b) d))
-      (max (wrapped (best w a c) (best w b d)) (wrapped (best w a d) (best w b c))))
-      ≡ best w (node a b) t
-  two-nodes a b c d q light few = rw q (best-inner w light a b c d few)
 
 module _ (second : List ℕ) (nodes : ℕ) (ts : List Tree) (w : Label → ℕ) (two : Columns second nodes ts) (f : ℕ → ℕ) (u v : ℕ)
     (hv : v < nodes) where
@@ -89,21 +72,22 @@ module _ (second : List ℕ) (nodes : ℕ) (ts : List Tree) (w : Label → ℕ) 
             other (columnAt second 0 v) (omega arith),
             other (columnAt second 1 v) (omega arith),
           )
-          (two-nodes w _ p q _ _ d light few)
+          (two-nodes w light _ p q _ _ d few)
 
 -- a cell is stored
 
-module _ (row v h l : ℕ) (high low : List ℕ) where
-  abbrev place : ℕ
-  place = row * 159 + v
+module _ (place h l : ℕ) (high low : List ℕ) where
+  pub value-other : (i : ℕ) → (i ≡ place → ⊥) → valueAt (set high place h) (set low place l) i ≡ valueAt high low i
+  value-other i ne = ap₂ (λ (x y : ℕ). x * two64 + y) (getD-set-other high place i h 0 ne) (getD-set-other low place i l 0 ne)
 
+  pub value-same : place < length high → place < length low → valueAt (set high place h) (set low place l) place ≡ h * two64 + l
+  value-same a b = ap₂ (λ (x y : ℕ). x * two64 + y) (getD-set-same high place h 0 a) (getD-set-same low place l 0 b)
+
+module _ (row v h l : ℕ) (high low : List ℕ) where
   pub outside-store : (high0 low0 : List ℕ) → v < 159 → Outside row high0 low0 high low
       → Outside row high0 low0 (set high (row * 159 + v) h) (set low (row * 159 + v) l)
-  outside-store high0 low0 hv out = record {
-    same = λ i side.
-        ap₂ (λ (x y : ℕ). x * two64 + y) (getD-set-other high place i h 0 (ne i side)) (getD-set-other low place i l 0 (ne i side))
-        ∙ out .same i side;
-  }
+  outside-store high0 low0 hv out =
+      record { same = λ i side. value-other (row * 159 + v) h l high low i (ne i side) ∙ out .same i side }
     where
       ne : (i : ℕ) → (i < row * 159) ⊎ (row * 159 + 159 ≤ i) → i ≡ row * 159 + v → ⊥
       ne i (inl k) e = omega arith
@@ -112,18 +96,13 @@ module _ (row v h l : ℕ) (high low : List ℕ) where
   pub row-store : (ts : List Tree) (w : Label → ℕ) (s : Tree) → row < 8 → v < 159 → length high ≡ 1431 → length low ≡ 1431
       → RowTo v ts w s row high low → h * two64 + l ≡ best w s (subtree ts v)
       → RowTo (v + 1) ts w s row (set high (row * 159 + v) h) (set low (row * 159 + v) l)
-  row-store ts w s hr hv sh sl right e = record { right = λ q hq. go q hq (bool-cases (eqb q v)) }
-    where
-      go : (q : ℕ) → q < v + 1 → (eqb q v ≡ true) ⊎ (eqb q v ≡ false)
-          → valueAt (set high (row * 159 + v) h) (set low (row * 159 + v) l) (row * 159 + q) ≡ best w s (subtree ts q)
-      go q hq (inl same) =
-          rw (eqb-true q v same)
-          (ap₂ (λ (x y : ℕ). x * two64 + y) (getD-set-same high place h 0 (omega arith)) (getD-set-same low place l 0 (omega arith)) ∙ e)
-      go q hq (inr other) =
-          let n = eqb-false q v other in
-          let ne : row * 159 + q ≡ row * 159 + v → ⊥ = λ d. n (omega arith) in
-          ap₂ (λ (x y : ℕ). x * two64 + y) (getD-set-other high place (row * 159 + q) h 0 ne) (getD-set-other low place (row * 159 + q) l 0 ne)
-          ∙ right .right q (omega (arith, n))
+  row-store ts w s hr hv sh sl right e = record {
+    right =
+        below-next
+        (λ q. valueAt (set high (row * 159 + v) h) (set low (row * 159 + v) l) (row * 159 + q) ≡ best w s (subtree ts q)) v
+        (λ q less. value-other (row * 159 + v) h l high low (row * 159 + q) (omega arith) ∙ right .right q less)
+        (value-same (row * 159 + v) h l high low (omega arith) (omega arith) ∙ e);
+  }
 
 pub row-apart : (k row v : ℕ) → v < 159 → (k ≡ row → ⊥) → (k * 159 + v < row * 159) ⊎ (row * 159 + 159 ≤ k * 159 + v)
 row-apart k row v hv ne = go (bool-cases (ltb k row))

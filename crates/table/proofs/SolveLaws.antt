@@ -7,13 +7,14 @@ use mathlib.Core.Logic.{_⊎_, inl, inr, _↔_}
 use mathlib.Core.List.{List, []}
 use native.Mathlib.Omega.{arith}
 use lib.Dec.{eqb}
-use lib.ListN.{length, getD, replicate, length-replicate, getD-replicate}
+use lib.ListN.{length, getD, replicate, length-replicate}
 use borrow.Author.Tests.{eq-eqb, ne-eqb, eqb-true}
 use Rattle.trees.specs.declared.TreeArrays.{TreeArrays}
 use Rattle.trees.specs.Label.{Label, sameLabel, isIn, distinct}
 use Rattle.trees.specs.Tree.{Tree, leaves, leafLimit, Proper}
 use Rattle.trees.specs.Postorder.{postorder, subtree}
 use Rattle.trees.proofs.Bools.{bool-cases, clash}
+use Rattle.trees.proofs.EntryLaws.{filled-at}
 use Rattle.trees.proofs.LabelLaws.{same-cases, same-ne, eq-same}
 use Rattle.trees.proofs.ArrayLaws.{nodes-pos}
 use Rattle.trees.proofs.PostorderLaws.{root-last, subtree-few, subtree-in, holds-leaf}
@@ -22,7 +23,7 @@ use Rattle.leaves.specs.Numbered.{LeafIs}
 use Rattle.agreement.specs.Closer.{holds, Common}
 use Rattle.agreement.specs.Sets.{common, sorted, setOf}
 use Rattle.agreement.specs.Weights.{best, forcing, forcedUnit}
-use Rattle.agreement.specs.Powers.{whole, power, telling, decode, powerIn}
+use Rattle.agreement.specs.Powers.{whole, power, telling, powerIn}
 use Rattle.agreement.specs.Greatest.{Greatest}
 use Rattle.agreement.specs.Answer.{answer, disagree, largest}
 use Rattle.agreement.specs.Demand.{IsAnswer, Clash}
@@ -180,7 +181,7 @@ module _ (s t : Tree) (K : List Label) (tree1 tree2 : TreeArrays) (rank1 rank2 :
   nothing : valueAt high1 low1 (weightPlace 80) ≡ 0
   nothing =
       put .others (weightPlace 80) (inr (omega (arith, n-is, few)))
-      ∙ omega (arith, getD-replicate {A = ℕ} 1431 (weightPlace 80) 0 0 (omega arith))
+      ∙ omega (arith, filled-at {A = ℕ} 0 1431 (weightPlace 80))
 
   filling : Filling first second (postorder s) (postorder t) (telling leafLimit (sorted K) (common s t)) high1 low1
   filling = record {

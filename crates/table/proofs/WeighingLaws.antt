@@ -1,22 +1,21 @@
 -- Weights by rank and the bits of a set: powers halve, the weights stored are those of the labels, and bits tell the labels.
 -- Assumes nothing.
-use Prim.Native.Nat.{ℕ, zero, suc, _+_, _*_, _-_, _/_, _%_, _<_, _≤_}
-use mathlib.Core.Path.{_≡_, refl, sym, _∙_, ap, ap₂}
+use Prim.Native.Nat.{ℕ, zero, suc, _+_, _*_, _-_, _/_, _<_, _≤_}
+use mathlib.Core.Path.{_≡_, refl, sym, _∙_, ap}
 use mathlib.Core.Bool.{Bool, true, false, cond}
 use mathlib.Core.Logic.{_⊎_, inl, inr}
 use mathlib.Core.List.{List, [], _∷_}
 use native.Mathlib.Omega.{arith}
-use lib.Dec.{eqb, leb}
-use lib.ListN.{length, getD, set, replicate, length-set}
+use lib.Dec.{leb}
+use lib.ListN.{length, getD, set, length-set}
 use lib.Seq.{getD-set-same, getD-set-other}
-use borrow.Author.Tests.{eqb-true, eqb-false}
 use Rattle.trees.specs.Label.{Label}
-use Rattle.trees.proofs.Bools.{bool-cases}
+use Rattle.trees.proofs.EntryLaws.{below-next}
 use Rattle.agreement.specs.Powers.{whole, power, decode}
-use Rattle.table.specs.declared.fill.Weight.{Weight}
-use Rattle.table.specs.Table.{two64, valueOf, valueAt, weightPlace, Sized}
+use Rattle.table.specs.Table.{two64, valueAt, weightPlace}
 use Rattle.table.specs.Weighing.{unitOf, WeightsPut, bitsOf, Bits}
 use Rattle.table.specs.Choice.{chosenFrom}
+use Rattle.table.proofs.RowLaws.{value-same, value-other}
 
 -- powers
 
@@ -44,26 +43,25 @@ weights-none number high low = record {
 
 module _ (r : ℕ) (number high0 low0 high low : List ℕ) (h l : ℕ) (small : r < 80) (put : WeightsPut r number high0 low0 high low)
     (value : h * two64 + l ≡ unitOf (getD number r 0) * whole + power (79 - r)) where
-  abbrev place : ℕ
-  place = 1272 + r
-
   abbrev high' : List ℕ
   high' = set high (1272 + r) h
 
   abbrev low' : List ℕ
   low' = set low (1272 + r) l
 
-  stored-other : (i : ℕ) → (i ≡ 1272 + r → ⊥) → valueAt high' low' i ≡ valueAt high low i
-  stored-other i ne = ap₂ (λ (x y : ℕ). x * two64 + y) (getD-set-other high place i h 0 ne) (getD-set-other low place i l 0 ne)
-
   pub weights-next : WeightsPut (r + 1) number high0 low0 high' low'
   weights-next = record {
     sized = record {
-      high-size = λ e. length-set high place h ∙ put .sized .high-size e;
-      low-size = λ e. length-set low place l ∙ put .sized .low-size e;
+      high-size = λ e. length-set high (1272 + r) h ∙ put .sized .high-size e;
+      low-size = λ e. length-set low (1272 + r) l ∙ put .sized .low-size e;
     };
-    each = λ sh sl q hq. go sh sl q hq (bool-cases (eqb q r));
-    others = λ i side. stored-other i (outside i side) ∙ put .others i (wider i side);
+    each = λ sh sl.
+        let s = put .sized .high-size sh in
+        let t = put .sized .low-size sl in
+        below-next (λ q. valueAt high' low' (weightPlace q) ≡ unitOf (getD number q 0) * whole + power (79 - q)) r
+        (λ q less. value-other (1272 + r) h l high low (1272 + q) (omega arith) ∙ put .each sh sl q less)
+        (value-same (1272 + r) h l high low (omega arith) (omega arith) ∙ value);
+    others = λ i side. value-other (1272 + r) h l high low i (outside i side) ∙ put .others i (wider i side);
   }
     where
       outside : (i : ℕ) → (i < 1272) ⊎ (1272 + (r + 1) ≤ i) → i ≡ 1272 + r → ⊥
@@ -73,17 +71,6 @@ module _ (r : ℕ) (number high0 low0 high low : List ℕ) (h l : ℕ) (small : 
       wider : (i : ℕ) → (i < 1272) ⊎ (1272 + (r + 1) ≤ i) → (i < 1272) ⊎ (1272 + r ≤ i)
       wider i (inl k) = inl k
       wider i (inr k) = inr (omega arith)
-
-      go : length high0 ≡ 1431 → length low0 ≡ 1431 → (q : ℕ) → q < r + 1 → (eqb q r ≡ true) ⊎ (eqb q r ≡ false)
-          → valueAt high' low' (weightPlace q) ≡ unitOf (getD number q 0) * whole + power (79 - q)
-      go sh sl q hq (inl e) =
-          let s = put .sized .high-size sh in
-          let t = put .sized .low-size sl in
-          rw (eqb-true q r e)
-          (ap₂ (λ (x y : ℕ). x * two64 + y) (getD-set-same high place h 0 (omega arith)) (getD-set-same low place l 0 (omega arith)) ∙ value)
-      go sh sl q hq (inr e) =
-          let n = eqb-false q r e in
-          stored-other (1272 + q) (λ (d : 1272 + q ≡ 1272 + r). n (omega arith)) ∙ put .each sh sl q (omega (arith, n))
 
 -- bits read one after the other
 
@@ -95,12 +82,6 @@ pub record ReadTo (N r p rest : ℕ) (chosen : List Bool) : Type 0 where
   pub size : length chosen ≡ 80
   pub done : (q : ℕ) → q < r → getD chosen q false ≡ getD (bitsOf N p) q false
   pub ahead : Ahead N r p rest
-
--- at first nothing is chosen
-pub none-chosen : (n q : ℕ) → getD (replicate n false) q false ≡ false
-none-chosen zero q = refl
-none-chosen (suc n) zero = refl
-none-chosen (suc n) (suc q) = none-chosen n q
 
 bits-zero : (n p : ℕ) → getD (bitsOf (suc n) p) 0 false ≡ leb (power n) p
 unfolding bitsOf
@@ -141,7 +122,10 @@ module _ (N r p rest next power′ : ℕ) (held : Bool) (chosen : List Bool) (h 
   pub read-next : ReadTo N (r + 1) p next (set chosen r held)
   read-next = record {
     size = length-set chosen r held ∙ read .size;
-    done = λ q hq. go q hq (bool-cases (eqb q r));
+    done =
+        below-next (λ q. getD (set chosen r held) q false ≡ getD (bitsOf N p) q false) r
+        (λ q less. getD-set-other chosen r q held false (omega arith) ∙ read .done q less)
+        (getD-set-same chosen r held false (omega (arith, read .size)) ∙ sym here);
     ahead = λ j.
         let e : r + 1 + j ≡ r + suc j = omega arith in
         let m : N - 1 - r ≡ N - (r + 1) = omega arith in
@@ -150,12 +134,6 @@ module _ (N r p rest next power′ : ℕ) (held : Bool) (chosen : List Bool) (h 
         ∙ ap (λ (n : ℕ). getD (bitsOf (N - 1 - r) n) j false) (sym next-is)
         ∙ ap (λ (n : ℕ). getD (bitsOf n next) j false) m;
   }
-    where
-      go : (q : ℕ) → q < r + 1 → (eqb q r ≡ true) ⊎ (eqb q r ≡ false) → getD (set chosen r held) q false ≡ getD (bitsOf N p) q false
-      go q hq (inl e) = rw (eqb-true q r e) (getD-set-same chosen r held false (omega (arith, read .size)) ∙ sym here)
-      go q hq (inr e) =
-          let n = eqb-false q r e in
-          getD-set-other chosen r q held false n ∙ read .done q (omega (arith, n))
 
 -- the labels that are chosen are those that the bits tell
 

@@ -1,5 +1,5 @@
 -- A tree's columns as they are stored node by node. Intermediate: nothing public rests on this text.
-use Prim.Native.Nat.{ℕ, _+_, _*_, _%_, _<_, _≤_, min}
+use Prim.Native.Nat.{ℕ, _%_, _<_, min}
 use mathlib.Core.Path.{_≡_}
 use mathlib.Core.Bool.{cond}
 use mathlib.Core.Logic.{_⊎_}

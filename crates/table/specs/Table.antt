@@ -1,15 +1,14 @@
 -- Cells of the table in two numbers, the value of a cell from other cells, and when rows are right.
 -- Intermediate: nothing public rests on this text.
-use Prim.Native.Nat.{ℕ, zero, suc, _+_, _*_, _%_, _<_, _≤_, max, min}
+use Prim.Native.Nat.{ℕ, suc, _+_, _*_, _%_, _<_, _≤_, max, min}
 use mathlib.Core.Path.{_≡_}
-use mathlib.Core.Bool.{Bool, true, false, cond}
+use mathlib.Core.Bool.{Bool, cond}
 use mathlib.Core.Logic.{_⊎_}
 use mathlib.Core.List.{List}
 use lib.Dec.{eqb, ltb}
 use lib.ListN.{length, getD}
 use Rattle.trees.specs.Label.{Label, sameLabel}
 use Rattle.trees.specs.Tree.{Tree, leaf, node, leaves, leafLimit}
-use Rattle.trees.specs.Arrays.{nodeLimit}
 use Rattle.trees.specs.Postorder.{subtree, LaidNode}
 use Rattle.agreement.specs.Weights.{best}
 use Rattle.agreement.specs.Powers.{whole}

@@ -9,14 +9,14 @@ use native.Mathlib.Omega.{arith}
 use native.Mathlib.Nat.{not-suc-le-zero, zero-add}
 use native.Mathlib.Numerals.{add-one}
 use lib.Dec.{eqb, ltb, leb}
-use lib.ListN.{length, getD, replicate, length-append, length-replicate}
+use lib.ListN.{length, getD, length-append}
 use borrow.Author.Tests.{ltb-true, ltb-false, leb-true, eqb-false, lt-ltb, le-leb, eq-eqb, ne-eqb}
 use Rattle.trees.specs.declared.TreeArrays.{TreeArrays}
 use Rattle.trees.specs.Bytes.{openByte, commaByte, closeByte, semicolonByte}
 use Rattle.trees.specs.Label.{Label, labelLimit, allLabelBytes, goodLabel, goodLabels}
 use Rattle.trees.specs.Tree.{Tree, leaf, node, leaves, Valid, leafLimit}
 use Rattle.trees.specs.Text.{written, textOf, treeRoom}
-use Rattle.trees.specs.Arrays.{nodeLimit, nodesOf, lefts, rights, starts, sizes, padded, arraysOf}
+use Rattle.trees.specs.Arrays.{nodeLimit, nodesOf, lefts, rights, starts, sizes, arraysOf}
 use Rattle.trees.specs.Arrays.{labelAt, isLeaf, goodNode, goodNodes, treeAt, noLeaf, oneTree, noTree, treeOf}
 use Rattle.trees.specs.Stored.{partOf, leafLabel}
 use Rattle.trees.proofs.Bools.{bool-cases, and-left, and-right, and-intro}
@@ -58,9 +58,6 @@ pub sizes-length : (t : Tree) → length (sizes t) ≡ nodesOf t
 unfolding sizes nodesOf
 sizes-length (leaf x) = refl
 sizes-length (node a b) = joined-length (sizes a) (sizes b) 0 (nodesOf a) (nodesOf b) (sizes-length a) (sizes-length b)
-
-pub padded-length : (xs : List ℕ) → length xs ≤ nodeLimit → length (padded xs) ≡ nodeLimit
-padded-length xs h = omega (arith, length-append xs (replicate (nodeLimit - length xs) 0), length-replicate {A = ℕ} (nodeLimit - length xs) 0)
 
 -- 80 leaves have 159 nodes
 pub few-nodes : (t : Tree) → Valid t → nodesOf t ≤ nodeLimit
@@ -439,11 +436,6 @@ tree-stands a text t h = go (bool-cases (eqb (a .nodes) 0)) (bool-cases (sound-a
           tree = d;
           few = rw d at k;
         }
-
--- the tree is the one below the root, with the least room
-pub stands-root : (a : TreeArrays) (text : List ℕ) (t : Tree) → Stands a text t → treeAt (a .nodes - 1 + 1) a text (a .nodes - 1) ≡ t
-stands-root a text t s =
-    sym (treeAt-room a text (s .good) (a .nodes) (a .nodes - 1) (omega (arith, s .some)) (omega (arith, s .some))) ∙ s .tree
 
 -- the arrays of a valid tree stand for it over its text
 pub own-stands : (t : Tree) → Valid t → Stands (arraysOf t) (textOf t) t

@@ -2,6 +2,7 @@ pub mod AmongLaws
 pub mod ArrayLaws
 pub mod Bools
 pub mod ByteLaws
+pub mod EntryLaws
 pub mod FaultLaws
 pub mod LabelLaws
 pub mod ListLaws

@@ -62,9 +62,6 @@ same-smallest same-leaf = refl
 same-smallest (straight p q) = ap₂ least (same-smallest p) (same-smallest q)
 same-smallest (crossed {c = c} {d = d} p q) = ap₂ least (same-smallest p) (same-smallest q) ∙ least-comm (smallest d) (smallest c)
 
-pub smallest-normal : (t : Tree) → smallest (normal t) ≡ smallest t
-smallest-normal t = same-smallest (normal-same t)
-
 -- the smallest label is a leaf's
 pub smallest-in : (t : Tree) → isIn (smallest t) (leaves t) ≡ true
 unfolding leaves smallest

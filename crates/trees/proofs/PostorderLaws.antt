@@ -186,14 +186,7 @@ module _ (P : Tree → Type 0) (down-left : (a b : Tree) → P (node a b) → P 
   each-subtree (node a b) h i l =
       each-split a b h (each-subtree a (down-left a b h)) (each-subtree b (down-right a b h)) i (third (nodesOf a) (nodesOf b) i l)
 
--- each subtree has different leaves, no more than the tree, and all are the tree's
-pub subtree-distinct : (t : Tree) → distinct (leaves t) ≡ true → (i : ℕ) → i < nodesOf t
-    → distinct (leaves (subtree (postorder t) i)) ≡ true
-unfolding leaves
-subtree-distinct =
-    each-subtree (λ s. distinct (leaves s) ≡ true) (λ a b. distinct-left (leaves a) (leaves b))
-    (λ a b. distinct-right (leaves a) (leaves b))
-
+-- each subtree has no more leaves than the tree, and all are the tree's
 pub subtree-few : (n : ℕ) (t : Tree) → length (leaves t) ≤ n → (i : ℕ) → i < nodesOf t
     → length (leaves (subtree (postorder t) i)) ≤ n
 unfolding leaves

@@ -12,7 +12,7 @@ use Rattle.trees.proofs.Bools.{bool-cases}
 use lib.ListN.{length, getD, take, set, replicate}
 use lib.Seq.{set-at, take-at, take-suc, length-take-le, take-all, take-length}
 use Rattle.trees.specs.declared.StoredLabel.{StoredLabel}
-use Rattle.trees.specs.Label.{Label, labelLimit, orderOf}
+use Rattle.trees.specs.Label.{Label, labelLimit}
 use Rattle.trees.specs.Stored.{storedBytes, storedOf}
 
 -- one byte more is copied
@@ -53,8 +53,3 @@ unfolding storedBytes storedOf
 stored-back x h =
     let e : min (length x) labelLimit ≡ length x = omega arith in
     rw (e, take-all labelLimit x h) (take-at x (replicate (labelLimit - length x) 0) (length x) refl)
-
--- so stored labels compare as the labels do
-pub stored-order : (x y : Label) → length x ≤ labelLimit → length y ≤ labelLimit
-    → orderOf (storedBytes (storedOf x)) (storedBytes (storedOf y)) ≡ orderOf x y
-stored-order x y h k = rw (stored-back x h, stored-back y k) refl

@@ -14,6 +14,7 @@ use Rattle.trees.specs.Label.{Label, labelLess}
 use Rattle.trees.specs.declared.Reason.the-variants.{FirstLacks, SecondLacks}
 use Rattle.trees.specs.declared.Body.the-variants.{K}
 use Rattle.triples.specs.declared.Agreement.the-variants.{Agreed, Refused}
+use Rattle.trees.proofs.EntryLaws.{filled-at}
 use Rattle.trees.proofs.Bools.{bool-cases}
 use Rattle.trees.proofs.LabelLaws.{less-irrefl}
 use Rattle.leaves.specs.Find.{leafFrom}
@@ -46,15 +47,6 @@ less-count-below f k (suc n) h = go (bool-cases (eqb k n)) (λ l. less-count-bel
         → lessCount f (f k) n + cond (labelLess (f n) (f k)) 1 0 < suc n
     go (inl e) ih = rw (eqb-true k n e, less-irrefl (f n)) (omega (arith, less-count-few f (f n) n))
     go (inr e) ih = omega (arith, ih (omega (arith, eqb-false k n e)), one-or-none (labelLess (f n) (f k)))
-
--- what holds of each entry so far, and of the one stored next, holds of each entry then
-pub store-next : (P : ℕ → ℕ → Type 0) (l : List ℕ) (n x : ℕ) → n < length l → ((k : ℕ) → k < n → P k (getD l k 0)) → P n x
-    → (k : ℕ) → k < n + 1 → P k (getD (set l n x) k 0)
-store-next P l n x h f p k less = go (bool-cases (eqb k n))
-  where
-    go : (eqb k n ≡ true) ⊎ (eqb k n ≡ false) → P k (getD (set l n x) k 0)
-    go (inl e) = rw (eqb-true k n e, getD-set-same l n x 0 h) p
-    go (inr e) = rw (getD-set-other l n k x 0 (eqb-false k n e)) (f k (omega (arith, eqb-false k n e)))
 
 -- the first node below each node: earlier entries stay as they are
 low-same : (left low : List ℕ) (u x n : ℕ) → u < n → LowAt left low u → LowAt left (set low n x) u
@@ -112,10 +104,7 @@ set-low l n x m h f p i = go (bool-cases (eqb i n))
     go (inr e) = rw (getD-set-other l n i x 0 (eqb-false i n e)) (f i)
 
 pub zeros-low : (n m : ℕ) → 0 < m → (i : ℕ) → getD (replicate n 0) i 0 < m
-zeros-low zero m h zero = h
-zeros-low zero m h (suc i) = h
-zeros-low (suc n) m h zero = h
-zeros-low (suc n) m h (suc i) = zeros-low n m h i
+zeros-low n m h i = rw (filled-at {A = ℕ} 0 n i) h
 
 -- the search for a label that a tree lacks
 module _ (leaf1 : List ℕ) (nodes1 : ℕ) (leaf2 : List ℕ) (nodes2 : ℕ) (start : List ℕ) (count k : ℕ) where

@@ -10,9 +10,10 @@ use lib.ListN.{length, getD, set, replicate, length-append, length-set, length-r
 use lib.Seq.{sets, getD-set-same, getD-set-other}
 use borrow.Author.Tests.{eq-eqb, ne-eqb, eqb-true, eqb-false, lt-ltb, le-ltb, ltb-true}
 use Rattle.trees.specs.declared.TreeArrays.{TreeArrays}
-use Rattle.trees.specs.Tree.{Tree, leaf, node, leaves}
+use Rattle.trees.specs.Tree.{Tree, leaf, leaves}
 use Rattle.trees.specs.Arrays.{goodNodes, isLeaf, labelAt}
 use Rattle.trees.specs.Stored.{leafLabel}
+use Rattle.trees.proofs.TreeLaws.{leaves-node, leaves-some}
 use Rattle.trees.proofs.Bools.{bool-cases}
 use Rattle.writer.specs.Passes.{goesFirst, firstAt, below, nodeText, Leasts, Child, own, pair, otherOf, Children}
 use Rattle.writer.specs.Passes.{markOf, thingText, ownText, goesOn, depthAfter, stackAfter, stackText, thingSteps, stackSteps}
@@ -33,15 +34,6 @@ module _ (text l r s z t : List ℕ) (u : ℕ) where
       rw (ne-eqb (getD l u 0) u (λ (k : getD l u 0 ≡ u). ne (ei ∙ k)))
       (ev ∙ ap (λ (q : Bool). cond q i j) eb ∙ ap₂ (λ (x y : ℕ). cond (goesFirst text s z t x y) x y) ei ej)
 
--- what each entry before n has, and the one stored at n, each entry has then
-pub store-next : (P : ℕ → ℕ → Type 0) (l : List ℕ) (n x : ℕ) → n < length l → ((k : ℕ) → k < n → P k (getD l k 0)) → P n x
-    → (k : ℕ) → k < n + 1 → P k (getD (set l n x) k 0)
-store-next P l n x h f p k less = go (bool-cases (eqb k n))
-  where
-    go : (eqb k n ≡ true) ⊎ (eqb k n ≡ false) → P k (getD (set l n x) k 0)
-    go (inl e) = rw (eqb-true k n e, getD-set-same l n x 0 h) p
-    go (inr e) = rw (getD-set-other l n k x 0 (eqb-false k n e)) (f k (omega (arith, eqb-false k n e)))
-
 -- the child that is not the first is the second
 other-second : (b : Bool) (l r f : ℕ) → f ≡ cond b l r → cond (eqb f l) r l ≡ cond b r l
 other-second true l r f e = rw (eq-eqb f l e) refl
@@ -50,10 +42,6 @@ other-second false l r f e = go (bool-cases (eqb f l))
     go : (eqb f l ≡ true) ⊎ (eqb f l ≡ false) → cond (eqb f l) r l ≡ l
     go (inl h) = rw h (sym e ∙ eqb-true f l h)
     go (inr h) = rw h refl
-
-leaves-node : (x y : Tree) → length (leaves (node x y)) ≡ length (leaves x) + length (leaves y)
-unfolding leaves
-leaves-node x y = length-append (leaves x) (leaves y)
 
 leaves-add : (b : Bool) (x y : ℕ) (f : ℕ → ℕ) → f x + f y ≡ f (cond b x y) + f (cond b y x)
 leaves-add true x y f = refl
@@ -87,11 +75,6 @@ module _ (a : TreeArrays) (text : List ℕ) (n : ℕ) (g : goodNodes a text n �
           ∙ ap₂ (λ (x y : ℕ). length (leaves (below a text x)) + length (leaves (below a text y))) (sym ef) (sym es))
 
 -- every tree has a leaf
-leaves-some : (t : Tree) → 1 ≤ length (leaves t)
-unfolding leaves
-leaves-some (leaf x) = omega arith
-leaves-some (node x y) = omega (arith, leaves-some x, length-append (leaves x) (leaves y))
-
 leaf-one : (x : List ℕ) → length (leaves (leaf x)) ≡ 1
 unfolding leaves
 leaf-one x = refl

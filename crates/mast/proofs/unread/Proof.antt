@@ -4,13 +4,10 @@ use borrow.Author.Needs.{needs}
 use Rattle.mast.proofs.unread.Statement.{statement}
 use Rattle.mast.proofs.unread.Tie as tie
 
-without-set-requires : tie.Need-without-set-requires
-without-set-requires c κs = search needs
-
 returns : tie.Need-returns
 unfolding unreadBody
 returns c =
     c .without-set .ensures
 
 pub unread-spec : {M : Type 1} → statement M
-unread-spec = tie.close (tie.spec without-set-requires returns)
+unread-spec = tie.close (tie.spec (λ c κs. search needs) returns)

@@ -5,18 +5,6 @@ use borrow.Author.Needs.{needs}
 use Rattle.mast.proofs.unread_tree.Statement.{statement}
 use Rattle.mast.proofs.unread_tree.Tie as tie
 
-enum-told : tie.Need-enum-told
-enum-told c = search needs
-
-unread-requires : tie.Need-unread-requires
-unread-requires c κs = search needs
-
-enum-known-answer : tie.Need-enum-known-answer
-enum-known-answer c = search needs
-
-without-set-requires : tie.Need-without-set-requires
-without-set-requires c κs = search needs
-
 returns : tie.Need-returns
 unfolding unreadTree
 returns c =
@@ -30,4 +18,4 @@ returns-2 c =
 pub unread-tree-spec : {M : Type 1} → statement M
 unread-tree-spec =
     tie.close
-    (tie.spec enum-told unread-requires enum-known-answer without-set-requires returns returns-2)
+    (tie.spec (λ c. search needs) (λ c κs. search needs) (λ c. search needs) (λ c κs. search needs) returns returns-2)

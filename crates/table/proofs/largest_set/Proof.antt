@@ -8,24 +8,6 @@ use borrow.Author.Needs.{needs}
 use Rattle.table.proofs.largest_set.Statement.{statement}
 use Rattle.table.proofs.largest_set.Tie as tie
 
-columns-of-requires : tie.Need-columns-of-requires
-columns-of-requires c κs = search needs
-
-columns-of-requires-2 : tie.Need-columns-of-requires-2
-columns-of-requires-2 c κs = search needs
-
-least-requires : tie.Need-least-requires
-least-requires c κs = search needs
-
-put-weights-requires : tie.Need-put-weights-requires
-put-weights-requires c κs = search needs
-
-root-weight-requires : tie.Need-root-weight-requires
-root-weight-requires c κs = search needs
-
-held-requires : tie.Need-held-requires
-held-requires c κs = search needs
-
 returns : tie.Need-returns
 returns c = (
   λ s t K posed.
@@ -34,9 +16,6 @@ returns c = (
       (λ e. c .if1 .taken (c .before .held .ensures ∙ e)),
   (λ e. clash {b = false} e refl, λ e. refl),
 )
-
-read-set-requires : tie.Need-read-set-requires
-read-set-requires c κs = search needs
 
 returns-2 : tie.Need-returns-2
 returns-2 c = (
@@ -50,13 +29,5 @@ returns-2 c = (
 pub largest-set-spec : {M : Type 1} → statement M
 largest-set-spec =
     tie.close
-    (tie.spec
-    columns-of-requires
-    columns-of-requires-2
-    least-requires
-    put-weights-requires
-    root-weight-requires
-    held-requires
-    returns
-    read-set-requires
-    returns-2)
+    (tie.spec (λ c κs. search needs) (λ c κs. search needs) (λ c κs. search needs) (λ c κs. search needs) (λ c κs. search needs)
+    (λ c κs. search needs) returns (λ c κs. search needs) returns-2)

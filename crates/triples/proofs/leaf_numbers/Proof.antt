@@ -7,7 +7,7 @@ use borrow.Author.Needs.{needs}
 use lib.ListN.{length, getD, length-set, length-replicate}
 use Rattle.leaves.specs.Find.{foundLeaf}
 use Rattle.triples.specs.Loops.{labelIn}
-use Rattle.triples.proofs.LoopLaws.{store-next}
+use Rattle.trees.proofs.EntryLaws.{store-next}
 use Rattle.triples.proofs.leaf_numbers.Statement.{statement}
 use Rattle.triples.proofs.leaf_numbers.Tie as tie
 

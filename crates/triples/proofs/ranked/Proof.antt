@@ -3,7 +3,7 @@ use Prim.Native.Nat.{ℕ, _≤_, _<_, _-_}
 use mathlib.Core.Path.{_≡_, refl}
 use native.Mathlib.Omega.{arith}
 use lib.ListN.{length, getD, length-set, length-replicate}
-use Rattle.triples.proofs.LoopLaws.{store-next}
+use Rattle.trees.proofs.EntryLaws.{store-next}
 use Rattle.triples.proofs.ranked.Statement.{statement}
 use Rattle.triples.proofs.ranked.Tie as tie
 

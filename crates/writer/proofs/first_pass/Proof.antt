@@ -5,7 +5,7 @@ use mathlib.Core.Path.{_≡_, refl, _∙_}
 use native.Mathlib.Omega.{arith}
 use lib.ListN.{length, getD, length-set}
 use Rattle.writer.specs.Passes.{firstAt}
-use Rattle.writer.proofs.StackLaws.{store-next}
+use Rattle.trees.proofs.EntryLaws.{store-next}
 use Rattle.writer.proofs.first_pass.Statement.{statement}
 use Rattle.writer.proofs.first_pass.Tie as tie
 

@@ -5,15 +5,9 @@ use borrow.Author.Needs.{needs}
 use Rattle.mast.proofs.bodies.eight.Statement.{statement}
 use Rattle.mast.proofs.bodies.eight.Tie as tie
 
-clash-places-requires : tie.Need-clash-places-requires
-clash-places-requires c κs = search needs
-
-without-set-requires : tie.Need-without-set-requires
-without-set-requires c κs = search needs
-
 returns : tie.Need-returns
 returns c =
     λ s t xs x y z h. c .without-set .ensures ∙ eight-result xs x y z _ (c .before .clash-places .ensures s t xs x y z h)
 
 pub eight-spec : {M : Type 1} → statement M
-eight-spec = tie.close (tie.spec clash-places-requires without-set-requires returns)
+eight-spec = tie.close (tie.spec (λ c κs. search needs) (λ c κs. search needs) returns)

@@ -3,15 +3,6 @@ use borrow.Author.Needs.{needs}
 use Rattle.mast.proofs.bodies.find_set.Statement.{statement}
 use Rattle.mast.proofs.bodies.find_set.Tie as tie
 
-rank-leaves-requires : tie.Need-rank-leaves-requires
-rank-leaves-requires c κs = search needs
-
-rank-leaves-requires-2 : tie.Need-rank-leaves-requires-2
-rank-leaves-requires-2 c κs = search needs
-
-largest-set-requires : tie.Need-largest-set-requires
-largest-set-requires c κs = search needs
-
 returns : tie.Need-returns
 returns c =
     λ s t xs a.
@@ -34,5 +25,4 @@ returns c =
     })
 
 pub find-set-spec : {M : Type 1} → statement M
-find-set-spec =
-    tie.close (tie.spec rank-leaves-requires rank-leaves-requires-2 largest-set-requires returns)
+find-set-spec = tie.close (tie.spec (λ c κs. search needs) (λ c κs. search needs) (λ c κs. search needs) returns)

@@ -8,30 +8,6 @@ use borrow.Author.Needs.{needs}
 use Rattle.mast.proofs.bodies.lacks.Statement.{statement}
 use Rattle.mast.proofs.bodies.lacks.Tie as tie
 
-mul-at : tie.Need-mul-at
-mul-at c = search needs
-
-array-read-at : tie.Need-array-read-at
-array-read-at c = search needs
-
-mul-part : tie.Need-mul-part
-mul-part c = search needs
-
-array-read-part : tie.Need-array-read-part
-array-read-part c = search needs
-
-part-requires : tie.Need-part-requires
-part-requires c κs = search needs
-
-holds-label-requires : tie.Need-holds-label-requires
-holds-label-requires c κs = search needs
-
-lacking-requires : tie.Need-lacking-requires
-lacking-requires c κs = search needs
-
-without-set-requires : tie.Need-without-set-requires
-without-set-requires c κs = search needs
-
 returns : tie.Need-returns
 returns c =
     λ s t xs room h.
@@ -43,13 +19,5 @@ returns c =
 pub lacks-spec : {M : Type 1} → statement M
 lacks-spec =
     tie.close
-    (tie.spec
-    mul-at
-    array-read-at
-    mul-part
-    array-read-part
-    part-requires
-    holds-label-requires
-    lacking-requires
-    without-set-requires
-    returns)
+    (tie.spec (λ c. search needs) (λ c. search needs) (λ c. search needs) (λ c. search needs) (λ c κs. search needs)
+    (λ c κs. search needs) (λ c κs. search needs) (λ c κs. search needs) returns)

@@ -8,18 +8,6 @@ use borrow.Author.Needs.{needs}
 use Rattle.mast.proofs.bodies.order_in.Statement.{statement}
 use Rattle.mast.proofs.bodies.order_in.Tie as tie
 
-partners-requires : tie.Need-partners-requires
-partners-requires c κs = search needs
-
-common-order-requires : tie.Need-common-order-requires
-common-order-requires c κs = search needs
-
-slice-aggregate-entries-at : tie.Need-slice-aggregate-entries-at
-slice-aggregate-entries-at c = search needs
-
-entries-at-requires : tie.Need-entries-at-requires
-entries-at-requires c κs = search needs
-
 returns : tie.Need-returns
 returns c = (
   c .before .before .before .common-order .ensures .0,
@@ -39,9 +27,4 @@ returns c = (
 pub order-in-spec : {M : Type 1} → statement M
 order-in-spec =
     tie.close
-    (tie.spec
-    partners-requires
-    common-order-requires
-    slice-aggregate-entries-at
-    entries-at-requires
-    returns)
+    (tie.spec (λ c κs. search needs) (λ c κs. search needs) (λ c. search needs) (λ c κs. search needs) returns)

@@ -10,21 +10,6 @@ returns c =
     let e = not-true (c .before .args .chosen) (c .if1 .taken) in
     record { count = rw e refl; start = rw e refl; size = rw e refl }
 
-mul-start : tie.Need-mul-start
-mul-start c = search needs
-
-element-write-start : tie.Need-element-write-start
-element-write-start c = search needs
-
-mul-size : tie.Need-mul-size
-mul-size c = search needs
-
-element-write-size : tie.Need-element-write-size
-element-write-size c = search needs
-
-add-result : tie.Need-add-result
-add-result c = search needs
-
 returns-2 : tie.Need-returns-2
 returns-2 c =
     let e = not-false (c .before .args .chosen) (c .if1 .left) in
@@ -33,11 +18,5 @@ returns-2 c =
 pub add-place-spec : {M : Type 1} → statement M
 add-place-spec =
     tie.close
-    (tie.spec
-    returns
-    mul-start
-    element-write-start
-    mul-size
-    element-write-size
-    add-result
+    (tie.spec returns (λ c. search needs) (λ c. search needs) (λ c. search needs) (λ c. search needs) (λ c. search needs)
     returns-2)

@@ -25,29 +25,9 @@ loop-holds : tie.Need-loop-holds Inv-loop μ-loop
 loop-holds c =
     (refl, λ s C v k n. flags-none s v (c .args .chosen .now) C)
 
-element-copy-out-flag : tie.Need-element-copy-out-flag Inv-loop μ-loop
-element-copy-out-flag c =
-    omega arith
-
-mul-flag : tie.Need-mul-flag Inv-loop μ-loop
-mul-flag c =
-    omega arith
-
-element-copy-out-flag-2 : tie.Need-element-copy-out-flag-2 Inv-loop μ-loop
-element-copy-out-flag-2 c =
-    omega arith
-
 flag-requires : tie.Need-flag-requires Inv-loop μ-loop
 flag-requires c κs =
     c .before .before .before .before .before .pre .1 _ (omega arith)
-
-add-r : tie.Need-add-r Inv-loop μ-loop
-add-r c =
-    omega arith
-
-loop-less : tie.Need-loop-less Inv-loop μ-loop
-loop-less c =
-    omega arith
 
 loop-again : tie.Need-loop-again Inv-loop μ-loop
 loop-again c =
@@ -67,15 +47,5 @@ returns c =
 pub kept-leaves-spec : {M : Type 1} → statement M
 kept-leaves-spec =
     tie.close
-    (tie.spec
-    Inv-loop
-    μ-loop
-    loop-holds
-    element-copy-out-flag
-    mul-flag
-    element-copy-out-flag-2
-    flag-requires
-    add-r
-    loop-less
-    loop-again
-    returns)
+    (tie.spec Inv-loop μ-loop loop-holds (λ c. omega arith) (λ c. omega arith) (λ c. omega arith) flag-requires
+    (λ c. omega arith) (λ c. omega arith) loop-again returns)

@@ -27,18 +27,6 @@ loop-holds : tie.Need-loop-holds Inv-loop μ-loop
 loop-holds c =
     (omega arith, λ s C v e f k n. places-none s (c .args .chosen .now) C)
 
-mul-u : tie.Need-mul-u Inv-loop μ-loop
-mul-u c =
-    omega arith
-
-element-copy-out-u : tie.Need-element-copy-out-u Inv-loop μ-loop
-element-copy-out-u c =
-    omega arith
-
-element-copy-out-add-place : tie.Need-element-copy-out-add-place Inv-loop μ-loop
-element-copy-out-add-place c =
-    omega arith
-
 mul-add-place : tie.Need-mul-add-place Inv-loop μ-loop
 mul-add-place c =
     omega (arith, c .before .before .before .before .pre .1 (c .before .before .before .loop .r) (omega arith))
@@ -54,18 +42,6 @@ mul-add-place-2 c =
 element-copy-out-add-place-3 : tie.Need-element-copy-out-add-place-3 Inv-loop μ-loop
 element-copy-out-add-place-3 c =
     c .before .before .before .before .before .pre .1 (c .before .before .before .before .loop .r) (omega arith)
-
-add-place-requires : tie.Need-add-place-requires Inv-loop μ-loop
-add-place-requires c κs =
-    omega arith
-
-add-r : tie.Need-add-r Inv-loop μ-loop
-add-r c =
-    omega arith
-
-loop-less : tie.Need-loop-less Inv-loop μ-loop
-loop-less c =
-    omega arith
 
 loop-again : tie.Need-loop-again Inv-loop μ-loop
 loop-again c =
@@ -84,19 +60,6 @@ returns c =
 pub set-places-spec : {M : Type 1} → statement M
 set-places-spec =
     tie.close
-    (tie.spec
-    Inv-loop
-    μ-loop
-    loop-holds
-    mul-u
-    element-copy-out-u
-    element-copy-out-add-place
-    mul-add-place
-    element-copy-out-add-place-2
-    mul-add-place-2
-    element-copy-out-add-place-3
-    add-place-requires
-    add-r
-    loop-less
-    loop-again
-    returns)
+    (tie.spec Inv-loop μ-loop loop-holds (λ c. omega arith) (λ c. omega arith) (λ c. omega arith) mul-add-place
+    element-copy-out-add-place-2 mul-add-place-2 element-copy-out-add-place-3 (λ c κs. omega arith) (λ c. omega arith)
+    (λ c. omega arith) loop-again returns)

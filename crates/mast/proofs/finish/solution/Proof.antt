@@ -7,24 +7,6 @@ use Rattle.table.specs.Choice.{chosenFrom}
 use Rattle.mast.proofs.finish.solution.Statement.{statement}
 use Rattle.mast.proofs.finish.solution.Tie as tie
 
-kept-leaves-requires : tie.Need-kept-leaves-requires
-kept-leaves-requires c κs = search needs
-
-restrict-tree-requires : tie.Need-restrict-tree-requires
-restrict-tree-requires c κs = search needs
-
-write-tree-requires : tie.Need-write-tree-requires
-write-tree-requires c κs = search needs
-
-enum-known-written : tie.Need-enum-known-written
-enum-known-written c = search needs
-
-without-set-requires : tie.Need-without-set-requires
-without-set-requires c κs = search needs
-
-same-length : tie.Need-same-length
-same-length c = search needs
-
 returns : tie.Need-returns
 returns c =
     let p = c .before .before .before .before in
@@ -43,12 +25,6 @@ returns c =
           (restricted-text s C (a .tree) (a .text .now) (a .order1 .now) (a .m) k _ _ (f .kept-leaves .ensures s C (k .valid) (k .count) (k .numbered)) _
           (q .restrict-tree .ensures .0)),
     )
-
-set-places-requires : tie.Need-set-places-requires
-set-places-requires c κs = search needs
-
-same-length-2 : tie.Need-same-length-2
-same-length-2 c = search needs
 
 returns-2 : tie.Need-returns-2
 returns-2 c =
@@ -75,14 +51,5 @@ returns-2 c =
 pub solution-spec : {M : Type 1} → statement M
 solution-spec =
     tie.close
-    (tie.spec
-    kept-leaves-requires
-    restrict-tree-requires
-    write-tree-requires
-    enum-known-written
-    without-set-requires
-    same-length
-    returns
-    set-places-requires
-    same-length-2
-    returns-2)
+    (tie.spec (λ c κs. search needs) (λ c κs. search needs) (λ c κs. search needs) (λ c. search needs) (λ c κs. search needs)
+    (λ c. search needs) returns (λ c κs. search needs) (λ c. search needs) returns-2)

@@ -5,18 +5,6 @@ use borrow.Author.Needs.{needs}
 use Rattle.mast.proofs.required.clash_places.Statement.{statement}
 use Rattle.mast.proofs.required.clash_places.Tie as tie
 
-required-ranks-requires : tie.Need-required-ranks-requires
-required-ranks-requires c κs = search needs
-
-entries-at-requires : tie.Need-entries-at-requires
-entries-at-requires c κs = search needs
-
-entries-at-requires-2 : tie.Need-entries-at-requires-2
-entries-at-requires-2 c κs = search needs
-
-first-clash-requires : tie.Need-first-clash-requires
-first-clash-requires c κs = search needs
-
 place-at-requires : tie.Need-place-at-requires
 place-at-requires c κs =
     let h = c .before .before .before .before .before .before .before .before .before .before .before .before .before .before .before .before .before .pre in
@@ -53,12 +41,5 @@ returns c =
 pub clash-places-spec : {M : Type 1} → statement M
 clash-places-spec =
     tie.close
-    (tie.spec
-    required-ranks-requires
-    entries-at-requires
-    entries-at-requires-2
-    first-clash-requires
-    place-at-requires
-    place-at-requires-2
-    place-at-requires-3
-    returns)
+    (tie.spec (λ c κs. search needs) (λ c κs. search needs) (λ c κs. search needs) (λ c κs. search needs) place-at-requires
+    place-at-requires-2 place-at-requires-3 returns)

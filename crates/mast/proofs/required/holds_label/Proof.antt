@@ -7,12 +7,9 @@ use borrow.Author.Needs.{needs}
 use Rattle.mast.proofs.required.holds_label.Statement.{statement}
 use Rattle.mast.proofs.required.holds_label.Tie as tie
 
-find-leaf-requires : tie.Need-find-leaf-requires
-find-leaf-requires c κs = search needs
-
 returns : tie.Need-returns
 returns c =
     λ t o. ap (λ (u : ℕ). ltb u (c .before .before .before .before .before .before .before .before .before .args .tree .nodes)) (c .find-leaf .ensures) ∙ search-holds o (c .before .before .before .before .before .before .before .before .before .args .label .now)
 
 pub holds-label-spec : {M : Type 1} → statement M
-holds-label-spec = tie.close (tie.spec find-leaf-requires returns)
+holds-label-spec = tie.close (tie.spec (λ c κs. search needs) returns)

@@ -29,26 +29,6 @@ loop-holds : tie.Need-loop-holds Inv-loop μ-loop
 loop-holds c =
     (omega arith, λ s left nodes C K o l i e n. marks-none C K)
 
-mul-part : tie.Need-mul-part Inv-loop μ-loop
-mul-part c =
-    omega arith
-
-array-read-part : tie.Need-array-read-part Inv-loop μ-loop
-array-read-part c =
-    omega arith
-
-mul-part-2 : tie.Need-mul-part-2 Inv-loop μ-loop
-mul-part-2 c =
-    omega arith
-
-array-read-part-2 : tie.Need-array-read-part-2 Inv-loop μ-loop
-array-read-part-2 c =
-    omega arith
-
-part-requires : tie.Need-part-requires Inv-loop μ-loop
-part-requires c κs =
-    search needs
-
 rank-in-requires : tie.Need-rank-in-requires Inv-loop μ-loop
 rank-in-requires c κs =
     c .before .before .before .before .before .before .before .before .before .before .before .before .before .pre .0
@@ -67,25 +47,9 @@ returns c = (
       },
 )
 
-add-narrow : tie.Need-add-narrow Inv-loop μ-loop
-add-narrow c =
-    omega arith
-
-narrow-requires : tie.Need-narrow-requires Inv-loop μ-loop
-narrow-requires c κs =
-    search needs
-
 element-write-number : tie.Need-element-write-number Inv-loop μ-loop
 element-write-number c =
     omega (arith, c .before .before .rank-in .ensures .0, c .before .if2 .left, c .before .before .before .before .before .before .before .before .before .before .before .before .before .before .before .before .pre .0)
-
-add-k : tie.Need-add-k Inv-loop μ-loop
-add-k c =
-    omega arith
-
-loop-less : tie.Need-loop-less Inv-loop μ-loop
-loop-less c =
-    omega arith
 
 loop-again : tie.Need-loop-again Inv-loop μ-loop
 loop-again c = (
@@ -108,21 +72,6 @@ returns-2 c = (
 pub mark-required-spec : {M : Type 1} → statement M
 mark-required-spec =
     tie.close
-    (tie.spec
-    Inv-loop
-    μ-loop
-    loop-holds
-    mul-part
-    array-read-part
-    mul-part-2
-    array-read-part-2
-    part-requires
-    rank-in-requires
-    returns
-    add-narrow
-    narrow-requires
-    element-write-number
-    add-k
-    loop-less
-    loop-again
-    returns-2)
+    (tie.spec Inv-loop μ-loop loop-holds (λ c. omega arith) (λ c. omega arith) (λ c. omega arith) (λ c. omega arith)
+    (λ c κs. search needs) rank-in-requires returns (λ c. omega arith) (λ c κs. search needs) element-write-number
+    (λ c. omega arith) (λ c. omega arith) loop-again returns-2)

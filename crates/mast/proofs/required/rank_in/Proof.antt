@@ -7,9 +7,10 @@ use native.Mathlib.Omega.{arith}
 use borrow.Author.Needs.{needs}
 use Rattle.trees.specs.Label.{Label, sameLabel}
 use Rattle.trees.specs.Tree.{Tree}
+use Rattle.trees.proofs.EntryLaws.{below-next}
 use Rattle.leaves.specs.Numbered.{Numbered}
 use Rattle.mast.specs.Engine.{OwnLeaves}
-use Rattle.mast.proofs.RequiredLaws.{rank-here, not-here, rank-missing, past-next}
+use Rattle.mast.proofs.RequiredLaws.{rank-here, not-here, rank-missing}
 use Rattle.mast.proofs.required.rank_in.Statement.{statement}
 use Rattle.mast.proofs.required.rank_in.Tie as tie
 
@@ -26,22 +27,6 @@ loop-holds : tie.Need-loop-holds Inv-loop μ-loop
 loop-holds c =
     (omega arith, λ s left nodes C o e n q h. absurd (omega arith))
 
-mul-leaf-label : tie.Need-mul-leaf-label Inv-loop μ-loop
-mul-leaf-label c =
-    omega arith
-
-element-copy-out-leaf-label : tie.Need-element-copy-out-leaf-label Inv-loop μ-loop
-element-copy-out-leaf-label c =
-    omega arith
-
-leaf-label-requires : tie.Need-leaf-label-requires Inv-loop μ-loop
-leaf-label-requires c κs =
-    search needs
-
-same-label-requires : tie.Need-same-label-requires Inv-loop μ-loop
-same-label-requires c κs =
-    search needs
-
 returns : tie.Need-returns Inv-loop μ-loop
 returns c =
     let a = c .before .before .before .before .before .before .before .before .before .before .args in (
@@ -52,21 +37,13 @@ returns c =
           (ap (λ (x : Label). sameLabel x (a .label .now)) (sym (c .before .before .leaf-label .ensures)) ∙ sym (c .before .same-label .ensures) ∙ c .if1 .taken),
     )
 
-add-r : tie.Need-add-r Inv-loop μ-loop
-add-r c =
-    omega arith
-
-loop-less : tie.Need-loop-less Inv-loop μ-loop
-loop-less c =
-    omega arith
-
 loop-again : tie.Need-loop-again Inv-loop μ-loop
 loop-again c =
     let a = c .before .before .before .before .before .before .before .before .before .before .args in (
       omega arith,
       λ s left nodes C o e n.
           let h : c .before .before .before .before .before .before .before .loop .r < length C = omega (arith, c .before .before .before .before .before .before .loop-test .taken) in
-          past-next C (a .label .now) (c .before .before .before .before .before .before .before .loop .r) (c .before .before .before .before .before .before .before .loop .inv .1 s left nodes C o e n)
+          below-next (λ q. getD C q [] ≡ a .label .now → ⊥) (c .before .before .before .before .before .before .before .loop .r) (c .before .before .before .before .before .before .before .loop .inv .1 s left nodes C o e n)
           (not-here o C (a .order1 .now) n (a .label .now) (c .before .before .before .before .before .before .before .loop .r) h
           (ap (λ (x : Label). sameLabel x (a .label .now)) (sym (c .before .before .leaf-label .ensures)) ∙ sym (c .before .same-label .ensures) ∙ c .if1 .left)),
     )
@@ -81,16 +58,5 @@ returns-2 c = (
 pub rank-in-spec : {M : Type 1} → statement M
 rank-in-spec =
     tie.close
-    (tie.spec
-    Inv-loop
-    μ-loop
-    loop-holds
-    mul-leaf-label
-    element-copy-out-leaf-label
-    leaf-label-requires
-    same-label-requires
-    returns
-    add-r
-    loop-less
-    loop-again
-    returns-2)
+    (tie.spec Inv-loop μ-loop loop-holds (λ c. omega arith) (λ c. omega arith) (λ c κs. search needs) (λ c κs. search needs)
+    returns (λ c. omega arith) (λ c. omega arith) loop-again returns-2)

@@ -18,21 +18,9 @@ loop-holds : tie.Need-loop-holds Inv-loop μ-loop
 loop-holds c =
     (omega arith, ranks-none _)
 
-element-copy-out-add-rank : tie.Need-element-copy-out-add-rank Inv-loop μ-loop
-element-copy-out-add-rank c =
-    omega arith
-
 add-rank-requires : tie.Need-add-rank-requires Inv-loop μ-loop
 add-rank-requires c κs =
     omega (arith, c .before .before .before .loop .inv .1 .low)
-
-add-r : tie.Need-add-r Inv-loop μ-loop
-add-r c =
-    omega arith
-
-loop-less : tie.Need-loop-less Inv-loop μ-loop
-loop-less c =
-    omega arith
 
 loop-again : tie.Need-loop-again Inv-loop μ-loop
 loop-again c =
@@ -46,13 +34,5 @@ returns c =
 pub required-ranks-spec : {M : Type 1} → statement M
 required-ranks-spec =
     tie.close
-    (tie.spec
-    Inv-loop
-    μ-loop
-    loop-holds
-    element-copy-out-add-rank
-    add-rank-requires
-    add-r
-    loop-less
-    loop-again
+    (tie.spec Inv-loop μ-loop loop-holds (λ c. omega arith) add-rank-requires (λ c. omega arith) (λ c. omega arith) loop-again
     returns)

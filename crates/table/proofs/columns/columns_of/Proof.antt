@@ -4,12 +4,6 @@ use borrow.Author.Needs.{needs}
 use Rattle.table.proofs.columns.columns_of.Statement.{statement}
 use Rattle.table.proofs.columns.columns_of.Tie as tie
 
-nodes-in-requires : tie.Need-nodes-in-requires
-nodes-in-requires c κs = search needs
-
-gathered-requires : tie.Need-gathered-requires
-gathered-requires c κs = search needs
-
 returns : tie.Need-returns
 returns c =
     let n = c .before .nodes-in .ensures in (
@@ -18,4 +12,4 @@ returns c =
     )
 
 pub columns-of-spec : {M : Type 1} → statement M
-columns-of-spec = tie.close (tie.spec nodes-in-requires gathered-requires returns)
+columns-of-spec = tie.close (tie.spec (λ c κs. search needs) (λ c κs. search needs) returns)

@@ -16,53 +16,9 @@ abbrev μ-loop : tie.MeasureT-loop
 μ-loop left right rank nodes columns₀ u₀ columns u =
     nodes - u
 
-narrow-requires : tie.Need-narrow-requires Inv-loop μ-loop
-narrow-requires c κs =
-    search needs
-
-array-write-columns : tie.Need-array-write-columns Inv-loop μ-loop
-array-write-columns c =
-    omega arith
-
 loop-holds : tie.Need-loop-holds Inv-loop μ-loop
 loop-holds c =
     (omega arith, gathered-none _ _ _ _ _ (c .before .pre) (c .narrow .ensures))
-
-mul-put-node : tie.Need-mul-put-node Inv-loop μ-loop
-mul-put-node c =
-    omega arith
-
-element-copy-out-put-node : tie.Need-element-copy-out-put-node Inv-loop μ-loop
-element-copy-out-put-node c =
-    omega arith
-
-mul-put-node-2 : tie.Need-mul-put-node-2 Inv-loop μ-loop
-mul-put-node-2 c =
-    omega arith
-
-element-copy-out-put-node-2 : tie.Need-element-copy-out-put-node-2 Inv-loop μ-loop
-element-copy-out-put-node-2 c =
-    omega arith
-
-mul-put-node-3 : tie.Need-mul-put-node-3 Inv-loop μ-loop
-mul-put-node-3 c =
-    omega arith
-
-element-copy-out-put-node-3 : tie.Need-element-copy-out-put-node-3 Inv-loop μ-loop
-element-copy-out-put-node-3 c =
-    omega arith
-
-put-node-requires : tie.Need-put-node-requires Inv-loop μ-loop
-put-node-requires c κs =
-    omega arith
-
-add-u : tie.Need-add-u Inv-loop μ-loop
-add-u c =
-    omega arith
-
-loop-less : tie.Need-loop-less Inv-loop μ-loop
-loop-less c =
-    omega arith
 
 loop-again : tie.Need-loop-again Inv-loop μ-loop
 loop-again c =
@@ -76,20 +32,6 @@ returns c =
 pub gathered-spec : {M : Type 1} → statement M
 gathered-spec =
     tie.close
-    (tie.spec
-    Inv-loop
-    μ-loop
-    narrow-requires
-    array-write-columns
-    loop-holds
-    mul-put-node
-    element-copy-out-put-node
-    mul-put-node-2
-    element-copy-out-put-node-2
-    mul-put-node-3
-    element-copy-out-put-node-3
-    put-node-requires
-    add-u
-    loop-less
-    loop-again
-    returns)
+    (tie.spec Inv-loop μ-loop (λ c κs. search needs) (λ c. omega arith) loop-holds (λ c. omega arith) (λ c. omega arith)
+    (λ c. omega arith) (λ c. omega arith) (λ c. omega arith) (λ c. omega arith) (λ c κs. omega arith) (λ c. omega arith)
+    (λ c. omega arith) loop-again returns)

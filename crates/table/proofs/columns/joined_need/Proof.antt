@@ -17,9 +17,6 @@ unfolding joinNeed
 returns-2 c =
     rw (le-ltb _ _ (c .before .if1 .left), lt-ltb _ _ (c .if2 .taken)) refl
 
-add-result : tie.Need-add-result
-add-result c = search needs
-
 returns-3 : tie.Need-returns-3
 unfolding joinNeed
 returns-3 c =
@@ -31,4 +28,4 @@ returns-4 c =
     rw (le-ltb _ _ (c .before .before .if1 .left), le-ltb _ _ (c .before .if2 .left)) (omega arith)
 
 pub joined-need-spec : {M : Type 1} → statement M
-joined-need-spec = tie.close (tie.spec returns returns-2 add-result returns-3 returns-4)
+joined-need-spec = tie.close (tie.spec returns returns-2 (λ c. search needs) returns-3 returns-4)

@@ -10,19 +10,9 @@ returns : tie.Need-returns
 returns c =
     rw (eq-eqb _ _ (c .if1 .taken)) refl
 
-column-requires : tie.Need-column-requires
-column-requires c κs = search needs
-
-column-requires-2 : tie.Need-column-requires-2
-column-requires-2 c κs = search needs
-
-joined-need-requires : tie.Need-joined-need-requires
-joined-need-requires c κs = search needs
-
 returns-2 : tie.Need-returns-2
 returns-2 c =
     rw (ne-eqb _ _ (c .before .before .before .if1 .left)) (c .joined-need .ensures ∙ ap₂ joinNeed (c .before .before .column .ensures) (c .before .column2 .ensures))
 
 pub needed-spec : {M : Type 1} → statement M
-needed-spec =
-    tie.close (tie.spec returns column-requires column-requires-2 joined-need-requires returns-2)
+needed-spec = tie.close (tie.spec returns (λ c κs. search needs) (λ c κs. search needs) (λ c κs. search needs) returns-2)

@@ -4,30 +4,6 @@ use Rattle.table.proofs.ColumnLaws.{node-put}
 use Rattle.table.proofs.columns.put_node.Statement.{statement}
 use Rattle.table.proofs.columns.put_node.Tie as tie
 
-child-requires : tie.Need-child-requires
-child-requires c κs = search needs
-
-child-requires-2 : tie.Need-child-requires-2
-child-requires-2 c κs = search needs
-
-needed-requires : tie.Need-needed-requires
-needed-requires c κs = search needs
-
-put-requires : tie.Need-put-requires
-put-requires c κs = search needs
-
-put-requires-2 : tie.Need-put-requires-2
-put-requires-2 c κs = search needs
-
-least-requires : tie.Need-least-requires
-least-requires c κs = search needs
-
-put-requires-3 : tie.Need-put-requires-3
-put-requires-3 c κs = search needs
-
-put-requires-4 : tie.Need-put-requires-4
-put-requires-4 c κs = search needs
-
 returns : tie.Need-returns
 returns c =
     let one = c .before .before .before .before .before .before .before .before .before .before .before .before .child .ensures in
@@ -38,13 +14,5 @@ returns c =
 pub put-node-spec : {M : Type 1} → statement M
 put-node-spec =
     tie.close
-    (tie.spec
-    child-requires
-    child-requires-2
-    needed-requires
-    put-requires
-    put-requires-2
-    least-requires
-    put-requires-3
-    put-requires-4
-    returns)
+    (tie.spec (λ c κs. search needs) (λ c κs. search needs) (λ c κs. search needs) (λ c κs. search needs) (λ c κs. search needs)
+    (λ c κs. search needs) (λ c κs. search needs) (λ c κs. search needs) returns)

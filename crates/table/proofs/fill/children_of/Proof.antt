@@ -5,18 +5,6 @@ use borrow.Author.Needs.{needs}
 use Rattle.table.proofs.fill.children_of.Statement.{statement}
 use Rattle.table.proofs.fill.children_of.Tie as tie
 
-column-requires : tie.Need-column-requires
-column-requires c κs = search needs
-
-column-requires-2 : tie.Need-column-requires-2
-column-requires-2 c κs = search needs
-
-column-requires-3 : tie.Need-column-requires-3
-column-requires-3 c κs = search needs
-
-column-requires-4 : tie.Need-column-requires-4
-column-requires-4 c κs = search needs
-
 returns : tie.Need-returns
 returns c =
     record {
@@ -36,10 +24,4 @@ returns-2 c =
 pub children-of-spec : {M : Type 1} → statement M
 children-of-spec =
     tie.close
-    (tie.spec
-    column-requires
-    column-requires-2
-    column-requires-3
-    column-requires-4
-    returns
-    returns-2)
+    (tie.spec (λ c κs. search needs) (λ c κs. search needs) (λ c κs. search needs) (λ c κs. search needs) returns returns-2)

@@ -25,18 +25,6 @@ abbrev μ-loop : tie.MeasureT-loop
 μ-loop second nodes high₀ low₀ left right row a b u v₀ high low v =
     nodes - v
 
-mul-a : tie.Need-mul-a Inv-loop μ-loop
-mul-a c =
-    omega arith
-
-mul-b : tie.Need-mul-b Inv-loop μ-loop
-mul-b c =
-    omega arith
-
-mul-u : tie.Need-mul-u Inv-loop μ-loop
-mul-u c =
-    omega arith
-
 loop-holds : tie.Need-loop-holds Inv-loop μ-loop
 loop-holds c = (
   omega arith,
@@ -52,39 +40,15 @@ pair-cell-requires c κs =
     let h = c .before .before .loop-test .taken in
     ((omega arith, omega arith, omega arith, omega (arith, h, s .0 .few)), (s .0 .left-low _ h, s .0 .right-low _ h))
 
-add-high : tie.Need-add-high Inv-loop μ-loop
-add-high c =
-    omega arith
-
-mul-high : tie.Need-mul-high Inv-loop μ-loop
-mul-high c =
-    omega arith
-
 element-write-high : tie.Need-element-write-high Inv-loop μ-loop
 element-write-high c =
     let s = c .before .before .before .before .before .pre in
     omega (arith, s .0 .few)
 
-add-low : tie.Need-add-low Inv-loop μ-loop
-add-low c =
-    omega arith
-
-mul-low : tie.Need-mul-low Inv-loop μ-loop
-mul-low c =
-    omega arith
-
 element-write-low : tie.Need-element-write-low Inv-loop μ-loop
 element-write-low c =
     let s = c .before .before .before .before .before .pre in
     omega (arith, s .0 .few)
-
-add-v : tie.Need-add-v Inv-loop μ-loop
-add-v c =
-    omega arith
-
-loop-less : tie.Need-loop-less Inv-loop μ-loop
-loop-less c =
-    omega arith
 
 loop-again : tie.Need-loop-again Inv-loop μ-loop
 loop-again c =
@@ -121,21 +85,6 @@ returns c =
 pub fill-inner-spec : {M : Type 1} → statement M
 fill-inner-spec =
     tie.close
-    (tie.spec
-    Inv-loop
-    μ-loop
-    mul-a
-    mul-b
-    mul-u
-    loop-holds
-    pair-cell-requires
-    add-high
-    mul-high
-    element-write-high
-    add-low
-    mul-low
-    element-write-low
-    add-v
-    loop-less
-    loop-again
-    returns)
+    (tie.spec Inv-loop μ-loop (λ c. omega arith) (λ c. omega arith) (λ c. omega arith) loop-holds pair-cell-requires
+    (λ c. omega arith) (λ c. omega arith) element-write-high (λ c. omega arith) (λ c. omega arith) element-write-low
+    (λ c. omega arith) (λ c. omega arith) loop-again returns)

@@ -3,12 +3,6 @@ use borrow.Author.Needs.{needs}
 use Rattle.table.proofs.fill.join_rows.Statement.{statement}
 use Rattle.table.proofs.fill.join_rows.Tie as tie
 
-element-copy-out-wide : tie.Need-element-copy-out-wide
-element-copy-out-wide c = search needs
-
-wide-requires : tie.Need-wide-requires
-wide-requires c κs = search needs
-
 fill-inner-requires : tie.Need-fill-inner-requires
 fill-inner-requires c κs =
     let s = c .before .before .before .before .before .pre in
@@ -30,10 +24,4 @@ returns-2 c =
 pub join-rows-spec : {M : Type 1} → statement M
 join-rows-spec =
     tie.close
-    (tie.spec
-    element-copy-out-wide
-    wide-requires
-    fill-inner-requires
-    fill-inner-requires-2
-    returns
-    returns-2)
+    (tie.spec (λ c. search needs) (λ c κs. search needs) fill-inner-requires fill-inner-requires-2 returns returns-2)

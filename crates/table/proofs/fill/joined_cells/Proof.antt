@@ -5,18 +5,9 @@ use borrow.Author.Needs.{needs}
 use Rattle.table.proofs.fill.joined_cells.Statement.{statement}
 use Rattle.table.proofs.fill.joined_cells.Tie as tie
 
-cell-requires : tie.Need-cell-requires
-cell-requires c κs = search needs
-
-cell-requires-2 : tie.Need-cell-requires-2
-cell-requires-2 c κs = search needs
-
-joined-requires : tie.Need-joined-requires
-joined-requires c κs = search needs
-
 returns : tie.Need-returns
 returns c =
     c .joined .ensures ∙ ap₂ wrapped (c .before .before .cell .ensures) (c .before .cell2 .ensures)
 
 pub joined-cells-spec : {M : Type 1} → statement M
-joined-cells-spec = tie.close (tie.spec cell-requires cell-requires-2 joined-requires returns)
+joined-cells-spec = tie.close (tie.spec (λ c κs. search needs) (λ c κs. search needs) (λ c κs. search needs) returns)

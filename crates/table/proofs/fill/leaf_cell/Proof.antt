@@ -6,18 +6,6 @@ use borrow.Author.Needs.{needs}
 use Rattle.table.proofs.fill.leaf_cell.Statement.{statement}
 use Rattle.table.proofs.fill.leaf_cell.Tie as tie
 
-column-requires : tie.Need-column-requires
-column-requires c κs = search needs
-
-column-requires-2 : tie.Need-column-requires-2
-column-requires-2 c κs = search needs
-
-add-cell : tie.Need-add-cell
-add-cell c = search needs
-
-cell-requires : tie.Need-cell-requires
-cell-requires c κs = search needs
-
 returns : tie.Need-returns
 unfolding leafCellAt
 returns c =
@@ -37,18 +25,6 @@ returns-2 c =
     )
     refl
 
-column-requires-3 : tie.Need-column-requires-3
-column-requires-3 c κs = search needs
-
-add-heavier-cell : tie.Need-add-heavier-cell
-add-heavier-cell c = search needs
-
-add-heavier-cell-2 : tie.Need-add-heavier-cell-2
-add-heavier-cell-2 c = search needs
-
-heavier-cell-requires : tie.Need-heavier-cell-requires
-heavier-cell-requires c κs = search needs
-
 returns-3 : tie.Need-returns-3
 unfolding leafCellAt
 returns-3 c =
@@ -57,15 +33,5 @@ returns-3 c =
 pub leaf-cell-spec : {M : Type 1} → statement M
 leaf-cell-spec =
     tie.close
-    (tie.spec
-    column-requires
-    column-requires-2
-    add-cell
-    cell-requires
-    returns
-    returns-2
-    column-requires-3
-    add-heavier-cell
-    add-heavier-cell-2
-    heavier-cell-requires
-    returns-3)
+    (tie.spec (λ c κs. search needs) (λ c κs. search needs) (λ c. search needs) (λ c κs. search needs) returns returns-2
+    (λ c κs. search needs) (λ c. search needs) (λ c. search needs) (λ c κs. search needs) returns-3)

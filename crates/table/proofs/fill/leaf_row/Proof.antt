@@ -3,15 +3,6 @@ use borrow.Author.Needs.{needs}
 use Rattle.table.proofs.fill.leaf_row.Statement.{statement}
 use Rattle.table.proofs.fill.leaf_row.Tie as tie
 
-element-copy-out-wide : tie.Need-element-copy-out-wide
-element-copy-out-wide c = search needs
-
-wide-requires : tie.Need-wide-requires
-wide-requires c κs = search needs
-
-column-requires : tie.Need-column-requires
-column-requires c κs = search needs
-
 fill-leaf-requires : tie.Need-fill-leaf-requires
 fill-leaf-requires c κs =
     let s = c .before .before .before .before .before .pre in
@@ -22,6 +13,4 @@ returns c =
     rw (← c .before .before .before .before .wide .ensures, ← c .before .column .ensures) (c .fill-leaf .ensures)
 
 pub leaf-row-spec : {M : Type 1} → statement M
-leaf-row-spec =
-    tie.close
-    (tie.spec element-copy-out-wide wide-requires column-requires fill-leaf-requires returns)
+leaf-row-spec = tie.close (tie.spec (λ c. search needs) (λ c κs. search needs) (λ c κs. search needs) fill-leaf-requires returns)

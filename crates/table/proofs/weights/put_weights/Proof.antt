@@ -22,58 +22,6 @@ loop-holds : tie.Need-loop-holds Inv-loop μ-loop
 loop-holds c =
     (omega arith, omega arith, λ h. power-79, weights-none _ _ _)
 
-element-copy-out-units : tie.Need-element-copy-out-units Inv-loop μ-loop
-element-copy-out-units c =
-    omega arith
-
-units-requires : tie.Need-units-requires Inv-loop μ-loop
-units-requires c κs =
-    search needs
-
-mul-high : tie.Need-mul-high Inv-loop μ-loop
-mul-high c =
-    omega arith
-
-add-high : tie.Need-add-high Inv-loop μ-loop
-add-high c =
-    omega arith
-
-add-high-2 : tie.Need-add-high-2 Inv-loop μ-loop
-add-high-2 c =
-    omega arith
-
-mul-high-2 : tie.Need-mul-high-2 Inv-loop μ-loop
-mul-high-2 c =
-    omega arith
-
-element-write-high : tie.Need-element-write-high Inv-loop μ-loop
-element-write-high c =
-    omega arith
-
-add-low : tie.Need-add-low Inv-loop μ-loop
-add-low c =
-    omega arith
-
-mul-low : tie.Need-mul-low Inv-loop μ-loop
-mul-low c =
-    omega arith
-
-element-write-low : tie.Need-element-write-low Inv-loop μ-loop
-element-write-low c =
-    omega arith
-
-halved-requires : tie.Need-halved-requires Inv-loop μ-loop
-halved-requires c κs =
-    search needs
-
-add-r : tie.Need-add-r Inv-loop μ-loop
-add-r c =
-    omega arith
-
-loop-less : tie.Need-loop-less Inv-loop μ-loop
-loop-less c =
-    omega arith
-
 loop-again : tie.Need-loop-again Inv-loop μ-loop
 loop-again c =
     let i = c .before .before .before .before .before .loop .inv in
@@ -96,22 +44,6 @@ returns c =
 pub put-weights-spec : {M : Type 1} → statement M
 put-weights-spec =
     tie.close
-    (tie.spec
-    Inv-loop
-    μ-loop
-    loop-holds
-    element-copy-out-units
-    units-requires
-    mul-high
-    add-high
-    add-high-2
-    mul-high-2
-    element-write-high
-    add-low
-    mul-low
-    element-write-low
-    halved-requires
-    add-r
-    loop-less
-    loop-again
-    returns)
+    (tie.spec Inv-loop μ-loop loop-holds (λ c. omega arith) (λ c κs. search needs) (λ c. omega arith) (λ c. omega arith)
+    (λ c. omega arith) (λ c. omega arith) (λ c. omega arith) (λ c. omega arith) (λ c. omega arith) (λ c. omega arith)
+    (λ c κs. search needs) (λ c. omega arith) (λ c. omega arith) loop-again returns)

@@ -4,11 +4,12 @@ use mathlib.Core.Path.{_≡_, _∙_}
 use mathlib.Core.Bool.{Bool, false}
 use native.Mathlib.Omega.{arith}
 use borrow.Author.Needs.{needs}
+use Rattle.trees.proofs.EntryLaws.{filled-at}
 use lib.ListN.{getD, length-replicate}
 use lib.Seq.{getD-set-other}
 use Rattle.table.specs.Table.{valueOf}
 use Rattle.table.specs.Weighing.{Powers}
-use Rattle.table.proofs.WeighingLaws.{ReadTo, none-chosen, read-none, read-next, bits-read}
+use Rattle.table.proofs.WeighingLaws.{ReadTo, read-none, read-next, bits-read}
 use Rattle.table.proofs.weights.read_set.Statement.{statement}
 use Rattle.table.proofs.weights.read_set.Tie as tie
 
@@ -23,27 +24,7 @@ abbrev μ-loop : tie.MeasureT-loop
 
 loop-holds : tie.Need-loop-holds Inv-loop μ-loop
 loop-holds c =
-    (omega arith, λ h. read-none 80 _ _ (length-replicate {A = Bool} 80 false), λ q h. none-chosen 80 q)
-
-power-at-requires : tie.Need-power-at-requires Inv-loop μ-loop
-power-at-requires c κs =
-    omega arith
-
-take-requires : tie.Need-take-requires Inv-loop μ-loop
-take-requires c κs =
-    search needs
-
-element-write-chosen : tie.Need-element-write-chosen Inv-loop μ-loop
-element-write-chosen c =
-    omega arith
-
-add-r : tie.Need-add-r Inv-loop μ-loop
-add-r c =
-    omega arith
-
-loop-less : tie.Need-loop-less Inv-loop μ-loop
-loop-less c =
-    omega arith
+    (omega arith, λ h. read-none 80 _ _ (length-replicate {A = Bool} 80 false), λ q h. filled-at false 80 q)
 
 loop-again : tie.Need-loop-again Inv-loop μ-loop
 loop-again c =
@@ -66,14 +47,5 @@ returns c =
 pub read-set-spec : {M : Type 1} → statement M
 read-set-spec =
     tie.close
-    (tie.spec
-    Inv-loop
-    μ-loop
-    loop-holds
-    power-at-requires
-    take-requires
-    element-write-chosen
-    add-r
-    loop-less
-    loop-again
-    returns)
+    (tie.spec Inv-loop μ-loop loop-holds (λ c κs. omega arith) (λ c κs. search needs) (λ c. omega arith) (λ c. omega arith)
+    (λ c. omega arith) loop-again returns)

@@ -22,18 +22,6 @@ returns-3 c =
     let e = lt-leb (valueOf (c .before .before .before .before .before .before .before .before .before .args .p)) (valueOf (c .before .before .before .before .before .before .before .before .before .args .rest)) (omega arith) in
     (sym e, rw e refl)
 
-sub-t8 : tie.Need-sub-t8
-sub-t8 c = search needs
-
-sub-t9 : tie.Need-sub-t9
-sub-t9 c = search needs
-
-add-t10 : tie.Need-add-t10
-add-t10 c = search needs
-
-add-t11 : tie.Need-add-t11
-add-t11 c = search needs
-
 returns-4 : tie.Need-returns-4
 returns-4 c =
     let e = le-leb (valueOf (c .before .before .before .before .before .before .before .before .before .before .before .before .before .args .p)) (valueOf (c .before .before .before .before .before .before .before .before .before .before .before .before .before .args .rest)) (omega arith) in
@@ -41,4 +29,6 @@ returns-4 c =
 
 pub take-spec : {M : Type 1} → statement M
 take-spec =
-    tie.close (tie.spec returns returns-2 returns-3 sub-t8 sub-t9 add-t10 add-t11 returns-4)
+    tie.close
+    (tie.spec returns returns-2 returns-3 (λ c. search needs) (λ c. search needs) (λ c. search needs) (λ c. search needs)
+    returns-4)

@@ -5,7 +5,7 @@ use Prim.Native.Nat.{ℕ, _≤_, _<_, _-_, _%_}
 use mathlib.Core.Path.{_≡_, _∙_, ap₂}
 use native.Mathlib.Omega.{arith}
 use lib.ListN.{length, getD, length-set, length-replicate}
-use Rattle.triples.proofs.LoopLaws.{store-next}
+use Rattle.trees.proofs.EntryLaws.{store-next}
 use Rattle.triples.proofs.ancestors.lca_row.Statement.{statement}
 use Rattle.triples.proofs.ancestors.lca_row.Tie as tie
 
