@@ -95,7 +95,7 @@ filling-kept first second ss ts w h l h' l' shape same f = record {
 
 module _ (first second : List ℕ) (u row other next : ℕ) (hu : u < nodesAt first) (h0 l0 h3 l3 : List ℕ) where
   -- a leaf
-  pub leaf-made : columnAt first 0 u ≡ u → LeafRow second (nodesAt second) (columnAt first 2 u) row h0 l0 h3 l3
+  pub leaf-made : columnAt first 0 u ≡ u → LeafRow (nodesAt second) second (columnAt first 2 u) row h0 l0 h3 l3
       → NodeRow first second u row other next h0 l0 h3 l3
   leaf-made e made = record {
     sized = made .sized;
@@ -191,7 +191,7 @@ module _ (first second : List ℕ) (u row other next : ℕ) (hu : u < nodesAt fi
 
         made : (b : Bool) → c .more ≡ cond b (columnAt first 1 u) (columnAt first 0 u)
             → c .fewer ≡ cond b (columnAt first 0 u) (columnAt first 1 u)
-            → InnerRow second (nodesAt second) (cond b next other) (cond b other next) row h2 l2 h3 l3
+            → InnerRow (nodesAt second) second (cond b next other) (cond b other next) row h2 l2 h3 l3
             → RowTo (nodesAt second) ts w (node P Q) row h3 l3
         made true em ef j =
             j .right-row ts w P Q sh2 sl2 (f .two) (f .light) few-leaves (λ e. omega (arith, rows .row-low)) (λ e. rows .apart (sym e))

@@ -1,5 +1,5 @@
--- Laws of rows: the value computed for a cell is that of the recurrence and a stored cell leaves the others alone. Assumes
--- nothing.
+-- Laws of rows: the value computed for a cell is that of the recurrence, a stored cell leaves the others alone, and so a row is made.
+-- Assumes nothing.
 use Prim.Native.Nat.{ℕ, _+_, _*_, _<_, _≤_, max}
 use mathlib.Core.Path.{_≡_, refl, _∙_, ap, ap₂}
 use mathlib.Core.Bool.{true, false, cond}
@@ -7,7 +7,7 @@ use mathlib.Core.Logic.{_⊎_, inl, inr}
 use mathlib.Core.List.{List}
 use native.Mathlib.Omega.{arith}
 use lib.Dec.{eqb, ltb}
-use lib.ListN.{length, set}
+use lib.ListN.{length, set, length-set}
 use lib.Seq.{getD-set-same, getD-set-other}
 use borrow.Author.Tests.{eq-eqb, ne-eqb, ltb-true, ltb-false}
 use Rattle.trees.specs.Label.{Label}
@@ -17,7 +17,7 @@ use Rattle.trees.proofs.Bools.{bool-cases}
 use Rattle.trees.proofs.EntryLaws.{below-next}
 use Rattle.agreement.specs.Weights.{best}
 use Rattle.table.specs.Table.{two64, valueAt, columnAt, weightPlace, innerAt, cellAt, leafCellAt, Outside}
-use Rattle.table.specs.Table.{Columns, RowTo, Light, RankIs}
+use Rattle.table.specs.Table.{nodesAt, Shape, Sized, Columns, RowTo, Light, RankIs, InnerRow, LeafRow}
 use Rattle.table.proofs.RecurrenceLaws.{two-leaves, leaf-node, node-leaf, two-nodes}
 
 -- what columns tell of node u
@@ -32,7 +32,7 @@ node-case (laid-node p q) = is-node p q refl
 module _ (second : List ℕ) (nodes : ℕ) (ts : List Tree) (w : Label → ℕ) (two : Columns second nodes ts) (f : ℕ → ℕ) (u v : ℕ)
     (hv : v < nodes) where
   -- the cell of a leaf
-  pub leaf-right : (x : Label) (rank : ℕ) → RankIs second nodes ts w x rank (f (weightPlace rank))
+  leaf-right : (x : Label) (rank : ℕ) → RankIs second nodes ts w x rank (f (weightPlace rank))
       → ((q : ℕ) → q < v → f (u + q) ≡ best w (leaf x) (subtree ts q))
       → leafCellAt f second rank u v ≡ best w (leaf x) (subtree ts v)
   unfolding leafCellAt
@@ -48,7 +48,7 @@ module _ (second : List ℕ) (nodes : ℕ) (ts : List Tree) (w : Label → ℕ) 
           (ap₂ max (before _ l) (before _ r) ∙ leaf-node w _ x _ _ q)
 
   -- the cell of an inner node
-  pub inner-right : (p q : Tree) (a b : ℕ) → Light w → length (leaves (node p q)) ≤ leafLimit
+  inner-right : (p q : Tree) (a b : ℕ) → Light w → length (leaves (node p q)) ≤ leafLimit
       → ((k : ℕ) → k < v + 1 → f (a + k) ≡ best w p (subtree ts k)) → ((k : ℕ) → k < v + 1 → f (b + k) ≡ best w q (subtree ts k))
       → ((k : ℕ) → k < v → f (u + k) ≡ best w (node p q) (subtree ts k))
       → cellAt f second a b u v ≡ best w (node p q) (subtree ts v)
@@ -84,7 +84,7 @@ module _ (place h l : ℕ) (high low : List ℕ) where
   value-same a b = ap₂ (λ (x y : ℕ). x * two64 + y) (getD-set-same high place h 0 a) (getD-set-same low place l 0 b)
 
 module _ (row v h l : ℕ) (high low : List ℕ) where
-  pub outside-store : (high0 low0 : List ℕ) → v < 159 → Outside row high0 low0 high low
+  outside-store : (high0 low0 : List ℕ) → v < 159 → Outside row high0 low0 high low
       → Outside row high0 low0 (set high (row * 159 + v) h) (set low (row * 159 + v) l)
   outside-store high0 low0 hv out =
       record { same = λ i side. value-other (row * 159 + v) h l high low i (ne i side) ∙ out .same i side }
@@ -93,7 +93,7 @@ module _ (row v h l : ℕ) (high low : List ℕ) where
       ne i (inl k) e = omega arith
       ne i (inr k) e = omega arith
 
-  pub row-store : (ts : List Tree) (w : Label → ℕ) (s : Tree) → row < 8 → v < 159 → length high ≡ 1431 → length low ≡ 1431
+  row-store : (ts : List Tree) (w : Label → ℕ) (s : Tree) → row < 8 → v < 159 → length high ≡ 1431 → length low ≡ 1431
       → RowTo v ts w s row high low → h * two64 + l ≡ best w s (subtree ts v)
       → RowTo (v + 1) ts w s row (set high (row * 159 + v) h) (set low (row * 159 + v) l)
   row-store ts w s hr hv sh sl right e = record {
@@ -104,6 +104,13 @@ module _ (row v h l : ℕ) (high low : List ℕ) where
         (value-same (row * 159 + v) h l high low (omega arith) (omega arith) ∙ e);
   }
 
+pub sized-store : (place h l : ℕ) (high0 low0 high low : List ℕ) → Sized high0 low0 high low
+    → Sized high0 low0 (set high place h) (set low place l)
+sized-store place h l high0 low0 high low s = record {
+  high-size = λ e. length-set high place h ∙ s .high-size e;
+  low-size = λ e. length-set low place l ∙ s .low-size e;
+}
+
 pub row-apart : (k row v : ℕ) → v < 159 → (k ≡ row → ⊥) → (k * 159 + v < row * 159) ⊎ (row * 159 + 159 ≤ k * 159 + v)
 row-apart k row v hv ne = go (bool-cases (ltb k row))
   where
@@ -112,17 +119,69 @@ row-apart k row v hv ne = go (bool-cases (ltb k row))
     go (inr e) = inr (omega (arith, ltb-false k row e, ne))
 
 -- another row is as it was
-pub other-row : (n row k : ℕ) (ts : List Tree) (w : Label → ℕ) (s : Tree) (high0 low0 high low : List ℕ) → n ≤ 159 → (k ≡ row → ⊥)
+other-row : (n row k : ℕ) (ts : List Tree) (w : Label → ℕ) (s : Tree) (high0 low0 high low : List ℕ) → n ≤ 159 → (k ≡ row → ⊥)
     → Outside row high0 low0 high low → RowTo n ts w s k high0 low0 → RowTo n ts w s k high low
 other-row n row k ts w s high0 low0 high low few ne out right = record {
   right = λ v hv. out .same (k * 159 + v) (row-apart k row v (omega arith) ne) ∙ right .right v hv;
 }
-
-pub outside-none : (row : ℕ) (high low : List ℕ) → Outside row high low high low
-outside-none row high low = record { same = λ i side. refl }
 
 -- a rank's weight, where its place is as it was
 pub rank-kept : (second : List ℕ) (nodes : ℕ) (ts : List Tree) (w : Label → ℕ) (x : Label) (rank m n : ℕ) → n ≡ m
     → RankIs second nodes ts w x rank m → RankIs second nodes ts w x rank n
 rank-kept second nodes ts w x rank m n e is =
     record { is = λ v h y p. ap (λ (k : ℕ). cond (eqb (columnAt second 2 v) rank) k 0) e ∙ is .is v h y p }
+
+-- a row is made cell by cell
+
+sized-none : (high low : List ℕ) → Sized high low high low
+sized-none high low = record { high-size = λ e. e; low-size = λ e. e }
+
+pub leaf-row-none : (second : List ℕ) (rank row : ℕ) (high low : List ℕ) → LeafRow 0 second rank row high low high low
+leaf-row-none second rank row high low = record {
+  sized = sized-none high low;
+  outside = record { same = λ i side. refl };
+  right-row = λ ts w x sh sl two is. record { right = λ v h. absurd (omega arith) };
+}
+
+pub inner-row-none : (second : List ℕ) (left right row : ℕ) (high low : List ℕ) → InnerRow 0 second left right row high low high low
+inner-row-none second left right row high low = record {
+  sized = sized-none high low;
+  outside = record { same = λ i side. refl };
+  right-row = λ ts w p q sh sl two light few nl nr rl rr. record { right = λ v h. absurd (omega arith) };
+}
+
+module _ (second : List ℕ) (row v h l : ℕ) (high0 low0 high low : List ℕ) (shape : Shape second (nodesAt second)) (hr : row < 8)
+    (hv : v < nodesAt second) where
+  small : v < 159
+  small = omega (arith, shape .few)
+
+  pub leaf-row-next : (rank : ℕ) → h * two64 + l ≡ leafCellAt (valueAt high low) second rank (row * 159) v
+      → LeafRow v second rank row high0 low0 high low
+      → LeafRow (v + 1) second rank row high0 low0 (set high (row * 159 + v) h) (set low (row * 159 + v) l)
+  leaf-row-next rank e r = record {
+    sized = sized-store (row * 159 + v) h l high0 low0 high low (r .sized);
+    outside = outside-store row v h l high low high0 low0 small (r .outside);
+    right-row = λ ts w x sh sl two is.
+        let here = r .right-row ts w x sh sl two is in
+        let kept = r .outside .same (weightPlace rank) (inr (omega arith)) in
+        row-store row v h l high low ts w (leaf x) hr small (r .sized .high-size sh) (r .sized .low-size sl) here
+        (e
+        ∙ leaf-right second (nodesAt second) ts w two (valueAt high low) (row * 159) v hv x rank
+        (rank-kept second (nodesAt second) ts w x rank _ _ kept is) (here .right));
+  }
+
+  pub inner-row-next : (left right : ℕ) → h * two64 + l ≡ cellAt (valueAt high low) second (left * 159) (right * 159) (row * 159) v
+      → InnerRow v second left right row high0 low0 high low
+      → InnerRow (v + 1) second left right row high0 low0 (set high (row * 159 + v) h) (set low (row * 159 + v) l)
+  inner-row-next left right e r = record {
+    sized = sized-store (row * 159 + v) h l high0 low0 high low (r .sized);
+    outside = outside-store row v h l high low high0 low0 small (r .outside);
+    right-row = λ ts w p q sh sl two light few nl nr rl rr.
+        let one = other-row (nodesAt second) row left ts w p high0 low0 high low (shape .few) nl (r .outside) rl in
+        let other = other-row (nodesAt second) row right ts w q high0 low0 high low (shape .few) nr (r .outside) rr in
+        let here = r .right-row ts w p q sh sl two light few nl nr rl rr in
+        row-store row v h l high low ts w (node p q) hr small (r .sized .high-size sh) (r .sized .low-size sl) here
+        (e
+        ∙ inner-right second (nodesAt second) ts w two (valueAt high low) (row * 159) v hv p q (left * 159) (right * 159) light few
+        (λ k less. one .right k (omega arith)) (λ k less. other .right k (omega arith)) (here .right));
+  }

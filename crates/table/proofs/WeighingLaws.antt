@@ -15,7 +15,7 @@ use Rattle.agreement.specs.Powers.{whole, power, decode}
 use Rattle.table.specs.Table.{two64, valueAt, weightPlace}
 use Rattle.table.specs.Weighing.{unitOf, WeightsPut, bitsOf, Bits}
 use Rattle.table.specs.Choice.{chosenFrom}
-use Rattle.table.proofs.RowLaws.{value-same, value-other}
+use Rattle.table.proofs.RowLaws.{value-same, value-other, sized-store}
 
 -- powers
 
@@ -51,10 +51,7 @@ module _ (r : ℕ) (number high0 low0 high low : List ℕ) (h l : ℕ) (small : 
 
   pub weights-next : WeightsPut (r + 1) number high0 low0 high' low'
   weights-next = record {
-    sized = record {
-      high-size = λ e. length-set high (1272 + r) h ∙ put .sized .high-size e;
-      low-size = λ e. length-set low (1272 + r) l ∙ put .sized .low-size e;
-    };
+    sized = sized-store (1272 + r) h l high0 low0 high low (put .sized);
     each = λ sh sl.
         let s = put .sized .high-size sh in
         let t = put .sized .low-size sl in

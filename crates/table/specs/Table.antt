@@ -143,26 +143,27 @@ pub record SplitAt (first : List ℕ) (u : ℕ) (c : Children) : Type 0 where
   pub more-is : c .more ≡ cond (c .swapped) (columnAt first 1 u) (columnAt first 0 u)
   pub fewer-is : c .fewer ≡ cond (c .swapped) (columnAt first 0 u) (columnAt first 1 u)
 
--- the row of an inner node, made of the rows of its children
-pub record InnerRow (second : List ℕ) (nodes left right row : ℕ) (high low high' low' : List ℕ) : Type 0 where
+-- the first n cells of the row of an inner node, made of the rows of its children
+pub record InnerRow (n : ℕ) (second : List ℕ) (left right row : ℕ) (high low high' low' : List ℕ) : Type 0 where
   pub sized : Sized high low high' low'
   pub outside : Outside row high low high' low'
   pub right-row : (ts : List Tree) (w : Label → ℕ) (p q : Tree) → length high ≡ 1431 → length low ≡ 1431
-      → Columns second nodes ts → Light w → length (leaves (node p q)) ≤ leafLimit → (left ≡ row → ⊥) → (right ≡ row → ⊥)
-      → RowTo nodes ts w p left high low → RowTo nodes ts w q right high low → RowTo nodes ts w (node p q) row high' low'
+      → Columns second (nodesAt second) ts → Light w → length (leaves (node p q)) ≤ leafLimit → (left ≡ row → ⊥) → (right ≡ row → ⊥)
+      → RowTo (nodesAt second) ts w p left high low → RowTo (nodesAt second) ts w q right high low
+      → RowTo n ts w (node p q) row high' low'
 
--- the same, where the rows are swapped or not
+-- the whole row, where the rows are swapped or not
 abbrev pub Joined : List ℕ → Bool → ℕ → ℕ → ℕ → List ℕ → List ℕ → List ℕ → List ℕ → Type 0
 Joined second swapped row other next high low high' low' =
-    InnerRow second (nodesAt second) (cond swapped next other) (cond swapped other next) row high low high' low'
+    InnerRow (nodesAt second) second (cond swapped next other) (cond swapped other next) row high low high' low'
 
--- the row of a leaf
-pub record LeafRow (second : List ℕ) (nodes rank row : ℕ) (high low high' low' : List ℕ) : Type 0 where
+-- the first n cells of the row of a leaf
+pub record LeafRow (n : ℕ) (second : List ℕ) (rank row : ℕ) (high low high' low' : List ℕ) : Type 0 where
   pub sized : Sized high low high' low'
   pub outside : Outside row high low high' low'
   pub right-row : (ts : List Tree) (w : Label → ℕ) (x : Label) → length high ≡ 1431 → length low ≡ 1431
-      → Columns second nodes ts → RankIs second nodes ts w x rank (valueAt high low (weightPlace rank))
-      → RowTo nodes ts w (leaf x) row high' low'
+      → Columns second (nodesAt second) ts → RankIs second (nodesAt second) ts w x rank (valueAt high low (weightPlace rank))
+      → RowTo n ts w (leaf x) row high' low'
 
 -- the row of a node
 pub record NodeRow (first second : List ℕ) (u row other next : ℕ) (high low high' low' : List ℕ) : Type 0 where

@@ -165,25 +165,28 @@ fn leaf_cell(
     heavier_cell(high, low, u + c, u + d)
 }
 
-// The row of a leaf with this rank.
+// The row of leaf u.
 fn fill_leaf(
+    first: &[u8; COLUMNS],
     second: &[u8; COLUMNS],
-    nodes: usize,
     high: &mut [u32; AREA],
     low: &mut [u64; AREA],
-    rank: usize,
+    u: usize,
     row: usize,
 )
-    requires { ⌜ Shape (now second) nodes ⌝ }
-    requires { ⌜ (rank ≤ 80) × (row < 8) ⌝ }
-    ensures { λ _. ⌜ LeafRow (now (second .entry)) nodes rank row (now (high .entry)) (now (low .entry)) (now (high .exit)) (now (low .exit)) ⌝ }
+    requires { ⌜ Shape (now second) (nodesAt (now second)) ⌝ }
+    requires { ⌜ (u < 159) × (columnAt (now first) 2 u ≤ 80) × (row < 8) ⌝ }
+    ensures { λ _. ⌜ LeafRow (nodesAt (now (second .entry))) (now (second .entry)) (columnAt (now (first .entry)) 2 u) row
+        (now (high .entry)) (now (low .entry)) (now (high .exit)) (now (low .exit)) ⌝ }
 {
-    let u = row * ROW;
+    let rank = column(first, 2, u);
+    let nodes = trees::wide(second[NODES]);
+    let start = row * ROW;
     let mut v: usize = 0;
     while v < nodes {
-        let value = leaf_cell(second, high, low, rank, u, v);
-        high[u + v] = value.high;
-        low[u + v] = value.low;
+        let value = leaf_cell(second, high, low, rank, start, v);
+        high[start + v] = value.high;
+        low[start + v] = value.low;
         v += 1;
     }
 }
@@ -191,18 +194,18 @@ fn fill_leaf(
 // The row of an inner node from the rows of its children.
 fn fill_inner(
     second: &[u8; COLUMNS],
-    nodes: usize,
     high: &mut [u32; AREA],
     low: &mut [u64; AREA],
     left: usize,
     right: usize,
     row: usize,
 )
-    requires { ⌜ Shape (now second) nodes ⌝ }
+    requires { ⌜ Shape (now second) (nodesAt (now second)) ⌝ }
     requires { ⌜ (left < 8) × (right < 8) × (row < 8) ⌝ }
-    ensures { λ _. ⌜ InnerRow (now (second .entry)) nodes left right row
+    ensures { λ _. ⌜ InnerRow (nodesAt (now (second .entry))) (now (second .entry)) left right row
         (now (high .entry)) (now (low .entry)) (now (high .exit)) (now (low .exit)) ⌝ }
 {
+    let nodes = trees::wide(second[NODES]);
     let a = left * ROW;
     let b = right * ROW;
     let u = row * ROW;
@@ -257,30 +260,11 @@ fn join_rows(
     requires { ⌜ (row < 8) × (other < 8) × (next < 8) ⌝ }
     ensures { λ _. ⌜ Joined (now (second .entry)) swapped row other next (now (high .entry)) (now (low .entry)) (now (high .exit)) (now (low .exit)) ⌝ }
 {
-    let nodes = trees::wide(second[NODES]);
     if swapped {
-        fill_inner(second, nodes, high, low, next, other, row);
+        fill_inner(second, high, low, next, other, row);
     } else {
-        fill_inner(second, nodes, high, low, other, next, row);
+        fill_inner(second, high, low, other, next, row);
     }
-}
-
-// The row of a leaf.
-fn leaf_row(
-    first: &[u8; COLUMNS],
-    second: &[u8; COLUMNS],
-    high: &mut [u32; AREA],
-    low: &mut [u64; AREA],
-    u: usize,
-    row: usize,
-)
-    requires { ⌜ Shape (now second) (nodesAt (now second)) ⌝ }
-    requires { ⌜ (u < 159) × (columnAt (now first) 2 u ≤ 80) × (row < 8) ⌝ }
-    ensures { λ _. ⌜ LeafRow (now (second .entry)) (nodesAt (now (second .entry))) (columnAt (now (first .entry)) 2 u) row
-        (now (high .entry)) (now (low .entry)) (now (high .exit)) (now (low .exit)) ⌝ }
-{
-    let nodes = trees::wide(second[NODES]);
-    fill_leaf(second, nodes, high, low, column(first, 2, u), row);
 }
 
 // The row of node u of the first tree. The child that needs more rows is done first, into the other row; then the second child,
@@ -301,7 +285,7 @@ fn fill_node(
         (now (high .entry)) (now (low .entry)) (now (high .exit)) (now (low .exit)) ⌝ }
 {
     if column(first, 0, u) == u {
-        leaf_row(first, second, high, low, u, row);
+        fill_leaf(first, second, high, low, u, row);
         return;
     }
     if ROWS <= next {

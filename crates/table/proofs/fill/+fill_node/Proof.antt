@@ -12,7 +12,7 @@ use Rattle.table.proofs.fill.+fill_node.Lts-fill_node as fill-node-lts
 use Rattle.table.proofs.fill.children_of.Reads as children-of-reads
 use Rattle.table.proofs.fill.column.Reads as column-reads
 use Rattle.table.proofs.fill.join_rows.Reads as join-rows-reads
-use Rattle.table.proofs.fill.leaf_row.Reads as leaf-row-reads
+use Rattle.table.proofs.fill.fill_leaf.Reads as fill-leaf-reads
 use Rattle.table.proofs.fill.+fill_node.{statement}
 use Rattle.table.proofs.fill.+fill_node.Tie.{close}
 
@@ -31,8 +31,8 @@ module _ (t : ℕ) where
   claims = (
     column-reads.Asked,
     column-reads.Learnt,
-    leaf-row-reads.Asked,
-    leaf-row-reads.Learnt,
+    fill-leaf-reads.Asked,
+    fill-leaf-reads.Learnt,
     children-of-reads.Asked,
     children-of-reads.Learnt,
     fill-node-below t,
@@ -44,8 +44,8 @@ module _ (t : ℕ) where
   column-requires : fill-node-lts.Need-column-requires claims (fill-node-at t) fill-node.Post
   column-requires c κs = (omega arith, omega (arith, c .pre .1 .0 .0 .few, c .pre .1 .1 .0))
 
-  leaf-row-requires : fill-node-lts.Need-leaf-row-requires claims (fill-node-at t) fill-node.Post
-  leaf-row-requires c κs =
+  fill-leaf-requires : fill-node-lts.Need-fill-leaf-requires claims (fill-node-at t) fill-node.Post
+  fill-leaf-requires c κs =
       let p = c .before .before .before .before .pre .1 in
       (p .0 .1, (omega (arith, p .0 .0 .few, p .1 .0), p .0 .0 .ranked _ (p .1 .0), p .1 .1))
 
@@ -53,7 +53,7 @@ module _ (t : ℕ) where
   returns c =
       let p = c .before .before .before .before .before .pre .1 in
       leaf-made _ _ _ _ _ _ (p .1 .0) _ _ _ _ (sym (c .before .before .before .before .column .ensures) ∙ c .before .before .before .if1 .taken)
-      (c .leaf-row .ensures)
+      (c .fill-leaf .ensures)
 
   returns-2 : fill-node-lts.Need-returns-2 claims (fill-node-at t) fill-node.Post
   returns-2 c =
@@ -103,7 +103,7 @@ pub +fill-node-spec : {M : Type 1} → statement M
     close μ-fill-node
     λ t. fill-node-lts.spec (claims t) (fill-node-at t) fill-node.Post
     (column-requires t)
-    (leaf-row-requires t)
+    (fill-leaf-requires t)
     (returns t)
     (returns-2 t)
     (children-of-requires t)
