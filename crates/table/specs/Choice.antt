@@ -14,17 +14,17 @@ use Rattle.agreement.specs.Closer.{Common}
 use Rattle.agreement.specs.Sets.{common, setOf}
 use Rattle.agreement.specs.Answer.{answer, disagree, largest}
 
--- by node: the rank in C of a leaf's label, counted from 0, and 80 where C has it not ("Agreement": leaves common to both trees)
+-- "Agreement", "leaves common to both": by node, the rank of a leaf's label among the labels of C, counted from 0; 80 where C has it not
 pub record Ranked (t : Tree) (C : List Label) (rank : List ℕ) : Type 0 where
   pub held : (u r : ℕ) → r < length C → LeafIs t u (getD C r []) → getD rank u 0 ≡ r
   pub other : (u : ℕ) (x : Label) → LeafIs t u x → isIn x C ≡ false → getD rank u 0 ≡ 80
 
--- by rank in C: a required label's number in the list K, counted from 1, and 0 for any other ("Agreement": a required list)
+-- "Agreement", "the required ones": by rank in C, a required label's number in the list K, counted from 1; 0 for any other
 pub record Marked (C K : List Label) (number : List ℕ) : Type 0 where
   pub held : (r k : ℕ) → r < length C → k < length K → getD C r [] ≡ getD K k [] → getD number r 0 ≡ suc k
   pub other : (r : ℕ) → r < length C → isIn (getD C r []) K ≡ false → getD number r 0 ≡ 0
 
--- the arrays are those of tree t, and the ranks of its leaves' labels are among the labels of C
+-- the arrays are those of tree t, with the ranks of its leaves' labels among those of C
 pub record Given (t : Tree) (C : List Label) (tree : TreeArrays) (rank : List ℕ) : Type 0 where
   pub valid : Valid t
   pub arrays-are : tree ≡ arraysOf t
@@ -46,7 +46,7 @@ unfoldable pub chosenFrom : List Bool → ℕ → List Label → List Label
 chosenFrom chosen r [] = []
 chosenFrom chosen r (c ∷ cs) = cond (getD chosen r false) (c ∷ chosenFrom chosen (suc r) cs) (chosenFrom chosen (suc r) cs)
 
--- the answer: the labels chosen, or three that clash
+-- "Agreement", "Largest" and "first": the answer is the set of the labels chosen; or row 8, three required labels clash
 pub record Solved (s t : Tree) (K : List Label) (found : Bool) (chosen : List Bool) : Type 0 where
   pub set : found ≡ true → answer s t K ≡ largest (chosenFrom chosen 0 (common s t))
   pub eight : found ≡ false → (a : Label) × (b : Label) × (c : Label) × (answer s t K ≡ disagree a b c)

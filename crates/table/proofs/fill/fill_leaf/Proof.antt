@@ -34,10 +34,12 @@ element-write-low c = omega (arith, c .before .before .before .before .before .b
 
 loop-again : tie.Need-loop-again Inv-loop μ-loop
 loop-again c =
-    let s = c .before .before .before .before .before .before .before .before .pre in
-    let h : c .before .before .before .before .loop .v < nodesAt (c .before .before .before .before .before .before .before .before .args .second .now) = omega (arith, c .before .before .before .loop-test .taken, c .before .before .before .before .before .wide .ensures) in (
+    let l = c .before .before .before .before in
+    let start = l .before .before .before .before in
+    let h : l .loop .v < nodesAt (start .args .second .now) = omega (arith, c .before .before .before .loop-test .taken, l .before .wide .ensures) in (
       omega (arith, h),
-      leaf-row-next _ _ (c .before .before .before .before .loop .v) _ _ _ _ (c .before .before .before .before .loop .high) (c .before .before .before .before .loop .low) (s .0) (s .1 .2) h _ (c .leaf-cell .ensures) (c .before .before .before .before .loop .inv .1),
+      leaf-row-next _ _ (l .loop .v) _ _ _ _ (l .loop .high) (l .loop .low) (start .pre .0) (start .pre .1 .2) h _ (c .leaf-cell .ensures)
+          (l .loop .inv .1),
     )
 
 returns : tie.Need-returns Inv-loop μ-loop
