@@ -1,6 +1,6 @@
-/* Calls the engine from C: an answer, each refusal that the entry can give, an output that is too short, empty inputs. Prints
- * one line for each call, which .ci/run compares with examples/host.out. Each call is made in a thread whose stack has just the bytes
- * that agree.h tells, and what the C library itself keeps there:
+/* Calls the engine from C, through each entry: an answer, each refusal that it can give, an output that is too short, empty inputs,
+ * options. Prints one line for each call, which .ci/run compares with examples/host.out. Each call is made in a thread whose stack has just
+ * the bytes that agree.h tells, and what the C library itself keeps there:
  *
  *     gcc -pthread -Iinclude -o host examples/host.c target/staticlib/libcabi.a
  */
@@ -18,7 +18,7 @@ static int failed;
 /* The bytes of one call; `output` is lent with `room` bytes and lies in a larger area, of which bytes that must not change are checked. */
 struct call {
     const uint8_t *first, *second, *required, *job;
-    size_t first_length, second_length, required_length, job_length, room;
+    size_t options, first_length, second_length, required_length, job_length, room;
     uint8_t output[8192];
     struct agree_result result;
 };
@@ -29,6 +29,13 @@ static void *run_largest(void *unused)
 {
     call.result = agree_largest(call.first, call.first_length, call.second, call.second_length, call.required, call.required_length,
                                 call.output, call.room);
+    return unused;
+}
+
+static void *run_largest_with(void *unused)
+{
+    call.result = agree_largest_with(call.options, call.first, call.first_length, call.second, call.second_length, call.required,
+                                     call.required_length, call.output, call.room);
     return unused;
 }
 
@@ -48,25 +55,46 @@ static struct agree_result in_thread(void *(*work)(void *))
         abort();
     pthread_join(thread, NULL);
     pthread_attr_destroy(&attributes);
-    for (size_t i = call.result.length; i < sizeof call.output; i++)
+    struct agree_result r = call.result;
+    for (size_t i = r.length; i < sizeof call.output; i++)
         if (call.output[i] != 0x5a)
             failed = 1;
-    return call.result;
+    if ((r.number != 0 && (r.size != 0 || r.length != 0)) || (r.number != 8 && (r.first != 0 || r.second != 0 || r.third != 0)))
+        failed = 1;
+    return r;
 }
 
-static void largest(const char *first, const char *second, const char *required, size_t room)
+static void lend(const char *first, const char *second, const char *required, size_t room)
 {
     call.first = (const uint8_t *)first, call.first_length = strlen(first);
     call.second = (const uint8_t *)second, call.second_length = strlen(second);
     call.required = (const uint8_t *)required, call.required_length = strlen(required);
     call.room = room;
-    struct agree_result r = in_thread(run_largest);
+}
+
+static void show(struct agree_result r)
+{
     if (r.number == 0)
         printf("size %zu length %zu tree %.*s\n", r.size, r.length, (int)r.length, (const char *)call.output);
     else if (r.number == 8)
         printf("refused 8 %c %zu labels at %zu %zu %zu\n", (int)r.letter, r.place, r.first, r.second, r.third);
     else
         printf("refused %zu %c %zu\n", r.number, (int)r.letter, r.place);
+}
+
+static void largest(const char *first, const char *second, const char *required, size_t room)
+{
+    lend(first, second, required, room);
+    show(in_thread(run_largest));
+}
+
+/* The same with options. */
+static void largest_with(size_t options, const char *first, const char *second, const char *required, size_t room)
+{
+    lend(first, second, required, room);
+    call.options = options;
+    printf("options %zu: ", options);
+    show(in_thread(run_largest_with));
 }
 
 /* The same for a whole job. */
@@ -119,16 +147,49 @@ int main(void)
     struct agree_result r = agree_largest(NULL, 0, NULL, 0, NULL, 0, NULL, 0);
     printf("nothing: refused %zu %c %zu\n", r.number, (int)r.letter, r.place);
 
+    /* without options: as agree_largest */
+    largest_with(0, "((a,b),x);", "(b,a);", "b,a", 1518);
+    largest_with(0, "((a,b),x);", "(b,a);", "a,x", 1518);
+    largest_with(0, "(b,a);", "((a,b),x);", "a,x", 1518);
+    /* strict, equal leaf sets */
+    largest_with(AGREE_STRICT, "((a,b),(c,d));", "((a,c),(b,d));", "b,a", 1518);
+    largest_with(AGREE_STRICT, "((a,b),(c,d));", "((a,c),(b,d));", "b,a", 6);
+    largest_with(AGREE_STRICT, "((a,b),(c,d));", "((a,c),(b,d));", "b,a", 5);
+    largest_with(AGREE_STRICT, "(a,b);", "(b,a);", "b,", 1518);
+    largest_with(AGREE_STRICT, "((a,b),c);", "((a,c),b);", "c,a,b", 1518);
+    largest_with(AGREE_STRICT, caterpillar(), caterpillar(), "t79,t00", 1518);
+    /* strict, a leaf that the second tree lacks, one that the first lacks, both, several; before a list that cannot be read */
+    largest_with(AGREE_STRICT, "((a,b),x);", "(b,a);", "b,a", 1518);
+    largest_with(AGREE_STRICT, "(b,a);", "(y,(a,b));", "b,a", 1518);
+    largest_with(AGREE_STRICT, "((a,b),x);", "((y,(b,a)),c);", "b,a", 1518);
+    largest_with(AGREE_STRICT, "((z,y),a);", "a;", "a,z", 1518);
+    largest_with(AGREE_STRICT, "((a,x),b);", "(b,a);", "b,", 0);
+    /* strict, a tree that cannot be read */
+    largest_with(AGREE_STRICT, "((a,b),x);", "(b,a)", "b,a", 1518);
+    /* options that mean nothing, whatever the texts are */
+    largest_with(2, "((a,b),x);", "(b,a);", "b,a", 1518);
+    largest_with(AGREE_STRICT + 2, "(a b);", "a;", "a,", 1518);
+    largest_with(SIZE_MAX, "(b,a);", "((a,b),x);", "a,x", 0);
+    largest_with(SIZE_MAX / 2 + 1 + AGREE_STRICT, "((a,b),x);", "(b,a);", "b,a", 1518);
+    r = agree_largest_with(AGREE_STRICT, NULL, 0, NULL, 0, NULL, 0, NULL, 0);
+    printf("nothing, strict: refused %zu %c %zu\n", r.number, (int)r.letter, r.place);
+
     job("S 14\nT 14\nK 1\n\n((a,b),(c,d));((a,c),(b,d));a", 4096);
     job("S 14\nT 14\nK 1\n\n((a,b),(c,d));((a,c),(b,d));a", 26);
     job("S 14\nT 14\nK 1\n\n((a,b),(c,d));((a,c),(b,d));a", 27);
     job("S 10\nT 10\nK 5\n\n((a,b),c);((a,c),b);c,a,b", 4096);
     job("S 2", 4096);
     job("S 2\nT 2\nK 1\n\na;b;a", 4096);
+    job("strict\nS 14\nT 14\nK 1\n\n((a,b),(c,d));((a,c),(b,d));a", 4096);
+    job("strict\nS 14\nT 14\nK 1\n\n((a,b),(c,d));((a,c),(b,d));a", 26);
+    job("strict\nS 10\nT 10\nK 5\n\n((a,b),c);((a,c),b);c,a,b", 4096);
+    job("strict\nS 10\nT 6\nK 2\n\n((a,b),x);(b,a);b,", 4096);
+    job("strict\nS 6\nT 10\nK 3\n\n(b,a);(y,(a,b));b,a", 0);
+    job("S 6\nstrict\nT 10\nK 3\n\n(b,a);(y,(a,b));b,a", 4096);
     static char long_job[8194];
     memset(long_job, ' ', 8193);
     job(long_job, 4096);
     if (failed)
-        puts("a byte that had to stay was changed");
+        puts("a byte that had to stay was changed, or a number that had to be 0 was another");
     return failed;
 }

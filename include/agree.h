@@ -18,7 +18,7 @@ extern "C" {
 #endif
 
 /* Bytes of stack that a call takes at most, whatever it is given. It is not proved: tools/stack.c holds it against the worst of many
- * inputs (measured: about 67,000 and 75,000 bytes for the two entries). A thread needs what it takes for itself besides. */
+ * inputs (measured: about 79,000 bytes for two trees and a list, 87,000 for a job). A thread needs what it takes for itself besides. */
 #define AGREE_STACK 98304
 
 /* What comes back.
@@ -38,8 +38,11 @@ extern "C" {
  *     8  three required labels have different       K         0; first, second and third are the places of the three
  *        closer pairs in the two trees                        labels' first bytes in the list, in label order
  *     9  the output is too short                    O         0
+ *    10  the options hold a bit without a meaning   J         0
+ *    12  a leaf stands in only one tree             S, T      first byte of its label
  *
- * The first that holds in this order is given: S (1 to 5), T, K, then 6 or 7, then 8, then 9.
+ * The first that holds in this order is given: 10, S (1 to 5), T, then 12, then K, then 6 or 7, then 8, then 9. Numbers 10 and 12 are
+ * for calls with options (agree_largest_with). Number 12 is for the first such leaf in the text of S or, if S has none, in that of T.
  */
 struct agree_result {
     size_t number;
@@ -65,9 +68,20 @@ struct agree_result {
 struct agree_result agree_largest(const uint8_t *first, size_t first_length, const uint8_t *second, size_t second_length,
                                   const uint8_t *required, size_t required_length, uint8_t *out, size_t out_length);
 
+/* A flag of `options`: both trees must hold the same leaves, and a leaf that stands in only one of them is number 12. */
+#define AGREE_STRICT 1
+
+/* The same with options, a sum of flags. With 0, and with AGREE_STRICT where the leaf sets are equal, it answers as agree_largest does. A
+ * number with any other bit is refused with 10 before anything is read.
+ */
+struct agree_result agree_largest_with(size_t options, const uint8_t *first, size_t first_length, const uint8_t *second,
+                                       size_t second_length, const uint8_t *required, size_t required_length, uint8_t *out,
+                                       size_t out_length);
+
 /* The answer to a job in the format of the program `agree`: contents, two trees and a list in one text (README.md). The three
  * lines `size`, `set` and `tree` go into `out`; `length` is their number of bytes, 4,096 are always enough. The size of the set
- * stands in the first line; `size` is 0. Refusals are those above, and before them
+ * stands in the first line; `size` is 0. If the first line of the job is `strict`, it is answered as with AGREE_STRICT. Refusals are
+ * those above, but for 10, and before them
  *
  *    11  the job passes 8,192 bytes                 J         0
  *    10  the contents break their rules             J         0

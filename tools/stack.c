@@ -19,17 +19,19 @@ static char job[65536];
 static uint8_t out[8192];
 static size_t job_length, room;
 
-/* The three bodies of the job, where its contents can be read. */
+/* The three bodies of the job, strict or not, where its contents can be read. */
 static const char *body[3];
 static size_t body_length[3];
 
 static int split(void)
 {
+    static const char line[] = "strict\n";
     int head = 0;
     job[job_length] = 0;
-    if (sscanf(job, "S %zu\nT %zu\nK %zu%n", &body_length[0], &body_length[1], &body_length[2], &head) != 3)
+    const char *lengths = job + (strncmp(job, line, sizeof line - 1) == 0 ? sizeof line - 1 : 0);
+    if (sscanf(lengths, "S %zu\nT %zu\nK %zu%n", &body_length[0], &body_length[1], &body_length[2], &head) != 3)
         return 0;
-    body[0] = job + head + 2;
+    body[0] = lengths + head + 2;
     body[1] = body[0] + body_length[0];
     body[2] = body[1] + body_length[1];
     return body[2] + body_length[2] == job + job_length;
@@ -47,6 +49,13 @@ static void *run_largest(void *unused)
 {
     agree_largest((const uint8_t *)body[0], body_length[0], (const uint8_t *)body[1], body_length[1], (const uint8_t *)body[2],
                   body_length[2], out, room);
+    return unused;
+}
+
+static void *run_strict(void *unused)
+{
+    agree_largest_with(AGREE_STRICT, (const uint8_t *)body[0], body_length[0], (const uint8_t *)body[1], body_length[1],
+                       (const uint8_t *)body[2], body_length[2], out, room);
     return unused;
 }
 
@@ -87,8 +96,9 @@ static void measure(struct worst *worst, size_t at)
 
 int main(void)
 {
-    struct worst largest = {"agree_largest", run_largest, 0, 0}, whole = {"agree_job", run_job, 0, 0};
-    struct worst *entries[] = {&largest, &whole};
+    struct worst entries[] = {
+        {"agree_job", run_job, 0, 0}, {"agree_largest", run_largest, 0, 0}, {"agree_largest_with", run_strict, 0, 0}};
+    const size_t all = sizeof entries / sizeof entries[0];
     uint8_t length[2];
     size_t count = 0, failed = 0;
     stack = aligned_alloc(4096, STACK);
@@ -97,15 +107,14 @@ int main(void)
         job_length = (size_t)length[0] << 8 | length[1];
         if (fread(job, 1, job_length, stdin) != job_length)
             abort();
-        measure(&whole, count);
-        if (split())
-            measure(&largest, count);
+        for (size_t i = 0, end = split() ? all : 1; i < end; i++)
+            measure(&entries[i], count);
         count++;
     }
     size_t base = used(nothing);
-    for (size_t i = 0; i < 2; i++) {
-        size_t bytes = entries[i]->bytes > base ? entries[i]->bytes - base : 0;
-        printf("%s: %zu bytes of stack at most, in job %zu of %zu\n", entries[i]->entry, bytes, entries[i]->at, count);
+    for (size_t i = 0; i < all; i++) {
+        size_t bytes = entries[i].bytes > base ? entries[i].bytes - base : 0;
+        printf("%s: %zu bytes of stack at most, in job %zu of %zu\n", entries[i].entry, bytes, entries[i].at, count);
         failed |= bytes > AGREE_STACK;
     }
     if (failed || count == 0)

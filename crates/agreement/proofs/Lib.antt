@@ -16,6 +16,7 @@ pub mod RestrictLaws
 pub mod RestrictText
 pub mod SameLaws
 pub mod SetLaws
+pub mod StrictLaws
 pub mod Table
 pub mod Tells
 pub mod WeightLaws

@@ -1,5 +1,5 @@
 -- The labels of a tree and of a list stand in the text where their places say. Assumes nothing.
-use Prim.Native.Nat.{ℕ, zero, suc, _+_, _<_}
+use Prim.Native.Nat.{ℕ, zero, suc, _+_, _≤_, _<_}
 use mathlib.Core.Path.{_≡_, refl, sym, _∙_, ap, subst}
 use mathlib.Core.Bool.{true, false}
 use mathlib.Core.Logic.{_⊎_, inl, inr, ⊎-elim}
@@ -90,6 +90,13 @@ placed (node a b) x h q = go (bool-cases (holds a x)) second (placed a x) (place
               (omega (arith, length-append (written a) (44 ∷ [])))
               (inr (40 ∷ written a, 44, refl, inr refl)) (inr (41, [], refl, inr (inl refl))) (w .2),
         )
+
+-- it is a place of that text
+pub place-inside : (t : Tree) (x : Label) → holds t x ≡ true → (q : ℕ) → (q ≤ placeIn t q x) × (placeIn t q x ≤ q + length (written t))
+place-inside t x h q =
+    let w = placed t x h q in
+    let s = w .2 .shown in
+    (omega (arith, w .1), omega (arith, w .1, s .place, simp length-append at (ap length (s .is))))
 
 -- a label of a tree stands at its place
 pub leaf-shown : (t : Tree) (x : Label) → holds t x ≡ true → LeafShown (textOf t) (placeIn t 0 x) x

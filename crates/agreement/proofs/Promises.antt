@@ -25,6 +25,7 @@ use Rattle.agreement.specs.Greatest.{Greatest}
 use Rattle.agreement.specs.Powers.{whole, decode, telling}
 use Rattle.agreement.specs.Starred.{Row, answered, rows}
 use Rattle.agreement.specs.OwnCases.{ownRows}
+use Rattle.agreement.specs.Strict.{IsStray, Stray, Told, strayOf}
 use Rattle.agreement.proofs.AnswerLaws
 use Rattle.agreement.proofs.DemandLaws
 use Rattle.agreement.proofs.Tells
@@ -33,6 +34,7 @@ use Rattle.agreement.proofs.AgreeRestrict.{agree-iff-same}
 use Rattle.agreement.proofs.RestrictText.{kept-none, kept-some, kept-read, one-text}
 use Rattle.agreement.proofs.Recurrence.{best-greatest}
 use Rattle.agreement.proofs.PlaceLaws.{leaf-shown, list-listed, number-listed}
+use Rattle.agreement.proofs.StrictLaws.{stray-exactly, stray-held, stray-least}
 use Rattle.agreement.proofs.Table
 
 -- "Of three different leaves in a binary tree, exactly one pair has its least common ancestor below that of all three"
@@ -129,6 +131,19 @@ label-place = list-listed
 
 pub number-place : (xs : List Label) (n : ℕ) → n < length xs → Listed (joined xs) (placeOfNumber xs n) (getD xs n [])
 number-place = number-listed
+
+-- request C-11: "a leaf that stands in only one tree": the first in the first tree or, if that has none, in the second; where there is
+-- none at all, both hold the same leaves
+pub stray-promise : (s t : Tree) (r : Stray) → (strayOf s t ≡ r) ↔ Told s t r
+stray-promise = stray-exactly
+
+-- it is a leaf of its tree, and no other leaf that the other tree lacks has a smaller place
+pub stray-leaf : (t other : Tree) (x : Label) → IsStray t other x → holds t x ≡ true
+stray-leaf = stray-held
+
+pub stray-place : (t other : Tree) (x : Label) → IsStray t other x → (y : Label) → holds t y ≡ true → holds other y ≡ false
+    → placeIn t 0 x ≤ placeIn t 0 y
+stray-place = stray-least
 
 -- "The starred cases are shown of the definitions, gathered in one table with one theorem."
 pub starred-promise : map answered rows ≡ map (λ (r : Row). some (r .expected)) rows

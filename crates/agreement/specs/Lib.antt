@@ -10,4 +10,5 @@ pub mod Outcome
 pub mod Greatest
 pub mod Powers
 pub mod Starred
+pub mod Strict
 pub mod OwnCases

@@ -2,8 +2,11 @@
 use Prim.Native.Nat.{ℕ, _+_, _≤_, _<_}
 use mathlib.Core.Path.{_≡_, refl, _∙_, ap}
 use mathlib.Core.List.{List}
+use lib.Dec.{eqb}
 use lib.ListN.{length}
 use borrow.Author.Tests.{le-leb, lt-leb}
+use Rattle.trees.specs.declared.Reason.the-variants.{Contents}
+use Rattle.trees.specs.declared.Body.the-variants.{J}
 use Rattle.trees.specs.declared.Refusal.{Refusal}
 use Rattle.trees.specs.Label.{Label}
 use Rattle.trees.specs.Tree.{Tree}
@@ -14,31 +17,40 @@ use Rattle.agreement.specs.Answer.{disagree}
 use Rattle.agreement.specs.Demand.{IsDisagreement}
 use Rattle.contents.specs.Contents.{layoutOf, listPlace}
 use Rattle.mast.specs.Given.{Reads, SetGiven}
-use Rattle.mast.specs.Largest.{Solution, solved, clashed, turned, solutionOf, task, solve}
+use Rattle.mast.specs.Largest.{Solution, solved, clashed, turned, solutionOf, Task, task, solve}
 use Rattle.mast.proofs.Promises as mast
 use Rattle.job.specs.Printed.{recordLines}
 use Rattle.job.specs.Answered.{outputShort, lineAnswer, linesAnswer, recordAnswer, partOfLabel, answered, answerTo}
 use Rattle.job.specs.Outcome.{JobOutcome}
 use Rattle.job.proofs.Promises as job
-use Rattle.cabi.specs.declared.AgreeResult.{AgreeResult}
-use Rattle.cabi.specs.Numbers.{succeeded, disagreed, refusedWith, numbersOf, jobNumbers}
+use Rattle.cabi.specs.Numbers.{succeeded, disagreed, refusedWith, numbersOf, optionsOf, solveIf, solveWith, jobNumbers}
 
-module _ (first second list : List ℕ) (room : ℕ) where
-  pub refusal-numbers : (q : Refusal) → solve (task first second list) room ≡ turned q → numbersOf (solve (task first second list) room) ≡ refusedWith q
+module _ (q : Task) (room : ℕ) where
+  pub refusal-numbers : (p : Refusal) → solve q room ≡ turned p → numbersOf (solve q room) ≡ refusedWith p
   unfolding numbersOf
-  refusal-numbers q e = ap numbersOf e
+  refusal-numbers p e = ap numbersOf e
 
-  module _ (s t : Tree) (xs : List Label) (reads : Reads first second list s t xs) where
+  module _ (s t : Tree) (xs : List Label) (reads : Reads q s t xs) where
     pub set-numbers : (X : List Label) (text : List ℕ) → SetGiven s t xs X text room
-        → numbersOf (solve (task first second list) room) ≡ succeeded (length X) (length text)
+        → numbersOf (solve q room) ≡ succeeded (length X) (length text)
     unfolding numbersOf
-    set-numbers X text g = ap numbersOf (mast.set-promise first second list room s t xs reads X text .1 g)
+    set-numbers X text g = ap numbersOf (mast.set-promise q room s t xs reads X text .1 g)
 
     pub eight-numbers : (a b c : Label) → Common s t (setOf xs) → IsDisagreement s t xs a b c
-        → numbersOf (solve (task first second list) room) ≡ disagreed (placeOfLabel xs 0 a) (placeOfLabel xs 0 b) (placeOfLabel xs 0 c)
+        → numbersOf (solve q room) ≡ disagreed (placeOfLabel xs 0 a) (placeOfLabel xs 0 b) (placeOfLabel xs 0 c)
     unfolding numbersOf solutionOf
     eight-numbers a b c held d =
-        ap numbersOf (mast.outcome-promise first second list room s t xs reads (disagree a b c) (held, d))
+        ap numbersOf (mast.outcome-promise q room s t xs reads (disagree a b c) (held, d))
+
+pub flags-refused : (first second required : List ℕ) (room flags : ℕ) → 1 < flags
+    → solveWith flags first second required room ≡ turned (record { reason = Contents; body = J; place = 0 })
+unfolding solveWith optionsOf solveIf
+flags-refused first second required room flags h = rw (lt-leb flags 1 h) refl
+
+pub flags-known : (first second required : List ℕ) (room flags : ℕ) → flags ≤ 1
+    → solveWith flags first second required room ≡ solve (task (record { strict = eqb flags 1 }) first second required) room
+unfolding solveWith optionsOf solveIf
+flags-known first second required room flags h = rw (le-leb flags 1 h) refl
 
 module _ (bytes : List ℕ) (room : ℕ) where
   told : (x : Solution) → JobOutcome bytes x → answerTo bytes room ≡ answered (listPlace (layoutOf bytes)) room x

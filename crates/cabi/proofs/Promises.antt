@@ -1,8 +1,11 @@
 -- What hosts written in C get for each outcome, in the scope paper's order; each theorem cites one name. Assumes nothing.
 use Prim.Native.Nat.{ℕ, _+_, _≤_, _<_}
-use mathlib.Core.Path.{_≡_}
+use mathlib.Core.Path.{_≡_, refl}
+use mathlib.Core.Bool.{true}
 use mathlib.Core.List.{List}
 use lib.ListN.{length}
+use Rattle.trees.specs.declared.Reason.the-variants.{Contents}
+use Rattle.trees.specs.declared.Body.the-variants.{J}
 use Rattle.trees.specs.declared.Refusal.{Refusal}
 use Rattle.trees.specs.Label.{Label}
 use Rattle.trees.specs.Tree.{Tree}
@@ -12,28 +15,41 @@ use Rattle.agreement.specs.Places.{placeOfLabel}
 use Rattle.agreement.specs.Demand.{IsDisagreement}
 use Rattle.contents.specs.Contents.{layoutOf, listPlace}
 use Rattle.mast.specs.Given.{Reads, SetGiven}
-use Rattle.mast.specs.Largest.{solved, clashed, turned, task, solve}
+use Rattle.mast.specs.Largest.{solved, clashed, turned, Task, task, plain, solve}
 use Rattle.job.specs.Printed.{recordLines}
 use Rattle.job.specs.Answered.{outputShort, answerTo}
 use Rattle.job.specs.Outcome.{JobOutcome}
-use Rattle.cabi.specs.Numbers.{succeeded, disagreed, refusedWith, numbersOf, jobNumbers}
+use Rattle.cabi.specs.Numbers.{succeeded, disagreed, refusedWith, numbersOf, solveWith, jobNumbers}
 use Rattle.cabi.proofs.HostLaws
 
--- two trees and a list. Demand 3: number 0, the size of the answer, the length of its text
-module _ (first second list : List ℕ) (room : ℕ) where
-  module _ (s t : Tree) (xs : List Label) (reads : Reads first second list s t xs) where
+-- two trees and a list, with whatever is asked beside them. Demand 3: number 0, the size of the answer, the length of its text
+module _ (q : Task) (room : ℕ) where
+  module _ (s t : Tree) (xs : List Label) (reads : Reads q s t xs) where
     pub set-promise : (X : List Label) (text : List ℕ) → SetGiven s t xs X text room
-        → numbersOf (solve (task first second list) room) ≡ succeeded (length X) (length text)
-    set-promise = HostLaws.set-numbers first second list room s t xs reads
+        → numbersOf (solve q room) ≡ succeeded (length X) (length text)
+    set-promise = HostLaws.set-numbers q room s t xs reads
 
     -- number 8 with the places of the first three in the list
     pub eight-promise : (a b c : Label) → Common s t (setOf xs) → IsDisagreement s t xs a b c
-        → numbersOf (solve (task first second list) room) ≡ disagreed (placeOfLabel xs 0 a) (placeOfLabel xs 0 b) (placeOfLabel xs 0 c)
-    eight-promise = HostLaws.eight-numbers first second list room s t xs reads
+        → numbersOf (solve q room) ≡ disagreed (placeOfLabel xs 0 a) (placeOfLabel xs 0 b) (placeOfLabel xs 0 c)
+    eight-promise = HostLaws.eight-numbers q room s t xs reads
 
   -- any other row: its number, letter and place
-  pub refusal-promise : (q : Refusal) → solve (task first second list) room ≡ turned q → numbersOf (solve (task first second list) room) ≡ refusedWith q
-  refusal-promise = HostLaws.refusal-numbers first second list room
+  pub refusal-promise : (p : Refusal) → solve q room ≡ turned p → numbersOf (solve q room) ≡ refusedWith p
+  refusal-promise = HostLaws.refusal-numbers q room
+
+-- flags: 0 asks for nothing beside the texts, 1 for `strict`; any other number is refused with 10, J 0
+module _ (first second required : List ℕ) (room : ℕ) where
+  pub no-flags : solveWith 0 first second required room ≡ solve (task plain first second required) room
+  unfolding solveWith
+  no-flags = refl
+
+  pub strict-flag : solveWith 1 first second required room ≡ solve (task (record { strict = true }) first second required) room
+  unfolding solveWith
+  strict-flag = refl
+
+  pub unknown-flags : (flags : ℕ) → 1 < flags → solveWith flags first second required room ≡ turned (record { reason = Contents; body = J; place = 0 })
+  unknown-flags = HostLaws.flags-refused first second required room
 
 -- a job: the length of its lines, or number 9 where the output has fewer bytes
 module _ (bytes : List ℕ) (room : ℕ) where

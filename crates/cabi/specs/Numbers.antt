@@ -1,12 +1,17 @@
 -- The numbers that a host gets. Scope paper, "Why a job is turned down".
 use Prim.Native.Nat.{ℕ}
+use mathlib.Core.Bool.{cond}
+use mathlib.Core.List.{List}
+use mathlib.Core.Option.{Option, some, none}
+use lib.Dec.{eqb, leb}
 use lib.ListN.{length}
-use Rattle.trees.specs.declared.Reason.the-variants.{Disagree}
-use Rattle.trees.specs.declared.Body.the-variants.{K}
+use Rattle.trees.specs.declared.Reason.the-variants.{Disagree, Contents}
+use Rattle.trees.specs.declared.Body.the-variants.{K, J}
 use Rattle.trees.specs.declared.Refusal.{Refusal}
 use Rattle.trees.specs.Refusals.{numberOf, letterOf}
 use Rattle.agreement.specs.Places.{placeOfLabel}
-use Rattle.mast.specs.Largest.{Solution, solved, clashed, turned}
+use Rattle.mast.specs.declared.Options.{Options}
+use Rattle.mast.specs.Largest.{Solution, solved, clashed, turned, task, solve}
 use Rattle.job.specs.declared.JobAnswer.{JobAnswer}
 use Rattle.job.specs.declared.JobAnswer.the-variants as job-answer
 use Rattle.cabi.specs.declared.AgreeResult.{AgreeResult}
@@ -43,6 +48,20 @@ unfolding succeeded disagreed refusedWith placeOfLabel
 numbersOf (solved s X text) = succeeded (length X) (length text)
 numbersOf (clashed xs a b c) = disagreed (placeOfLabel xs 0 a) (placeOfLabel xs 0 b) (placeOfLabel xs 0 c)
 numbersOf (turned q) = refusedWith q
+
+-- what the flags ask for: 1 is `strict` (request C-11); a number with any other bit asks for nothing that is known
+unfoldable pub optionsOf : ℕ → Option Options
+optionsOf flags = cond (leb flags 1) (some (record { strict = eqb flags 1 })) none
+
+-- flags that are not known break the rules of what may be asked: 10, J 0
+unfoldable pub solveIf : Option Options → List ℕ → List ℕ → List ℕ → ℕ → Solution
+unfolding solve
+solveIf none first second required room = turned (record { reason = Contents; body = J; place = 0 })
+solveIf (some o) first second required room = solve (task o first second required) room
+
+unfoldable pub solveWith : ℕ → List ℕ → List ℕ → List ℕ → ℕ → Solution
+unfolding solveIf optionsOf
+solveWith flags first second required room = solveIf (optionsOf flags) first second required room
 
 -- of a job: the length of its lines, of which the first tells the size; the places of number 8 are in the job
 unfoldable pub jobNumbers : JobAnswer → AgreeResult

@@ -4,13 +4,19 @@
 // then reads them by name; a packed number would have to be taken apart.
 ghost use mathlib.Core.Path.{_≡_};
 ghost use lib.ListN.{length};
-ghost use Rattle.mast.specs.Largest.{task, solve, outputOf};
+ghost use Rattle.mast.specs.Largest.{task, plain, solve, outputOf};
 ghost use Rattle.job.specs.Printed.{solveJob};
 ghost use Rattle.job.specs.Answered.{answerTo, jobOutput};
-ghost use Rattle.cabi.specs.Numbers.{succeeded, disagreed, refusedWith, numbersOf, jobNumbers};
+ghost use Rattle.cabi.specs.Numbers.{succeeded, disagreed, refusedWith, numbersOf, solveWith, jobNumbers};
 use job::JobAnswer;
 use mast::LargestAnswer;
+use mast::Options;
+use trees::Body;
+use trees::Reason;
 use trees::Refusal;
+
+// The flag for a job that a leaf in only one tree stops; no greater flag is known.
+const STRICT: usize = 1;
 
 // The refusal's number (0 on success), its letter and place; on success the length of the text in the output and, of
 // `agree_largest`, the size of the set; for number 8 where the three labels stand, in the list or, of `agree_job`, in the job.
@@ -78,6 +84,31 @@ fn refused_with(refusal: Refusal) -> AgreeResult
     }
 }
 
+// The numbers of the engine's answer.
+fn answered(
+    options: Options,
+    first: &[u8],
+    second: &[u8],
+    required: &[u8],
+    out: &mut [u8],
+) -> AgreeResult
+    ensures numbers { λ r.
+        ⌜ r ≡ numbersOf
+        (solve (task options (now (first .entry)) (now (second .entry)) (now (required .entry))) (length (now (out .entry)))) ⌝ }
+    ensures output { λ r.
+        ⌜ now (out .exit) ≡ outputOf
+        (solve (task options (now (first .entry)) (now (second .entry)) (now (required .entry))) (length (now (out .entry))))
+        (now (out .entry)) ⌝ }
+{
+    let result = mast::largest(options, first, second, required, out);
+    let answer = result.answer;
+    match answer {
+        LargestAnswer::Found(size, length) => succeeded(size, length),
+        LargestAnswer::Disagree(a, b, c) => disagreed(a, b, c),
+        LargestAnswer::Refused(refusal) => refused_with(refusal),
+    }
+}
+
 // The largest agreement set; its tree's text goes into `out`.
 #[no_mangle]
 pub extern "C" fn agree_largest(
@@ -88,19 +119,44 @@ pub extern "C" fn agree_largest(
 ) -> AgreeResult
     ensures numbers { λ r.
         ⌜ r ≡ numbersOf
-        (solve (task (now (first .entry)) (now (second .entry)) (now (required .entry))) (length (now (out .entry)))) ⌝ }
+        (solve (task plain (now (first .entry)) (now (second .entry)) (now (required .entry))) (length (now (out .entry)))) ⌝ }
     ensures output { λ r.
         ⌜ now (out .exit) ≡ outputOf
-        (solve (task (now (first .entry)) (now (second .entry)) (now (required .entry))) (length (now (out .entry))))
+        (solve (task plain (now (first .entry)) (now (second .entry)) (now (required .entry))) (length (now (out .entry))))
         (now (out .entry)) ⌝ }
 {
-    let result = mast::largest(first, second, required, out);
-    let answer = result.answer;
-    match answer {
-        LargestAnswer::Found(size, length) => succeeded(size, length),
-        LargestAnswer::Disagree(a, b, c) => disagreed(a, b, c),
-        LargestAnswer::Refused(refusal) => refused_with(refusal),
+    let options = Options { strict: false };
+    answered(options, first, second, required, out)
+}
+
+// The same with flags: 1 asks for `strict`. Flags that are not known are refused with 10, J, 0, before anything is read.
+#[no_mangle]
+pub extern "C" fn agree_largest_with(
+    flags: usize,
+    first: &[u8],
+    second: &[u8],
+    required: &[u8],
+    out: &mut [u8],
+) -> AgreeResult
+    ensures numbers { λ r.
+        ⌜ r ≡ numbersOf
+        (solveWith flags (now (first .entry)) (now (second .entry)) (now (required .entry)) (length (now (out .entry)))) ⌝ }
+    ensures output { λ r.
+        ⌜ now (out .exit) ≡ outputOf
+        (solveWith flags (now (first .entry)) (now (second .entry)) (now (required .entry)) (length (now (out .entry))))
+        (now (out .entry)) ⌝ }
+{
+    if STRICT < flags {
+        return refused_with(Refusal {
+            reason: Reason::Contents,
+            body: Body::J,
+            place: 0,
+        });
     }
+    let options = Options {
+        strict: flags == STRICT,
+    };
+    answered(options, first, second, required, out)
 }
 
 // The answer to a job; its lines go into `out`. The size is told by the first of them.

@@ -15,16 +15,17 @@ use borrow.Author.Tests.{eq-eqb, eqb-true, leb-true, eqb-false, not-true}
 use Rattle.trees.specs.declared.Body.{Body}
 use Rattle.trees.specs.declared.Body.the-variants.{S, T, K}
 use Rattle.trees.specs.Refusals.{letterOf}
-use Rattle.trees.specs.Words.{Within}
+use Rattle.trees.specs.Words.{bytesOf, Within}
 use Rattle.trees.proofs.Bools.{bool-cases, and-left, and-right, and-intro, or-cases}
 use Rattle.contents.specs.declared.Table.{Table}
 use Rattle.contents.specs.declared.Layout.{Layout}
 use Rattle.contents.specs.declared.Layout.the-variants as layout
 use Rattle.contents.specs.Decimal.{decimalFrom, decimalOf, isDigit, digitRun, valueFrom}
 use Rattle.contents.specs.Contents.{Bodies, Short, Laid, line, entryLine, tableText, lengthsOf, jobOf, digitLimit, goodDigits, Number, numberAt}
-use Rattle.contents.specs.Contents.{Progress, Step, _andThen_, byteOf, byte, putDown, withLength, lengthStep, entry, emptyLine}
-use Rattle.contents.specs.Contents.{tableLines, begun, laidOut, layoutOf, bodiesIn, bodiesOf, listPlace}
+use Rattle.contents.specs.Contents.{Progress, _andThen_, byteOf, byte, putDown, withLength, lengthStep, entry, emptyLine}
+use Rattle.contents.specs.Contents.{begins, withStrict, strictLine, strictText, tableLines, begun, laidOut, layoutOf, bodiesIn, bodiesOf, listPlace}
 use Rattle.contents.proofs.DecimalLaws.{allDigits, from-small, from-digits, from-some, from-few, no-leading-zero, decimal-value, from-read, value-below, digit-small}
+use Rattle.contents.proofs.OptionalLaws.{Carried, begins-if, optional-written, optional-took}
 use Rattle.contents.proofs.RunLaws.{run-first, number-one, number-more}
 use Rattle.contents.proofs.StepLaws.{then-some, between, none-some}
 
@@ -114,15 +115,34 @@ module _ (body : Body) (n : ℕ) (small : n < 10 ^ digitLimit) (t : Table) (rest
       ∙ byte-same 10 (withLength body n t) rest
 
 table-text : (t : Table) (rest : List ℕ)
-    → tableText t ++ rest ≡ entryLine S (t .first) ++ (entryLine T (t .second) ++ (entryLine K (t .required) ++ (10 ∷ rest)))
+    → tableText t ++ rest
+    ≡ strictText (t .strict) ++ (entryLine S (t .first) ++ (entryLine T (t .second) ++ (entryLine K (t .required) ++ (10 ∷ rest))))
 unfolding tableText line
-table-text t rest =
-    let s : List ℕ = entryLine S (t .first) in
-    let u : List ℕ = entryLine T (t .second) in
-    let k : List ℕ = entryLine K (t .required) in
-    append-assoc s (u ++ (k ++ (10 ∷ []))) rest
-    ∙ ap (λ (l : List ℕ). s ++ l)
-    (append-assoc u (k ++ (10 ∷ [])) rest ∙ ap (λ (l : List ℕ). u ++ l) (append-assoc k (10 ∷ []) rest))
+table-text t rest = joined (strictText (t .strict)) (entryLine S (t .first)) (entryLine T (t .second)) (entryLine K (t .required)) (line [])
+  where
+    joined : (h s u k e : List ℕ) → (h ++ (s ++ (u ++ (k ++ e)))) ++ rest ≡ h ++ (s ++ (u ++ (k ++ (e ++ rest))))
+    joined h s u k e = simp append-assoc
+
+-- the table after the line `strict`, or before any line
+abbrev carrying : Bool → Table
+carrying strict = record { strict = strict; first = 0; second = 0; required = 0 }
+
+carried : (strict : Bool) → cond strict (withStrict (carrying false)) (carrying false) ≡ carrying strict
+unfolding withStrict
+carried true = refl
+carried false = refl
+
+-- an entry is no line `strict`: its first letter is another
+not-strict : (n : ℕ) (rest : List ℕ) → begins (line (bytesOf "strict")) (entryLine S n ++ rest) ≡ false
+unfolding begins line bytesOf entryLine letterOf
+not-strict n rest = refl
+
+strict-written : (strict : Bool) (n : ℕ) (rest : List ℕ)
+    → strictLine (begun (strictText strict ++ (entryLine S n ++ rest))) ≡ some (record { table = carrying strict; rest = entryLine S n ++ rest })
+unfolding strictLine strictText
+strict-written strict n rest =
+    optional-written (bytesOf "strict") withStrict strict (carrying false) (entryLine S n ++ rest) (not-strict n rest)
+    ∙ ap (λ (t : Table). some (record { table = t; rest = entryLine S n ++ rest })) (carried strict)
 
 table-written : (t : Table) (rest : List ℕ) → Short t → tableLines (begun (tableText t ++ rest)) ≡ some (record { table = t; rest = rest })
 unfolding tableLines emptyLine withLength
@@ -131,10 +151,13 @@ table-written t rest short =
     let third : List ℕ = entryLine K (t .required) ++ end in
     let second : List ℕ = entryLine T (t .second) ++ third in
     let first : List ℕ = entryLine S (t .first) ++ second in
-    let a : Table = record { first = 0; second = 0; required = 0 } in
+    let a : Table = carrying (t .strict) in
     let b : Table = withLength S (t .first) a in
     let c : Table = withLength T (t .second) b in
     ap (λ (l : List ℕ). tableLines (begun l)) (table-text t rest)
+    ∙ then-some strictLine (entry S andThen entry T andThen entry K andThen byte 10)
+    (begun (strictText (t .strict) ++ first)) (record { table = a; rest = first })
+    (strict-written (t .strict) (t .first) second)
     ∙ then-some (entry S) (entry T andThen entry K andThen byte 10) (record { table = a; rest = first }) (record { table = b; rest = second })
     (entry-written S (t .first) (short .one) a second)
     ∙ then-some (entry T) (entry K andThen byte 10) (record { table = b; rest = second }) (record { table = c; rest = third })
@@ -336,25 +359,35 @@ record Tabled (job : List ℕ) (q : Progress) : Type 0 where
   text : job ≡ tableText (q .table) ++ q .rest
   short : Short (q .table)
 
+strict-took : (job : List ℕ) (q : Progress) → strictLine (begun job) ≡ some q → Carried (bytesOf "strict") withStrict (begun job) q
+unfolding strictLine
+strict-took job q e = optional-took (bytesOf "strict") withStrict (begun job) q e
+
 table-took : (job : List ℕ) (q : Progress) → tableLines (begun job) ≡ some q → Tabled job q
-unfolding tableLines emptyLine withLength
+unfolding tableLines emptyLine withLength strictText
 table-took job q e =
-    let w = between (entry S) (entry T andThen entry K andThen byte 10) (begun job) q e in
+    let v = between strictLine (entry S andThen entry T andThen entry K andThen byte 10) (begun job) q e in
+    let w = between (entry S) (entry T andThen entry K andThen byte 10) (v .mid) q (v .two) in
     let x = between (entry T) (entry K andThen byte 10) (w .mid) q (w .two) in
     let y = between (entry K) (byte 10) (x .mid) q (x .two) in
-    let a = entry-took S (begun job) (w .mid) (w .one) in
+    let s = strict-took job (v .mid) (v .one) in
+    let a = entry-took S (v .mid) (w .mid) (w .one) in
     let b = entry-took T (w .mid) (x .mid) (x .one) in
     let c = entry-took K (x .mid) (y .mid) (y .one) in
     let d = byte-took 10 (y .mid) q (y .two) in
-    let t : q .table ≡ record { first = a .n; second = b .n; required = c .n } =
-    d .1 ∙ c .table ∙ ap (withLength K (c .n)) (b .table ∙ ap (withLength T (b .n)) (a .table)) in
+    let read : Table = record { strict = s .stood; first = a .n; second = b .n; required = c .n } in
+    let t : q .table ≡ read =
+    d .1 ∙ c .table ∙ ap (withLength K (c .n))
+    (b .table ∙ ap (withLength T (b .n)) (a .table ∙ ap (withLength S (a .n)) (s .table ∙ carried (s .stood)))) in
+    let head : List ℕ = strictText (s .stood) in
     record {
       text =
-          a .text
-          ∙ ap (λ (l : List ℕ). entryLine S (a .n) ++ l) (b .text)
-          ∙ ap (λ (l : List ℕ). entryLine S (a .n) ++ (entryLine T (b .n) ++ l)) (c .text)
-          ∙ ap (λ (l : List ℕ). entryLine S (a .n) ++ (entryLine T (b .n) ++ (entryLine K (c .n) ++ l))) (d .0)
-          ∙ sym (ap (λ (u : Table). tableText u ++ q .rest) t ∙ table-text (record { first = a .n; second = b .n; required = c .n }) (q .rest));
+          s .text
+          ∙ ap (λ (l : List ℕ). head ++ l) (a .text)
+          ∙ ap (λ (l : List ℕ). head ++ (entryLine S (a .n) ++ l)) (b .text)
+          ∙ ap (λ (l : List ℕ). head ++ (entryLine S (a .n) ++ (entryLine T (b .n) ++ l))) (c .text)
+          ∙ ap (λ (l : List ℕ). head ++ (entryLine S (a .n) ++ (entryLine T (b .n) ++ (entryLine K (c .n) ++ l)))) (d .0)
+          ∙ sym (ap (λ (u : Table). tableText u ++ q .rest) t ∙ table-text read (q .rest));
       short = subst Short (sym t) (record { one = a .small; two = b .small; three = c .small });
     }
 
@@ -432,11 +465,14 @@ module _ (job : List ℕ) (at : ℕ) (t : Table) (w : Laid job at t) where
       ∙ sym (take-append-drop (t .second) (drop (at + t .first) job))
       ∙ ap (λ (l : List ℕ). second ++ l) (drop-drop (t .second) (at + t .first) job ∙ sym list-whole))
 
-  laid-lengths : lengthsOf (record { first = first; second = second; list = list }) ≡ t
+  abbrev bodies : Bodies
+  bodies = record { strict = t .strict; first = first; second = second; list = list }
+
+  laid-lengths : lengthsOf bodies ≡ t
   unfolding lengthsOf
   laid-lengths = rw (first-size, second-size, list-size) refl
 
-  laid-text : job ≡ jobOf (record { first = first; second = second; list = list })
+  laid-text : job ≡ jobOf bodies
   unfolding jobOf
   laid-text =
       w .text ∙ ap₂ (λ (u : Table) (l : List ℕ). tableText u ++ l) (sym laid-lengths) joined-directly
@@ -459,7 +495,7 @@ contents-read job b e = go (layoutOf job) refl e
     go layout.Broken k h = absurd (none-some b h)
     go (layout.Bodies at t) k h =
         let w = laid-job job at t k in
-        let m : record { first = first job at t w; second = second job at t w; list = list job at t w } ≡ b = cc in
+        let m : bodies job at t w ≡ b = cc in
         subst (λ (c : Bodies). (job ≡ jobOf c) × Short (lengthsOf c)) m
         (laid-text job at t w, subst Short (sym (laid-lengths job at t w)) (w .short))
 
@@ -477,5 +513,39 @@ list-stands job b e = go (layoutOf job) refl e
     go layout.Broken k h = absurd (none-some b h)
     go (layout.Bodies at t) k h =
         let w = laid-job job at t k in
-        let m : record { first = first job at t w; second = second job at t w; list = list job at t w } ≡ b = cc in
+        let m : bodies job at t w ≡ b = cc in
         subst (λ (c : Bodies). Within job (at + t .first + t .second) (c .list)) m (list-within job at t w)
+
+-- ---- with the line `strict` and without it
+
+-- the same bodies, not strict
+abbrev plain : Bodies → Bodies
+plain b = record { strict = false; first = b .first; second = b .second; list = b .list }
+
+job-parts : (b : Bodies) → jobOf b ≡ strictText (b .strict) ++ jobOf (plain b)
+unfolding jobOf lengthsOf tableText strictText
+job-parts b = append-assoc (strictText (b .strict)) (tableText (lengthsOf (plain b))) (b .first ++ (b .second ++ b .list))
+
+pub strict-line : (b : Bodies) → b .strict ≡ true → jobOf b ≡ line (bytesOf "strict") ++ jobOf (plain b)
+unfolding strictText
+strict-line b e = job-parts b ∙ ap (λ (s : Bool). strictText s ++ jobOf (plain b)) e
+
+plain-begins : (b : Bodies) → begins (line (bytesOf "strict")) (jobOf (plain b)) ≡ false
+unfolding jobOf strictText
+plain-begins b =
+    ap (begins (line (bytesOf "strict"))) (table-text (lengthsOf (plain b)) (b .first ++ (b .second ++ b .list)))
+    ∙ not-strict (length (b .first)) _
+
+pub strict-exactly : (job : List ℕ) (b : Bodies) → bodiesOf job ≡ some b → b .strict ≡ begins (line (bytesOf "strict")) job
+unfolding strictText
+strict-exactly job b e =
+    sym (ap (begins (line (bytesOf "strict"))) (contents-read job b e .0 ∙ job-parts b)
+    ∙ begins-if (b .strict) (bytesOf "strict") (jobOf (plain b)) (plain-begins b))
+
+pub plain-job : (job : List ℕ) → begins (line (bytesOf "strict")) job ≡ false
+    → layoutOf job ≡ laidOut job ((entry S andThen entry T andThen entry K andThen emptyLine) (begun job))
+unfolding layoutOf tableLines strictLine
+plain-job job e =
+    ap (laidOut job)
+    (then-some strictLine (entry S andThen entry T andThen entry K andThen emptyLine) (begun job) (begun job)
+    (optional-written (bytesOf "strict") withStrict false (carrying false) job e))

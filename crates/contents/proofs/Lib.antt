@@ -1,5 +1,6 @@
 pub mod ContentsLaws
 pub mod DecimalLaws
+pub mod OptionalLaws
 pub mod Promises
 pub mod RunLaws
 pub mod StepLaws

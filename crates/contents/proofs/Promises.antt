@@ -1,15 +1,18 @@
--- What the reading of contents promises, in the scope paper's order; each theorem cites one name. Assumes nothing.
+-- What the reading of contents promises, in the papers' order; each theorem cites one name. Assumes nothing.
 use Prim.Native.Nat.{ℕ, _^_, _<_}
 use mathlib.Core.Path.{_≡_}
 use mathlib.Core.Logic.{_↔_}
-use mathlib.Core.List.{List}
+use mathlib.Core.Bool.{true, false}
+use mathlib.Core.List.{List, _++_}
 use mathlib.Core.Option.{some}
 use lib.ListN.{getD}
-use Rattle.trees.specs.Words.{Within}
+use Rattle.trees.specs.declared.Body.the-variants.{S, T, K}
+use Rattle.trees.specs.Words.{bytesOf, Within}
 use Rattle.contents.specs.declared.Table.{Table}
 use Rattle.contents.specs.declared.Layout.the-variants as layout
 use Rattle.contents.specs.Decimal.{decimalFrom, decimalOf, valueFrom}
-use Rattle.contents.specs.Contents.{Bodies, Short, Laid, lengthsOf, jobOf, layoutOf, bodiesOf, listPlace}
+use Rattle.contents.specs.Contents.{Bodies, Short, Laid, line, lengthsOf, jobOf, layoutOf, bodiesOf, listPlace}
+use Rattle.contents.specs.Contents.{begins, _andThen_, entry, emptyLine, begun, laidOut}
 use Rattle.contents.proofs.ContentsLaws
 use Rattle.contents.proofs.DecimalLaws
 
@@ -33,3 +36,17 @@ digits-value = DecimalLaws.decimal-value
 -- "no leading zero except `0` itself"
 pub no-zero-first : (room n : ℕ) → 0 < n → n < 10 ^ room → getD (decimalFrom room n) 0 0 ≡ 48 → ⊥
 no-zero-first = DecimalLaws.no-leading-zero
+
+-- C-11: "A job may carry `strict` as its first contents line": its text is that line, then the job of the same bodies without it
+pub strict-line : (b : Bodies) → b .strict ≡ true
+    → jobOf b ≡ line (bytesOf "strict") ++ jobOf (record { strict = false; first = b .first; second = b .second; list = b .list })
+strict-line = ContentsLaws.strict-line
+
+-- a job that is read is strict exactly if it begins with that line
+pub strict-exactly : (job : List ℕ) (b : Bodies) → bodiesOf job ≡ some b → b .strict ≡ begins (line (bytesOf "strict")) job
+strict-exactly = ContentsLaws.strict-exactly
+
+-- C-11: "Jobs without the line behave as before": the base's lines are all that is read of them
+pub plain-job : (job : List ℕ) → begins (line (bytesOf "strict")) job ≡ false
+    → layoutOf job ≡ laidOut job ((entry S andThen entry T andThen entry K andThen emptyLine) (begun job))
+plain-job = ContentsLaws.plain-job

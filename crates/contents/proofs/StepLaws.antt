@@ -16,8 +16,8 @@ use Rattle.contents.specs.declared.Layout.the-variants as layout
 use Rattle.contents.specs.declared.Reading.{Reading}
 use Rattle.contents.specs.declared.Reading.the-variants as reading
 use Rattle.trees.specs.Refusals.{letterOf}
-use Rattle.contents.specs.Contents.{Step, Progress, Number, onward, _andThen_, byteOf, byte, numberAt, putDown, lengthStep, withLength}
-use Rattle.contents.specs.Contents.{entry, emptyLine, tableLines, begun, laidOut, layoutOf}
+use Rattle.contents.specs.Contents.{Step, Progress, onward, _andThen_, byteOf, byte, numberAt, putDown, lengthStep, withLength}
+use Rattle.contents.specs.Contents.{entry, emptyLine, strictLine, tableLines, begun, laidOut, layoutOf}
 use Rattle.contents.specs.Steps.{Stands, told, Small, SmallTable, lengthBound}
 use Rattle.contents.proofs.RunLaws.{at-place}
 
@@ -28,11 +28,9 @@ unfolding onward _andThen_
 then-onward none f g = refl
 then-onward (some p) f g = refl
 
-pub four-steps : (o : Option Progress) (f g h k : Step) → onward (onward (onward (onward o f) g) h) k ≡ onward o (f andThen g andThen h andThen k)
-four-steps o f g h k =
-    sym (then-onward o f (g andThen h andThen k)
-    ∙ then-onward (onward o f) g (h andThen k)
-    ∙ then-onward (onward (onward o f) g) h k)
+-- a step that was taken, and those that were taken from there
+pub step-then : {m r : Option Progress} (o : Option Progress) (f g : Step) → m ≡ onward o f → r ≡ onward m g → r ≡ onward o (f andThen g)
+step-then o f g e h = h ∙ ap (λ (k : Option Progress). onward k g) e ∙ sym (then-onward o f g)
 
 pub then-some : (f g : Step) (p m : Progress) → f p ≡ some m → (f andThen g) p ≡ g m
 unfolding onward _andThen_
@@ -148,22 +146,20 @@ pub entry-steps : (job : List ℕ) (body : Body) (letter : ℕ) (x a b c d : Rea
     → told job d ≡ onward (told job x) (entry body)
 unfolding entry
 entry-steps job body letter x a b c d l ea eb ec ed =
-    ed
-    ∙ ap (λ (o : Option Progress). onward o (byte 10))
-    (ec ∙ ap (λ (o : Option Progress). onward o (lengthStep body))
-    (eb ∙ ap (λ (o : Option Progress). onward o (byte 32))
-    (ea ∙ ap (λ (k : ℕ). onward (told job x) (byte k)) l)))
-    ∙ four-steps (told job x) (byte (letterOf body)) (byte 32) (lengthStep body) (byte 10)
+    step-then (told job x) (byte (letterOf body)) (byte 32 andThen lengthStep body andThen byte 10)
+    (ea ∙ ap (λ (k : ℕ). onward (told job x) (byte k)) l)
+    (step-then (told job a) (byte 32) (lengthStep body andThen byte 10) eb
+    (step-then (told job b) (lengthStep body) (byte 10) ec ed))
 
 -- the lines of the contents, one after another
-pub table-steps : (job : List ℕ) (a b c d : Reading)
-    → told job a ≡ onward (told job (reading.At (begun job .table) 0)) (entry S) → told job b ≡ onward (told job a) (entry T)
-    → told job c ≡ onward (told job b) (entry K) → told job d ≡ onward (told job c) (byte 10)
+pub table-steps : (job : List ℕ) (s a b c d : Reading)
+    → told job s ≡ onward (told job (reading.At (begun job .table) 0)) strictLine → told job a ≡ onward (told job s) (entry S)
+    → told job b ≡ onward (told job a) (entry T) → told job c ≡ onward (told job b) (entry K) → told job d ≡ onward (told job c) (byte 10)
     → laidOut job (told job d) ≡ layoutOf job
 unfolding tableLines emptyLine layoutOf onward told
-table-steps job a b c d ea eb ec ed =
+table-steps job s a b c d es ea eb ec ed =
     ap (laidOut job)
-    (ed
-    ∙ ap (λ (o : Option Progress). onward o (byte 10))
-    (ec ∙ ap (λ (o : Option Progress). onward o (entry K)) (eb ∙ ap (λ (o : Option Progress). onward o (entry T)) ea))
-    ∙ four-steps (some (begun job)) (entry S) (entry T) (entry K) (byte 10))
+    (step-then (some (begun job)) strictLine (entry S andThen entry T andThen entry K andThen byte 10) es
+    (step-then (told job s) (entry S) (entry T andThen entry K andThen byte 10) ea
+    (step-then (told job a) (entry T) (entry K andThen byte 10) eb
+    (step-then (told job b) (entry K) (byte 10) ec ed))))

@@ -1,8 +1,9 @@
 -- The table of contents of a job. Scope paper, "Job and printed result": "three lines `S n`, `T n`, `K n`, an empty line, then the
--- first tree, the second tree and the required list, joined directly".
+-- first tree, the second tree and the required list, joined directly". Change requests, C-11: "A job may carry `strict` as its first
+-- contents line".
 use Prim.Native.Nat.{ℕ, _+_, _-_, _^_, _<_}
 use mathlib.Core.Path.{_≡_}
-use mathlib.Core.Bool.{Bool, cond, _&&_, _||_, not}
+use mathlib.Core.Bool.{Bool, true, false, cond, _&&_, _||_, not}
 use mathlib.Core.List.{List, [], _∷_, _++_}
 use mathlib.Core.Option.{Option, some, none}
 use lib.Dec.{eqb, leb}
@@ -10,6 +11,7 @@ use lib.ListN.{length, take, drop, getD}
 use Rattle.trees.specs.declared.Body.{Body}
 use Rattle.trees.specs.declared.Body.the-variants.{S, T, K, J, O}
 use Rattle.trees.specs.Refusals.{letterOf}
+use Rattle.trees.specs.Words.{bytesOf}
 use Rattle.contents.specs.declared.Table.{Table}
 use Rattle.contents.specs.declared.Layout.{Layout}
 use Rattle.contents.specs.declared.Layout.the-variants as layout
@@ -19,7 +21,9 @@ use Rattle.contents.specs.Decimal.{decimalOf, digitRun, valueFrom}
 abbrev pub digitLimit : ℕ
 digitLimit = 4
 
+-- what a job holds; `strict`: whether it carries that line
 pub record Bodies : Type 0 where
+  pub strict : Bool
   pub first : List ℕ
   pub second : List ℕ
   pub list : List ℕ
@@ -35,13 +39,27 @@ unfoldable pub entryLine : Body → ℕ → List ℕ
 unfolding line letterOf decimalOf
 entryLine body n = line (letterOf body ∷ 32 ∷ decimalOf n)
 
+-- a line that a job may carry, if it does
+abbrev pub lineIf : Bool → List ℕ → List ℕ
+lineIf true words = line words
+lineIf false words = []
+
+-- C-11: "A job may carry `strict`"
+unfoldable pub strictText : Bool → List ℕ
+unfolding line bytesOf
+strictText strict = lineIf strict (bytesOf "strict")
+
+-- C-11: "as its first contents line"; then "three lines `S n`, `T n`, `K n`, an empty line"
 unfoldable pub tableText : Table → List ℕ
-unfolding entryLine line
-tableText t = entryLine S (t .first) ++ (entryLine T (t .second) ++ (entryLine K (t .required) ++ line []))
+unfolding strictText entryLine line
+tableText t =
+    strictText (t .strict)
+    ++ (entryLine S (t .first) ++ (entryLine T (t .second) ++ (entryLine K (t .required) ++ line [])))
 
 -- "Each n is the body's length in bytes"
 unfoldable pub lengthsOf : Bodies → Table
-lengthsOf b = record { first = length (b .first); second = length (b .second); required = length (b .list) }
+lengthsOf b =
+    record { strict = b .strict; first = length (b .first); second = length (b .second); required = length (b .list) }
 
 -- "one to four digits"
 pub record Short (t : Table) : Type 0 where
@@ -108,9 +126,9 @@ numberAt text =
 
 -- a length put down for its body
 unfoldable pub withLength : Body → ℕ → Table → Table
-withLength S n t = record { first = n; second = t .second; required = t .required }
-withLength T n t = record { first = t .first; second = n; required = t .required }
-withLength K n t = record { first = t .first; second = t .second; required = n }
+withLength S n t = record { strict = t .strict; first = n; second = t .second; required = t .required }
+withLength T n t = record { strict = t .strict; first = t .first; second = n; required = t .required }
+withLength K n t = record { strict = t .strict; first = t .first; second = t .second; required = n }
 withLength J n t = t
 withLength O n t = t
 
@@ -133,10 +151,32 @@ unfoldable pub emptyLine : Step
 unfolding byte
 emptyLine = byte 10
 
--- the lines in their order; a further line is a further step
+-- whether a text begins with these bytes
+unfoldable pub begins : List ℕ → List ℕ → Bool
+begins [] text = true
+begins (b ∷ word) [] = false
+begins (b ∷ word) (x ∷ text) = eqb x b && begins word text
+
+-- a line that a job may carry: taken where the whole line stands next, else nothing is taken
+unfoldable pub optional : List ℕ → (Table → Table) → Step
+unfolding begins line
+optional words change p =
+    cond (begins (line words) (p .rest))
+    (some (record { table = change (p .table); rest = drop (length (line words)) (p .rest) })) (some p)
+
+-- C-11: the job carries `strict`
+unfoldable pub withStrict : Table → Table
+withStrict t = record { strict = true; first = t .first; second = t .second; required = t .required }
+
+-- the line `strict`, or nothing
+unfoldable pub strictLine : Step
+unfolding optional withStrict bytesOf
+strictLine = optional (bytesOf "strict") withStrict
+
+-- the lines in their order; a further line is a further step. C-11: `strict` is "its first contents line"
 unfoldable pub tableLines : Step
-unfolding _andThen_ entry emptyLine
-tableLines = entry S andThen entry T andThen entry K andThen emptyLine
+unfolding _andThen_ strictLine entry emptyLine
+tableLines = strictLine andThen entry S andThen entry T andThen entry K andThen emptyLine
 
 -- "The lengths must add up to exactly the rest of the job": where the bodies begin, and their lengths
 unfoldable pub laidOut : List ℕ → Option Progress → Layout
@@ -147,7 +187,7 @@ laidOut job (some p) =
 
 -- before the first line
 abbrev pub begun : List ℕ → Progress
-begun job = record { table = record { first = 0; second = 0; required = 0 }; rest = job }
+begun job = record { table = record { strict = false; first = 0; second = 0; required = 0 }; rest = job }
 
 unfoldable pub layoutOf : List ℕ → Layout
 unfolding laidOut tableLines
@@ -157,6 +197,7 @@ layoutOf job = laidOut job (tableLines (begun job))
 unfoldable pub bodiesIn : List ℕ → Layout → Option Bodies
 bodiesIn job (layout.Bodies at t) =
     some (record {
+      strict = t .strict;
       first = take (t .first) (drop at job);
       second = take (t .second) (drop (at + t .first) job);
       list = take (t .required) (drop (at + t .first + t .second) job);

@@ -1,17 +1,21 @@
-// The table of contents of a job: a line with the length of each body, an empty line, then the bodies.
+// The table of contents of a job: the line `strict` where the job carries it, a line with the length of each body, an empty line, then
+// the bodies.
 //
 // The one public function has no `requires`. Each line is a step from one state of reading to the next, so a further line is a
 // further step.
 use crate::decimal::Digits;
 use trees::Body;
 ghost use mathlib.Core.Path.{_≡_};
+ghost use lib.ListN.{drop};
 ghost use Rattle.contents.specs.Contents.{onward, byte, lengthStep, entry, withLength, laidOut, layoutOf};
+ghost use Rattle.contents.specs.Contents.{begins, strictLine};
 ghost use Rattle.contents.specs.Steps.{Stands, told, Small};
 
 mod decimal;
 
-// The lengths of the bodies, in bytes.
+// Whether the job carries the line `strict`, and the lengths of the bodies, in bytes.
 pub struct Table {
+    pub strict: bool,
     pub first: usize,
     pub second: usize,
     pub required: usize,
@@ -51,22 +55,66 @@ fn byte_after(job: &[u8], state: Reading, b: u8) -> Reading
     Reading::At(table, at + 1)
 }
 
+// Whether these bytes stand in the job from a place on.
+fn begins_at(job: &[u8], at: usize, word: &[u8]) -> bool
+    ensures { λ r. ⌜ r ≡ begins (now (word .entry)) (drop at (now (job .entry))) ⌝ }
+{
+    let mut next = at;
+    let mut i: usize = 0;
+    while i < word.len() {
+        if job.len() <= next {
+            return false;
+        }
+        if job[next] != word[i] {
+            return false;
+        }
+        next += 1;
+        i += 1;
+    }
+    true
+}
+
+// The step over the line `strict`, which a job may leave out.
+fn strict_after(job: &[u8], state: Reading) -> Reading
+    requires { ⌜ Small (now job) state ⌝ }
+    ensures step { λ r. ⌜ told (now (job .entry)) r ≡ onward (told (now (job .entry)) state) strictLine ⌝ }
+    ensures small { λ r. ⌜ Small (now (job .entry)) r ⌝ }
+{
+    let Reading::At(table, at) = state else {
+        return Reading::Broken;
+    };
+    let line = b"strict\n";
+    if !begins_at(job, at, line) {
+        return state;
+    }
+    let strict = Table {
+        strict: true,
+        first: table.first,
+        second: table.second,
+        required: table.required,
+    };
+    Reading::At(strict, at + line.len())
+}
+
 // A length put down for its body.
 fn with_length(table: Table, body: Body, n: usize) -> Table
     ensures { λ r. ⌜ r ≡ withLength body n table ⌝ }
 {
     match body {
         Body::S => Table {
+            strict: table.strict,
             first: n,
             second: table.second,
             required: table.required,
         },
         Body::T => Table {
+            strict: table.strict,
             first: table.first,
             second: n,
             required: table.required,
         },
         Body::K => Table {
+            strict: table.strict,
             first: table.first,
             second: table.second,
             required: n,
@@ -124,12 +172,14 @@ pub fn contents(job: &[u8]) -> Layout
     ensures { λ r. ⌜ r ≡ layoutOf (now (job .entry)) ⌝ }
 {
     let nothing = Table {
+        strict: false,
         first: 0,
         second: 0,
         required: 0,
     };
     let start = Reading::At(nothing, 0);
-    let first = entry_after(job, start, Body::S);
+    let strict = strict_after(job, start);
+    let first = entry_after(job, strict, Body::S);
     let second = entry_after(job, first, Body::T);
     let required = entry_after(job, second, Body::K);
     let end = byte_after(job, required, b'\n');

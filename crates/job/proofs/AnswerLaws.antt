@@ -3,10 +3,10 @@ use Prim.Native.Nat.{ℕ, _+_, _-_, _≤_, _<_}
 use mathlib.Core.Path.{_≡_, refl, sym, _∙_, ap, ap₂}
 use mathlib.Core.Bool.{true}
 use mathlib.Core.List.{List, _++_}
-use mathlib.Core.Option.{Option, some, none}
+use mathlib.Core.Option.{Option, none}
 use native.Mathlib.Omega.{arith}
-use lib.ListN.{length, take, drop, replicate, length-append, length-drop, length-replicate}
-use lib.Seq.{take-at, take-all}
+use lib.ListN.{length, take, drop, replicate, length-append, length-replicate}
+use lib.Seq.{take-at}
 use borrow.Author.Tests.{le-leb, lt-leb}
 use Rattle.trees.specs.declared.Reason.the-variants.{Contents, JobTooLong}
 use Rattle.trees.specs.declared.Body.the-variants.{J}
@@ -17,7 +17,7 @@ use Rattle.lists.specs.declared.LabelPlaces.{LabelPlaces}
 use Rattle.agreement.specs.Places.{placeIn, placeOfLabel}
 use Rattle.mast.specs.declared.LargestAnswer.the-variants.{Found, Disagree, Refused}
 use Rattle.mast.specs.declared.LargestResult.{LargestResult}
-use Rattle.mast.specs.Largest.{Solution, solved, clashed, turned, task, solve, setPlaces, largestOf, outputOf}
+use Rattle.mast.specs.Largest.{Solution, solved, clashed, turned, Task, task, solve, setPlaces, largestOf, outputOf}
 use Rattle.job.specs.declared.JobAnswer.the-variants as job-answer
 use Rattle.job.specs.declared.Part.{Part}
 use Rattle.contents.specs.declared.Table.{Table}
@@ -63,31 +63,31 @@ output-clashed x xs a b c out e = ap (λ (y : Solution). jobOutput y out) (sym e
 -- ---- what the engine found
 
 -- a set with n labels and a text of k bytes
-pub record SetFound (first second list area : List ℕ) (places : LabelPlaces) (k : ℕ) : Type 0 where
+pub record SetFound (q : Task) (area : List ℕ) (places : LabelPlaces) (k : ℕ) : Type 0 where
   pub s : Tree
   pub X : List Label
   pub text : List ℕ
-  pub solution : solve (task first second list) treeRoom ≡ solved s X text
+  pub solution : solve q treeRoom ≡ solved s X text
   pub short : length text ≤ treeRoom
   pub front : take k area ≡ text
   pub inside : k ≤ length area
   pub few : places .count ≤ leafLimit
-  pub labels : labelsIn first (places .start) (places .size) (places .count) ≡ X
+  pub labels : labelsIn (q .first) (places .start) (places .size) (places .count) ≡ X
 
 -- a label of the list at place i
 pub record Clasher (list : List ℕ) (xs : List Label) (x : Label) (i : ℕ) : Type 0 where
   pub inside : i ≤ length list
   pub part : (base : ℕ) → _≡_ {A = Part} (record { start = base + i; size = length (untilComma (drop i list)) }) (partOfLabel base xs x)
 
-pub record EightFound (first second list : List ℕ) (i j k : ℕ) : Type 0 where
+pub record EightFound (q : Task) (i j k : ℕ) : Type 0 where
   pub xs : List Label
   pub a : Label
   pub b : Label
   pub c : Label
-  pub solution : solve (task first second list) treeRoom ≡ clashed xs a b c
-  pub one : Clasher list xs a i
-  pub two : Clasher list xs b j
-  pub three : Clasher list xs c k
+  pub solution : solve q treeRoom ≡ clashed xs a b c
+  pub one : Clasher (q .required) xs a i
+  pub two : Clasher (q .required) xs b j
+  pub three : Clasher (q .required) xs c k
 
 module _ (first list : List ℕ) (xs : List Label) (a b c : Label) (w : ClashedBy first list xs a b c) where
   clasher : (x : Label) → isIn x xs ≡ true → (i : ℕ) → i ≡ placeOfLabel xs 0 x → Clasher list xs x i
@@ -105,58 +105,58 @@ module _ (first list : List ℕ) (xs : List Label) (a b c : Label) (w : ClashedB
             ∙ listed-size list (placeOfLabel xs 0 x) x (l .0) (good-bytes x (l .1)));
       }
 
-module _ (first second list blank area : List ℕ) (r : LargestResult) (roomy : length blank ≡ treeRoom)
-    (told : r ≡ largestOf (solve (task first second list) (length blank)))
-    (kept : area ≡ outputOf (solve (task first second list) (length blank)) blank) where
-  in-room : (x : Solution) → solve (task first second list) (length blank) ≡ x → solve (task first second list) treeRoom ≡ x
-  in-room x e = ap (solve (task first second list)) (sym roomy) ∙ e
+module _ (q : Task) (blank area : List ℕ) (r : LargestResult) (roomy : length blank ≡ treeRoom)
+    (told : r ≡ largestOf (solve q (length blank)))
+    (kept : area ≡ outputOf (solve q (length blank)) blank) where
+  in-room : (x : Solution) → solve q (length blank) ≡ x → solve q treeRoom ≡ x
+  in-room x e = ap (solve q) (sym roomy) ∙ e
 
-  pub found-set : (n k : ℕ) → r .answer ≡ Found n k → SetFound first second list area (r .set) k
+  pub found-set : (n k : ℕ) → r .answer ≡ Found n k → SetFound q area (r .set) k
   unfolding largestOf outputOf setPlaces
   found-set n k e =
-      go (solve (task first second list) (length blank)) refl (solution-from first second list (length blank)) told kept
+      go (solve q (length blank)) refl (solution-from q (length blank)) told kept
     where
-      go : (x : Solution) → solve (task first second list) (length blank) ≡ x → From first list (length blank) x → r ≡ largestOf x
-          → area ≡ outputOf x blank → SetFound first second list area (r .set) k
-      go (solved s X text) q f t o =
+      go : (x : Solution) → solve q (length blank) ≡ x → From (q .first) (q .required) (length blank) x → r ≡ largestOf x
+          → area ≡ outputOf x blank → SetFound q area (r .set) k
+      go (solved s X text) g f t o =
           let h : Found n k ≡ Found (length X) (length text) = sym e ∙ ap (λ (z : LargestResult). z .answer) t in
           let m : length text ≡ k = cc in
           record {
             s = s;
             X = X;
             text = text;
-            solution = in-room (solved s X text) q;
+            solution = in-room (solved s X text) g;
             short = omega (arith, f .short);
             front = ap (take k) o ∙ take-at text (drop (length text) blank) k m;
             inside = omega (arith, m, ap (length {A = ℕ}) o, length-append text (drop (length text) blank));
-            few = omega (arith, set-few first list (length blank) s X text f, ap (λ (z : LargestResult). z .set .count) t);
+            few = omega (arith, set-few (q .first) (q .required) (length blank) s X text f, ap (λ (z : LargestResult). z .set .count) t);
             labels =
-                ap (λ (z : LargestResult). labelsIn first (z .set .start) (z .set .size) (z .set .count)) t
-                ∙ labels-are first (placeIn s 0) X (set-shown first list (length blank) s X text f);
+                ap (λ (z : LargestResult). labelsIn (q .first) (z .set .start) (z .set .size) (z .set .count)) t
+                ∙ labels-are (q .first) (placeIn s 0) X (set-shown (q .first) (q .required) (length blank) s X text f);
           }
-      go (clashed xs a b c) q f t o =
+      go (clashed xs a b c) g f t o =
           let h : Found n k ≡ Disagree (placeOfLabel xs 0 a) (placeOfLabel xs 0 b) (placeOfLabel xs 0 c) = sym e ∙ ap (λ (z : LargestResult). z .answer) t in
           let z : _≡_ {A = ℕ} 0 1 = cc in
           absurd (omega arith)
-      go (turned p) q f t o =
+      go (turned p) g f t o =
           let h : Found n k ≡ Refused p = sym e ∙ ap (λ (z : LargestResult). z .answer) t in
           let z : _≡_ {A = ℕ} 0 1 = cc in
           absurd (omega arith)
 
-  pub found-eight : (i j k : ℕ) → r .answer ≡ Disagree i j k → EightFound first second list i j k
+  pub found-eight : (i j k : ℕ) → r .answer ≡ Disagree i j k → EightFound q i j k
   unfolding largestOf
-  found-eight i j k e = go (solve (task first second list) (length blank)) refl (solution-from first second list (length blank)) told
+  found-eight i j k e = go (solve q (length blank)) refl (solution-from q (length blank)) told
     where
-      go : (x : Solution) → solve (task first second list) (length blank) ≡ x → From first list (length blank) x → r ≡ largestOf x
-          → EightFound first second list i j k
-      go (solved s X text) q f t =
+      go : (x : Solution) → solve q (length blank) ≡ x → From (q .first) (q .required) (length blank) x → r ≡ largestOf x
+          → EightFound q i j k
+      go (solved s X text) g f t =
           let h : Disagree i j k ≡ Found (length X) (length text) = sym e ∙ ap (λ (z : LargestResult). z .answer) t in
           let z : _≡_ {A = ℕ} 0 1 = cc in
           absurd (omega arith)
-      go (clashed xs a b c) q f t =
+      go (clashed xs a b c) g f t =
           let h : Disagree i j k ≡ Disagree (placeOfLabel xs 0 a) (placeOfLabel xs 0 b) (placeOfLabel xs 0 c) =
           sym e ∙ ap (λ (z : LargestResult). z .answer) t in
-          let l = eight first list xs a b c f in
+          let l = eight (q .first) (q .required) xs a b c f in
           let u : i ≡ placeOfLabel xs 0 a = cc in
           let v : j ≡ placeOfLabel xs 0 b = cc in
           let w : k ≡ placeOfLabel xs 0 c = cc in
@@ -165,34 +165,34 @@ module _ (first second list blank area : List ℕ) (r : LargestResult) (roomy : 
             a = a;
             b = b;
             c = c;
-            solution = in-room (clashed xs a b c) q;
-            one = clasher first list xs a b c f a (l .0) i u;
-            two = clasher first list xs a b c f b (l .1) j v;
-            three = clasher first list xs a b c f c (l .2) k w;
+            solution = in-room (clashed xs a b c) g;
+            one = clasher (q .first) (q .required) xs a b c f a (l .0) i u;
+            two = clasher (q .first) (q .required) xs a b c f b (l .1) j v;
+            three = clasher (q .first) (q .required) xs a b c f c (l .2) k w;
           }
-      go (turned p) q f t =
+      go (turned p) g f t =
           let h : Disagree i j k ≡ Refused p = sym e ∙ ap (λ (z : LargestResult). z .answer) t in
           let z : _≡_ {A = ℕ} 0 1 = cc in
           absurd (omega arith)
 
-  pub found-refusal : (p : Refusal) → r .answer ≡ Refused p → solve (task first second list) treeRoom ≡ turned p
+  pub found-refusal : (p : Refusal) → r .answer ≡ Refused p → solve q treeRoom ≡ turned p
   unfolding largestOf
-  found-refusal p e = go (solve (task first second list) (length blank)) refl told
+  found-refusal p e = go (solve q (length blank)) refl told
     where
-      go : (x : Solution) → solve (task first second list) (length blank) ≡ x → r ≡ largestOf x → solve (task first second list) treeRoom ≡ turned p
-      go (solved s X text) q t =
+      go : (x : Solution) → solve q (length blank) ≡ x → r ≡ largestOf x → solve q treeRoom ≡ turned p
+      go (solved s X text) g t =
           let h : Refused p ≡ Found (length X) (length text) = sym e ∙ ap (λ (z : LargestResult). z .answer) t in
           let z : _≡_ {A = ℕ} 0 1 = cc in
           absurd (omega arith)
-      go (clashed xs a b c) q t =
+      go (clashed xs a b c) g t =
           let h : Refused p ≡ Disagree (placeOfLabel xs 0 a) (placeOfLabel xs 0 b) (placeOfLabel xs 0 c) =
           sym e ∙ ap (λ (z : LargestResult). z .answer) t in
           let z : _≡_ {A = ℕ} 0 1 = cc in
           absurd (omega arith)
-      go (turned o) q t =
+      go (turned o) g t =
           let h : Refused p ≡ Refused o = sym e ∙ ap (λ (z : LargestResult). z .answer) t in
           let m : o ≡ p = cc in
-          in-room (turned o) q ∙ ap turned m
+          in-room (turned o) g ∙ ap turned m
 
 -- ---- the job
 
@@ -218,7 +218,7 @@ module _ (job : List ℕ) (at : ℕ) (t : Table) (e : layout.Bodies at t ≡ lay
   list-base = ap listPlace e
 
   pub job-solved : length job ≤ jobLimit
-      → solve (task (take (at + t .first - at) (drop at job)) (take (at + t .first + t .second - (at + t .first)) (drop (at + t .first) job))
+      → solve (task (record { strict = t .strict }) (take (at + t .first - at) (drop at job)) (take (at + t .first + t .second - (at + t .first)) (drop (at + t .first) job))
       (take (at + t .first + t .second + t .required - (at + t .first + t .second)) (drop (at + t .first + t .second) job))) treeRoom
       ≡ solveJob job
   unfolding solveBodies bodiesOf bodiesIn

@@ -17,7 +17,7 @@ use Rattle.mast.specs.Largest.{Solution, solved, clashed, turned}
 use Rattle.job.specs.declared.JobAnswer.the-variants as job-answer
 use Rattle.job.specs.declared.Named.{Named}
 use Rattle.contents.specs.Contents.{Bodies, layoutOf, bodiesOf, listPlace}
-use Rattle.job.specs.Printed.{jobLimit, treeRoom, solveBodies, solveJob, recordLines, printedOf, printed}
+use Rattle.job.specs.Printed.{jobLimit, treeRoom, taskOf, solveBodies, solveJob, recordLines, printedOf, printed}
 use Rattle.job.specs.Answered.{labelIn, namedLine, partOfLabel, answered, answerTo}
 use Rattle.contents.proofs.ContentsLaws.{list-stands}
 use Rattle.job.proofs.RecordLaws.{record-no-clash}
@@ -47,7 +47,7 @@ clashed-job job xs a b c e = go (leb (length job) jobLimit) (bodiesOf job) refl 
         record {
           bodies = d;
           stands = list-stands job d f;
-          by = subst (From (d .first) (d .list) treeRoom) h (solution-from (d .first) (d .second) (d .list) treeRoom);
+          by = subst (From (d .first) (d .list) treeRoom) h (solution-from (taskOf d) treeRoom);
         }
     go false o f h = absurd (turned-not _ xs a b c h)
 

@@ -5,7 +5,7 @@ use mathlib.Core.Bool.{true}
 use mathlib.Core.Logic.{_↔_}
 use mathlib.Core.List.{List, [], _∷_}
 use native.Mathlib.Omega.{arith}
-use lib.ListN.{length, getD}
+use lib.ListN.{getD}
 use Rattle.trees.specs.declared.Refusal.{Refusal}
 use Rattle.trees.specs.Label.{Label, isIn, goodLabel, goodLabels}
 use Rattle.trees.specs.Tree.{Tree, leaves}
@@ -20,8 +20,8 @@ use Rattle.agreement.proofs.SetLaws.{within-few}
 use Rattle.contents.specs.Contents.{line}
 use Rattle.mast.specs.Largest.{Solution, solved, clashed, turned}
 use Rattle.job.specs.Printed.{refusedWords, recordLines, solveJob, printedOf, printed}
-use Rattle.job.specs.Outcome.{Asks, SetAnswered, EightAnswered, JobOutcome}
-use Rattle.job.specs.Outcome.{too-long, no-contents, first-fault, second-fault, list-fault, first-lacks, second-lacks, disagreement, largest-set}
+use Rattle.job.specs.Outcome.{SetAnswered, EightAnswered, JobOutcome}
+use Rattle.job.specs.Outcome.{too-long, no-contents, first-fault, second-fault, list-fault, stray-first, stray-second, first-lacks, second-lacks, disagreement, largest-set}
 use Rattle.job.proofs.OutcomeLaws.{outcome-exactly}
 use Rattle.job.proofs.ReadBack.{kept-line, lines-back, refusal-no-eight, eight-back}
 use Rattle.job.proofs.ShownLaws.{good-in, all-good}
@@ -50,7 +50,9 @@ module _ (job : List ℕ) (X : List Label) (text : List ℕ) where
   from x (no-contents h never) e = absurd (refusal-other _ X text e)
   from x (first-fault b held r i f) e = absurd (refusal-other _ X text e)
   from x (second-fault b held s p r i f) e = absurd (refusal-other _ X text e)
-  from x (list-fault b held s t p q r i f) e = absurd (refusal-other _ X text e)
+  from x (list-fault b held s t p q h r i f) e = absurd (refusal-other _ X text e)
+  from x (stray-first b held k s t p q y o) e = absurd (refusal-other _ X text e)
+  from x (stray-second b held k s t p q y a o) e = absurd (refusal-other _ X text e)
   from x (first-lacks s t xs asks n o) e = absurd (refusal-other _ X text e)
   from x (second-lacks s t xs asks n o) e = absurd (refusal-other _ X text e)
   from x (disagreement s t xs asks a b c held o) e = absurd (eight-other xs a b c X text e)
@@ -102,7 +104,9 @@ module _ (job : List ℕ) (a b c : Label) where
   eight-from x (no-contents h never) e = absurd (refusal-no-eight _ [] a b c e)
   eight-from x (first-fault d held r i f) e = absurd (refusal-no-eight _ [] a b c e)
   eight-from x (second-fault d held s p r i f) e = absurd (refusal-no-eight _ [] a b c e)
-  eight-from x (list-fault d held s t p q r i f) e = absurd (refusal-no-eight _ [] a b c e)
+  eight-from x (list-fault d held s t p q h r i f) e = absurd (refusal-no-eight _ [] a b c e)
+  eight-from x (stray-first d held k s t p q y o) e = absurd (refusal-no-eight _ [] a b c e)
+  eight-from x (stray-second d held k s t p q y z o) e = absurd (refusal-no-eight _ [] a b c e)
   eight-from x (first-lacks s t xs asks n o) e = absurd (refusal-no-eight _ [] a b c e)
   eight-from x (second-lacks s t xs asks n o) e = absurd (refusal-no-eight _ [] a b c e)
   eight-from x (disagreement s t xs asks p q r held o) e =

@@ -14,3 +14,4 @@ pub mod RoomLaws
 pub mod RowLaws
 pub mod ShownLaws
 pub mod SolvedLaws
+pub mod StrictLaws

@@ -1,10 +1,11 @@
 -- What a job comes to is what the papers say of it, and nothing else. Assumes nothing.
 use Prim.Native.Nat.{ℕ, _≤_}
 use mathlib.Core.Path.{_≡_, refl, sym, _∙_, ap, subst}
-use mathlib.Core.Bool.{Bool, true, false, cond}
+use mathlib.Core.Bool.{true, false, cond}
 use mathlib.Core.Logic.{_⊎_, inl, inr, _↔_}
 use mathlib.Core.List.{List}
 use mathlib.Core.Option.{Option, some, none}
+use native.Mathlib.Omega.{arith}
 use lib.Dec.{leb}
 use lib.ListN.{length}
 use borrow.Author.Tests.{le-leb, lt-leb, leb-true, leb-false}
@@ -21,16 +22,18 @@ use Rattle.lists.specs.ReadList.{readList}
 use Rattle.lists.proofs.Promises as lists
 use Rattle.agreement.specs.Answer.{Answer, firstLacks, secondLacks, disagree, largest, answer}
 use Rattle.agreement.specs.Outcome.{Outcome}
+use Rattle.agreement.specs.Strict.{SameLeaves, Stray, inFirst, inSecond, nowhere}
 use Rattle.agreement.proofs.Promises as agreement
 use Rattle.contents.specs.Contents.{Bodies, bodiesOf}
 use Rattle.contents.proofs.Promises as contents
 use Rattle.contents.proofs.StepLaws.{none-some}
 use Rattle.mast.specs.Given.{Reads}
-use Rattle.mast.specs.Largest.{Solution, solutionOf, solveList, solveSecond, solveFirst, task, solve}
+use Rattle.mast.specs.Largest.{Solution, solutionOf, solveList, strayFor, solveShared, solveSecond, solveFirst, solve}
 use Rattle.mast.proofs.Promises as mast
-use Rattle.job.specs.Printed.{jobLimit, treeRoom, solveBodies, solveJob, printedOf, printed}
+use Rattle.mast.proofs.StrayLaws.{nowhere-shared, stray-strict}
+use Rattle.job.specs.Printed.{jobLimit, treeRoom, taskOf, solveBodies, solveJob, printedOf, printed}
 use Rattle.job.specs.Outcome.{Follows, Holds, TreeBody, ListBody, Asks, refusal, JobOutcome}
-use Rattle.job.specs.Outcome.{too-long, no-contents, first-fault, second-fault, list-fault, first-lacks, second-lacks, disagreement, largest-set}
+use Rattle.job.specs.Outcome.{too-long, no-contents, first-fault, second-fault, list-fault, stray-first, stray-second, first-lacks, second-lacks, disagreement, largest-set}
 use Rattle.job.proofs.RoomLaws.{text-fits}
 
 -- ---- bodies that are read
@@ -38,7 +41,7 @@ use Rattle.job.proofs.RoomLaws.{text-fits}
 tree-body : (text : List ℕ) (t : Tree) → readTree text ≡ good t → TreeBody text t
 tree-body text t e = let w = newick.accepted-text text t e in record { is = w .0; valid = w .1 }
 
-body-tree : (text : List ℕ) (t : Tree) → TreeBody text t → readTree text ≡ good t
+pub body-tree : (text : List ℕ) (t : Tree) → TreeBody text t → readTree text ≡ good t
 body-tree text t b = ap readTree (b .is) ∙ newick.valid-read t (b .valid)
 
 list-body : (text : List ℕ) (xs : List Label) → readList text ≡ good xs → ListBody text xs
@@ -58,40 +61,65 @@ bodies-follow job b e = let w = contents.bodies-promise job b .0 e in record { t
 -- ---- each job has an outcome
 
 module _ (job : List ℕ) (b : Bodies) (held : Holds job b) where
-  bodies-outcome : JobOutcome job (solve (task (b .first) (b .second) (b .list)) treeRoom)
-  unfolding solve solveFirst solveSecond solveList solutionOf
-  bodies-outcome = go (readTree (b .first)) (readTree (b .second)) (readList (b .list)) refl refl refl
-    where
-      go : (x y : Reading Tree) (z : Reading (List Label)) → readTree (b .first) ≡ x → readTree (b .second) ≡ y → readList (b .list) ≡ z
-          → JobOutcome job (solveFirst treeRoom x y z)
-      go (refused r i) y z ex ey ez = first-fault b held r i (newick.refused-first (b .first) r i ex)
-      go (good s) (refused r i) z ex ey ez =
-          second-fault b held s (tree-body (b .first) s ex) r i (newick.refused-first (b .second) r i ey)
-      go (good s) (good t) (refused r i) ex ey ez =
-          list-fault b held s t (tree-body (b .first) s ex) (tree-body (b .second) t ey) r i (lists.refused-first (b .list) r i ez)
-      go (good s) (good t) (good xs) ex ey ez = answers (answer s t xs) refl
+  module _ (s t : Tree) (first : readTree (b .first) ≡ good s) (second : readTree (b .second) ≡ good t) where
+    abbrev one-body : TreeBody (b .first) s
+    one-body = tree-body (b .first) s first
+
+    abbrev two-body : TreeBody (b .second) t
+    two-body = tree-body (b .second) t second
+
+    module _ (shared : b .strict ≡ true → SameLeaves s t) where
+      asks : (xs : List Label) → readList (b .list) ≡ good xs → Asks job s t xs
+      asks xs e = record {
+        bodies = b;
+        held = held;
+        first = one-body;
+        second = two-body;
+        shared = shared;
+        required = list-body (b .list) xs e;
+      }
+
+      listed : (z : Reading (List Label)) → readList (b .list) ≡ z → JobOutcome job (solveList s t treeRoom z)
+      unfolding solveList solutionOf
+      listed (refused r i) e = list-fault b held s t one-body two-body shared r i (lists.refused-first (b .list) r i e)
+      listed (good xs) e = answers (answer s t xs) refl
         where
-          asks : Asks job s t xs
-          asks =
-              record {
-                bodies = b;
-                held = held;
-                first = tree-body (b .first) s ex;
-                second = tree-body (b .second) t ey;
-                required = list-body (b .list) xs ez;
-              }
+          a : Asks job s t xs
+          a = asks xs e
 
           told : (A : Answer) → answer s t xs ≡ A → Outcome s t xs A
-          told A e = agreement.answer-promise s t xs (valid-proper s (asks .first .valid)) (asks .required .different) A .0 e
+          told A k = agreement.answer-promise s t xs (valid-proper s (a .first .valid)) (a .required .different) A .0 k
 
           answers : (A : Answer) → answer s t xs ≡ A → JobOutcome job (solutionOf s xs treeRoom A)
-          answers (firstLacks n) e = first-lacks s t xs asks n (told (firstLacks n) e)
-          answers (secondLacks n) e = second-lacks s t xs asks n (told (secondLacks n) e)
-          answers (disagree p q r) e =
-              let o = told (disagree p q r) e in
-              disagreement s t xs asks p q r (o .0) (o .1)
-          answers (largest X) e =
-              subst (JobOutcome job) (sym (text-fits s X (asks .first .valid))) (largest-set s t xs asks X (told (largest X) e))
+          answers (firstLacks n) k = first-lacks s t xs a n (told (firstLacks n) k)
+          answers (secondLacks n) k = second-lacks s t xs a n (told (secondLacks n) k)
+          answers (disagree p q r) k =
+              let o = told (disagree p q r) k in
+              disagreement s t xs a p q r (o .0) (o .1)
+          answers (largest X) k =
+              subst (JobOutcome job) (sym (text-fits s X (a .first .valid))) (largest-set s t xs a X (told (largest X) k))
+
+    -- number 12 only where the job is strict
+    shared-outcome : (z : Stray) → strayFor (taskOf b .options) s t ≡ z → JobOutcome job (solveShared s t treeRoom (readList (b .list)) z)
+    unfolding solveShared
+    shared-outcome (inFirst x) e =
+        let w = stray-strict (taskOf b .options) s t (inFirst x) e (λ k. let z : _≡_ {A = ℕ} 0 1 = cc in absurd (omega arith)) in
+        stray-first b held (w .0) s t one-body two-body x (w .1)
+    shared-outcome (inSecond x) e =
+        let w = stray-strict (taskOf b .options) s t (inSecond x) e (λ k. let z : _≡_ {A = ℕ} 0 1 = cc in absurd (omega arith)) in
+        stray-second b held (w .0) s t one-body two-body x (w .1 .0) (w .1 .1)
+    shared-outcome nowhere e = listed (nowhere-shared (taskOf b .options) s t e) (readList (b .list)) refl
+
+  bodies-outcome : JobOutcome job (solve (taskOf b) treeRoom)
+  unfolding solve solveFirst solveSecond
+  bodies-outcome = go (readTree (b .first)) (readTree (b .second)) refl refl
+    where
+      go : (x y : Reading Tree) → readTree (b .first) ≡ x → readTree (b .second) ≡ y
+          → JobOutcome job (solveFirst (taskOf b .options) treeRoom x y (readList (b .list)))
+      go (refused r i) y ex ey = first-fault b held r i (newick.refused-first (b .first) r i ex)
+      go (good s) (refused r i) ex ey =
+          second-fault b held s (tree-body (b .first) s ex) r i (newick.refused-first (b .second) r i ey)
+      go (good s) (good t) ex ey = shared-outcome s t ex ey (strayFor (taskOf b .options) s t) refl
 
 outcome : (job : List ℕ) → JobOutcome job (solveJob job)
 unfolding solveJob solveBodies
@@ -109,7 +137,7 @@ outcome job = sized (bool-cases (leb (length job) jobLimit))
 -- ---- and one only
 
 module _ (job : List ℕ) (b : Bodies) (held : Holds job b) where
-  job-solve : solveJob job ≡ solve (task (b .first) (b .second) (b .list)) treeRoom
+  job-solve : solveJob job ≡ solve (taskOf b) treeRoom
   unfolding solveJob solveBodies
   job-solve = rw (le-leb (length job) jobLimit (held .size)) (ap solveBodies (holds-bodies job b held))
 
@@ -117,18 +145,19 @@ module _ (job : List ℕ) (s t : Tree) (xs : List Label) (asks : Asks job s t xs
   abbrev bodies : Bodies
   bodies = asks .bodies
 
-  reads : Reads (bodies .first) (bodies .second) (bodies .list) s t xs
+  reads : Reads (taskOf bodies) s t xs
   reads =
       record {
         first-is = body-tree (bodies .first) s (asks .first);
         second-is = body-tree (bodies .second) t (asks .second);
+        shared = asks .shared;
         list-is = body-list (bodies .list) xs (asks .required);
       }
 
   decided : (A : Answer) → Outcome s t xs A → solveJob job ≡ solutionOf s xs treeRoom A
   decided A o =
       job-solve job bodies (asks .held)
-      ∙ mast.outcome-promise (bodies .first) (bodies .second) (bodies .list) treeRoom s t xs reads A o
+      ∙ mast.outcome-promise (taskOf bodies) treeRoom s t xs reads A o
 
 one : (job : List ℕ) (x : Solution) → JobOutcome job x → solveJob job ≡ x
 unfolding solutionOf solveJob solveBodies
@@ -139,14 +168,18 @@ one job x (no-contents h never) = rw (le-leb (length job) jobLimit h) (go (bodie
     go none e = refl
     go (some b) e = absurd (never b (bodies-follow job b e))
 one job x (first-fault b held r i f) =
-    job-solve job b held ∙ mast.first-body (b .first) (b .second) (b .list) treeRoom r i (newick.first-refused (b .first) r i f)
+    job-solve job b held ∙ mast.first-body (taskOf b) treeRoom r i (newick.first-refused (b .first) r i f)
 one job x (second-fault b held s p r i f) =
     job-solve job b held
-    ∙ mast.second-body (b .first) (b .second) (b .list) treeRoom r i s (body-tree (b .first) s p) (newick.first-refused (b .second) r i f)
-one job x (list-fault b held s t p q r i f) =
+    ∙ mast.second-body (taskOf b) treeRoom r i s (body-tree (b .first) s p) (newick.first-refused (b .second) r i f)
+one job x (list-fault b held s t p q h r i f) =
     job-solve job b held
-    ∙ mast.third-body (b .first) (b .second) (b .list) treeRoom r i s t (body-tree (b .first) s p) (body-tree (b .second) t q)
+    ∙ mast.third-body (taskOf b) treeRoom r i s t (body-tree (b .first) s p) (body-tree (b .second) t q) h
     (lists.first-refused (b .list) r i f)
+one job x (stray-first b held e s t p q y k) =
+    job-solve job b held ∙ mast.stray-in-first (taskOf b) treeRoom s t (body-tree (b .first) s p) (body-tree (b .second) t q) e y k
+one job x (stray-second b held e s t p q y a k) =
+    job-solve job b held ∙ mast.stray-in-second (taskOf b) treeRoom s t (body-tree (b .first) s p) (body-tree (b .second) t q) e y a k
 one job x (first-lacks s t xs asks n o) = decided job s t xs asks (firstLacks n) o
 one job x (second-lacks s t xs asks n o) = decided job s t xs asks (secondLacks n) o
 one job x (disagreement s t xs asks a b c held o) = decided job s t xs asks (disagree a b c) (held, o)

@@ -1,10 +1,9 @@
 -- What a program that takes at most one byte over the limit in and writes the answer's part out has printed. Assumes nothing.
 use Prim.Native.Nat.{ℕ, _+_, _*_, _≤_, _<_}
-use mathlib.Core.Path.{_≡_, refl, sym, _∙_, ap, ap₂}
-use mathlib.Core.Bool.{Bool, true, false, cond}
+use mathlib.Core.Path.{_≡_, refl, sym, _∙_, ap}
+use mathlib.Core.Bool.{true, false}
 use mathlib.Core.Logic.{_⊎_, inl, inr, ⊎-elim}
 use mathlib.Core.List.{List, [], _∷_, _++_}
-use native.Mathlib.Nat.{zero-add}
 use native.Mathlib.Omega.{arith}
 use lib.Dec.{leb}
 use lib.ListN.{length, take, drop, length-append, length-take}
@@ -28,10 +27,9 @@ use Rattle.agreement.proofs.SetLaws.{in-head, in-tail, in-cases, within-few}
 use Rattle.contents.specs.Contents.{line}
 use Rattle.contents.specs.Decimal.{decimalOf}
 use Rattle.contents.proofs.DecimalLaws.{decimal-short}
-use Rattle.job.specs.declared.LineAnswer.the-variants.{Written, TooShort}
 use Rattle.mast.specs.Largest.{Solution, solved, clashed, turned}
 use Rattle.job.specs.Printed.{jobLimit, treeRoom, itemRoom, recordRoom, solveJob, refusedWords, recordLines, printedOf, printed}
-use Rattle.job.specs.Outcome.{JobOutcome, too-long, no-contents, first-fault, second-fault, list-fault, first-lacks, second-lacks, disagreement, largest-set}
+use Rattle.job.specs.Outcome.{JobOutcome, too-long, no-contents, first-fault, second-fault, list-fault, stray-first, stray-second, first-lacks, second-lacks, disagreement, largest-set}
 use Rattle.job.specs.Answered.{lineAnswer, lineOutput, writtenPart}
 use Rattle.job.proofs.AnswerLaws.{job-long}
 use Rattle.job.proofs.LineLaws.{words-short}
@@ -135,7 +133,9 @@ short job x (too-long h) = refusal-short _
 short job x (no-contents h never) = refusal-short _
 short job x (first-fault b held r i f) = refusal-short _
 short job x (second-fault b held s p r i f) = refusal-short _
-short job x (list-fault b held s t p q r i f) = refusal-short _
+short job x (list-fault b held s t p q h r i f) = refusal-short _
+short job x (stray-first b held k s t p q y o) = refusal-short _
+short job x (stray-second b held k s t p q y a o) = refusal-short _
 short job x (first-lacks s t xs asks n o) = refusal-short _
 short job x (second-lacks s t xs asks n o) = refusal-short _
 short job x (disagreement s t xs asks a b c held o) =

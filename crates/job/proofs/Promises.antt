@@ -3,6 +3,7 @@ use Prim.Native.Nat.{ℕ, _+_, _<_, _≤_}
 use mathlib.Core.Path.{_≡_}
 use mathlib.Core.Logic.{_↔_}
 use mathlib.Core.List.{List, []}
+use mathlib.Core.Option.{some}
 use lib.ListN.{length, take}
 use Rattle.trees.specs.declared.Refusal.{Refusal}
 use Rattle.trees.specs.Refusals.{numberOf}
@@ -10,13 +11,14 @@ use Rattle.trees.specs.Label.{Label}
 use Rattle.trees.specs.Tree.{Tree}
 use Rattle.trees.specs.Words.{Within}
 use Rattle.agreement.specs.Places.{placeOfLabel}
-use Rattle.contents.specs.Contents.{layoutOf, listPlace}
-use Rattle.mast.specs.Largest.{Solution, solved, clashed, turned, task, solve}
+use Rattle.agreement.specs.Strict.{SameLeaves}
+use Rattle.contents.specs.Contents.{Bodies, layoutOf, listPlace}
+use Rattle.mast.specs.Largest.{Solution, solved, clashed, turned, Task, solve}
 use Rattle.job.specs.declared.JobAnswer.the-variants as job-answer
 use Rattle.job.specs.declared.Named.{Named}
-use Rattle.job.specs.Printed.{jobLimit, treeRoom, recordRoom, solveJob, recordLines, printedOf, printed}
+use Rattle.job.specs.Printed.{jobLimit, treeRoom, recordRoom, solveBodies, solveJob, recordLines, printedOf, printed}
 use Rattle.job.specs.Answered.{outputShort, lineAnswer, lineOutput, writtenPart, namedLine, answerTo}
-use Rattle.job.specs.Outcome.{SetAnswered, EightAnswered, JobOutcome}
+use Rattle.job.specs.Outcome.{TreeBody, SetAnswered, EightAnswered, JobOutcome, Stopped, withoutLine}
 use Rattle.job.specs.Rows.{saidOfLine, saidOfJob, saidOfText, saidOfOutcome}
 use Rattle.job.proofs.ClashLaws
 use Rattle.job.proofs.DemandLaws
@@ -24,6 +26,7 @@ use Rattle.job.proofs.OutcomeLaws
 use Rattle.job.proofs.ProgramLaws
 use Rattle.job.proofs.RoomLaws
 use Rattle.job.proofs.RowLaws
+use Rattle.job.proofs.StrictLaws
 
 -- demand 3 from the bytes of a job: the lines of X and its text are printed exactly if the bodies are read and X is the answer
 pub demand-promise : (job : List ℕ) (X : List Label) (text : List ℕ) → (printed job ≡ recordLines X text) ↔ SetAnswered job X text
@@ -43,6 +46,17 @@ job-promise = OutcomeLaws.printed-exactly
 pub outcome-promise : (job : List ℕ) (x : Solution) → (solveJob job ≡ x) ↔ JobOutcome job x
 outcome-promise = OutcomeLaws.outcome-exactly
 
+-- request C-11: number 12 exactly if the job is strict, both trees are read, and they do not hold the same leaves; its letter and place
+-- are those of `JobOutcome`
+pub twelve-promise : (job : List ℕ) → ((q : Refusal) × (solveJob job ≡ turned q) × (numberOf (q .reason) ≡ 12)) ↔ Stopped job
+twelve-promise = StrictLaws.twelve-exactly
+
+-- "a larger set is still impossible in both sorts": where both trees hold the same leaves, a strict job comes to what it comes to
+-- without the line
+pub strict-promise : (b : Bodies) (s t : Tree) → TreeBody (b .first) s → TreeBody (b .second) t → SameLeaves s t
+    → solveBodies (some b) ≡ solveBodies (some (withoutLine b))
+strict-promise = StrictLaws.strict-same
+
 -- "If an answer is an enum, the promises use a definition that gives this paper's number and values for each of its cases."
 pub job-rows-promise : (job : List ℕ) (room : ℕ)
     → saidOfJob (answerTo job room) ≡ saidOfOutcome (listPlace (layoutOf job)) room (solveJob job)
@@ -53,7 +67,7 @@ line-rows-promise = RowLaws.line-said
 
 -- "An output is too short exactly if it has fewer bytes than the text that belongs in it": the engine's own area for a tree's text never
 -- is, so number 9 says that the caller's output has fewer bytes than the printed lines
-pub area-fits : (first second list : List ℕ) (q : Refusal) → solve (task first second list) treeRoom ≡ turned q → numberOf (q .reason) ≡ 9 → ⊥
+pub area-fits : (q : Task) (p : Refusal) → solve q treeRoom ≡ turned p → numberOf (p .reason) ≡ 9 → ⊥
 area-fits = RoomLaws.engine-fits
 
 pub job-area-fits : (job : List ℕ) (q : Refusal) → solveJob job ≡ turned q → numberOf (q .reason) ≡ 9 → ⊥

@@ -9,8 +9,8 @@ use lib.Dec.{leb}
 use lib.ListN.{length}
 use borrow.Author.Tests.{le-leb, lt-leb}
 use Rattle.trees.specs.declared.Reason.{Reason}
-use Rattle.trees.specs.declared.Reason.the-variants.{TooShort, JobTooLong}
-use Rattle.trees.specs.declared.Body.the-variants.{J, O}
+use Rattle.trees.specs.declared.Reason.the-variants.{JobTooLong}
+use Rattle.trees.specs.declared.Body.the-variants.{J}
 use Rattle.trees.specs.declared.Refusal.{Refusal}
 use Rattle.trees.specs.Refusals.{numberOf}
 use Rattle.trees.specs.Label.{Label}
@@ -29,11 +29,12 @@ use Rattle.agreement.specs.Sets.{setOf}
 use Rattle.agreement.specs.Restrict.{restrict}
 use Rattle.agreement.specs.Answer.{Answer, firstLacks, secondLacks, disagree, largest, answer}
 use Rattle.agreement.specs.Places.{keptText}
+use Rattle.agreement.specs.Strict.{Stray, inFirst, inSecond, nowhere}
 use Rattle.agreement.proofs.RestrictText.{restrict-valid}
-use Rattle.mast.specs.Largest.{Solution, solved, clashed, turned, fitted, solutionOf, solveList, solveSecond, solveFirst, task, solve}
+use Rattle.mast.specs.Largest.{Solution, solved, clashed, turned, fitted, solutionOf, solveList, strayFor, solveShared, solveSecond, solveFirst, Task, solve}
 use Rattle.job.specs.declared.JobAnswer.the-variants as job-answer
 use Rattle.contents.specs.Contents.{Bodies, bodiesOf, layoutOf, listPlace}
-use Rattle.job.specs.Printed.{jobLimit, treeRoom, solveBodies, solveJob, recordLines, printedOf, printed}
+use Rattle.job.specs.Printed.{jobLimit, treeRoom, taskOf, solveBodies, solveJob, recordLines, printedOf, printed}
 use Rattle.job.specs.Answered.{outputShort, lineAnswer, linesAnswer, recordAnswer, answered, answerTo}
 use Rattle.job.proofs.RecordLaws.{record-refused}
 
@@ -54,7 +55,7 @@ text-fits s X v = rw (le-leb (length (keptText (restrict (setOf X) s))) treeRoom
 
 -- ---- the other refusals
 
-fault-low : {Whole : List ℕ → Type 0} {Crowd : List ℕ → ℕ → Type 0} {text : List ℕ} {r : Reason} {i : ℕ} → Fault Whole Crowd text r i
+pub fault-low : {Whole : List ℕ → Type 0} {Crowd : List ℕ → ℕ → Type 0} {text : List ℕ} {r : Reason} {i : ℕ} → Fault Whole Crowd text r i
     → numberOf r ≤ 5
 unfolding numberOf
 fault-low (bad-byte i a b c) = omega arith
@@ -69,30 +70,40 @@ NotNine (solved s X text) = Prim.Unit {0}
 NotNine (clashed xs a b c) = Prim.Unit {0}
 NotNine (turned q) = numberOf (q .reason) ≡ 9 → ⊥
 
-module _ (first second list : List ℕ) where
-  never-nine : NotNine (solve (task first second list) treeRoom)
-  unfolding solve solveFirst solveSecond solveList solutionOf numberOf
-  never-nine = go (readTree first) (readTree second) (readList list) refl refl refl
+module _ (q : Task) where
+  never-nine : NotNine (solve q treeRoom)
+  unfolding solve solveFirst solveSecond solveShared solveList solutionOf numberOf
+  never-nine = go (readTree (q .first)) (readTree (q .second)) (readList (q .required)) refl refl refl
     where
       low : (r : Reason) → numberOf r ≤ 5 → numberOf r ≡ 9 → ⊥
       low r h e = omega arith
 
-      go : (a b : Reading Tree) (c : Reading (List Label)) → readTree first ≡ a → readTree second ≡ b → readList list ≡ c
-          → NotNine (solveFirst treeRoom a b c)
-      go (refused r i) b c ea eb ec = low r (fault-low (refusal first r i ea .here))
-      go (good s) (refused r i) c ea eb ec = low r (fault-low (refusal second r i eb .here))
-      go (good s) (good t) (refused r i) ea eb ec = low r (fault-low (refused-first list r i ec .here))
-      go (good s) (good t) (good xs) ea eb ec = answers (answer s t xs)
+      listed : (s t : Tree) (c : Reading (List Label)) → readTree (q .first) ≡ good s → readList (q .required) ≡ c
+          → NotNine (solveList s t treeRoom c)
+      listed s t (refused r i) ea ec = low r (fault-low (refused-first (q .required) r i ec .here))
+      listed s t (good xs) ea ec = answers (answer s t xs)
         where
           answers : (w : Answer) → NotNine (solutionOf s xs treeRoom w)
           answers (firstLacks n) = λ h. omega arith
           answers (secondLacks n) = λ h. omega arith
           answers (disagree a b c) = tt
-          answers (largest X) = subst NotNine (sym (text-fits s X (accepts first s ea .1))) tt
+          answers (largest X) = subst NotNine (sym (text-fits s X (accepts (q .first) s ea .1))) tt
 
-  -- whatever the three texts are
-  pub engine-fits : (q : Refusal) → solve (task first second list) treeRoom ≡ turned q → numberOf (q .reason) ≡ 9 → ⊥
-  engine-fits q e = subst NotNine e never-nine
+      shared : (s t : Tree) (c : Reading (List Label)) (z : Stray) → readTree (q .first) ≡ good s → readList (q .required) ≡ c
+          → NotNine (solveShared s t treeRoom c z)
+      shared s t c (inFirst x) ea ec = λ h. omega arith
+      shared s t c (inSecond x) ea ec = λ h. omega arith
+      shared s t c nowhere ea ec = listed s t c ea ec
+
+      go : (a b : Reading Tree) (c : Reading (List Label)) → readTree (q .first) ≡ a → readTree (q .second) ≡ b → readList (q .required) ≡ c
+          → NotNine (solveFirst (q .options) treeRoom a b c)
+      go (refused r i) b c ea eb ec = low r (fault-low (refusal (q .first) r i ea .here))
+      go (good s) (refused r i) c ea eb ec = low r (fault-low (refusal (q .second) r i eb .here))
+      go (good s) (good t) c ea eb ec = shared s t c (strayFor (q .options) s t) ea ec
+
+  -- whatever is asked
+  pub engine-fits : (p : Refusal) → solve q treeRoom ≡ turned p → numberOf (p .reason) ≡ 9 → ⊥
+  engine-fits p e = subst NotNine e never-nine
 
 job-never-nine : (job : List ℕ) → NotNine (solveJob job)
 unfolding solveJob solveBodies numberOf
@@ -100,7 +111,7 @@ job-never-nine job = go (leb (length job) jobLimit) (bodiesOf job)
   where
     go : (b : Bool) (o : Option Bodies) → NotNine (cond b (solveBodies o) (turned (record { reason = JobTooLong; body = J; place = 0 })))
     go true none = λ h. omega arith
-    go true (some b) = never-nine (b .first) (b .second) (b .list)
+    go true (some b) = never-nine (taskOf b)
     go false o = λ h. omega arith
 
 pub job-fits : (job : List ℕ) (q : Refusal) → solveJob job ≡ turned q → numberOf (q .reason) ≡ 9 → ⊥

@@ -20,14 +20,14 @@ use Rattle.agreement.specs.Closer.{holds}
 use Rattle.agreement.specs.Sets.{setOf}
 use Rattle.agreement.specs.Restrict.{restrict}
 use Rattle.agreement.specs.Answer.{Answer, firstLacks, secondLacks, disagree, largest, answer}
-use Rattle.agreement.specs.Places.{placeIn, placeOfLabel, keptText}
+use Rattle.agreement.specs.Places.{placeIn, placeOfLabel, keptText, Listed}
 use Rattle.agreement.specs.Demand.{IsAnswer}
+use Rattle.agreement.specs.Strict.{Stray, inFirst, inSecond, nowhere}
 use Rattle.agreement.proofs.Promises.{set-promise, answer-promise}
 use Rattle.agreement.proofs.SetLaws.{within-few}
-use Rattle.mast.specs.Largest.{Solution, solved, clashed, turned, fitted, solutionOf, solveList, solveSecond, solveFirst, task, solve}
+use Rattle.mast.specs.Largest.{Solution, solved, clashed, turned, fitted, solutionOf, solveList, strayFor, solveShared, solveSecond, solveFirst, Task, solve}
 use Rattle.trees.specs.Words.{Within}
 use Rattle.trees.proofs.TreeLaws.{valid-proper}
-use Rattle.agreement.specs.Places.{Listed}
 use Rattle.agreement.proofs.PlaceLaws.{tree-shown, list-listed}
 use Rattle.job.proofs.ShownLaws.{good-in, good-short}
 
@@ -52,28 +52,41 @@ From first list room (solved s X text) = SolvedBy first list room s X text
 From first list room (clashed xs a b c) = ClashedBy first list xs a b c
 From first list room (turned q) = Prim.Unit {0}
 
-module _ (first second list : List ℕ) (room : ℕ) where
-  pub solution-from : From first list room (solve (task first second list) room)
-  unfolding solve solveFirst solveSecond solveList solutionOf fitted
-  solution-from = go (readTree first) (readTree second) (readList list) refl refl
+module _ (q : Task) (room : ℕ) where
+  abbrev Out : Solution → Type 0
+  Out x = From (q .first) (q .required) room x
+
+  pub solution-from : Out (solve q room)
+  unfolding solve solveFirst solveSecond solveShared solveList solutionOf fitted
+  solution-from = go (readTree (q .first)) (readTree (q .second)) (readList (q .required)) refl refl
     where
-      go : (a b : Reading Tree) (c : Reading (List Label)) → readTree first ≡ a → readList list ≡ c → From first list room (solveFirst room a b c)
-      go (refused r i) b c ea ec = tt
-      go (good s) (refused r i) c ea ec = tt
-      go (good s) (good t) (refused r i) ea ec = tt
-      go (good s) (good t) (good xs) ea ec = answers (answer s t xs) refl
+      listed : (s t : Tree) (c : Reading (List Label)) → readTree (q .first) ≡ good s → readList (q .required) ≡ c → Out (solveList s t room c)
+      listed s t (refused r i) ea ec = tt
+      listed s t (good xs) ea ec = answers (answer s t xs) refl
         where
-          answers : (w : Answer) → answer s t xs ≡ w → From first list room (solutionOf s xs room w)
+          answers : (w : Answer) → answer s t xs ≡ w → Out (solutionOf s xs room w)
           answers (firstLacks n) e = tt
           answers (secondLacks n) e = tt
           answers (disagree a b c) e = record { one = s; other = t; read = ea; listed = ec; is = e }
           answers (largest X) e = fits (leb (length (keptText (restrict (setOf X) s))) room) refl
             where
-              fits : (q : Bool) → leb (length (keptText (restrict (setOf X) s))) room ≡ q
-                  → From first list room (cond q (solved s X (keptText (restrict (setOf X) s))) (turned (record { reason = TooShort; body = O; place = 0 })))
+              fits : (p : Bool) → leb (length (keptText (restrict (setOf X) s))) room ≡ p
+                  → Out (cond p (solved s X (keptText (restrict (setOf X) s))) (turned (record { reason = TooShort; body = O; place = 0 })))
               fits true l =
                   record { other = t; required = xs; read = ea; listed = ec; is = e; short = leb-true _ room l }
               fits false l = tt
+
+      shared : (s t : Tree) (c : Reading (List Label)) (z : Stray) → readTree (q .first) ≡ good s → readList (q .required) ≡ c
+          → Out (solveShared s t room c z)
+      shared s t c (inFirst x) ea ec = tt
+      shared s t c (inSecond x) ea ec = tt
+      shared s t c nowhere ea ec = listed s t c ea ec
+
+      go : (a b : Reading Tree) (c : Reading (List Label)) → readTree (q .first) ≡ a → readList (q .required) ≡ c
+          → Out (solveFirst (q .options) room a b c)
+      go (refused r i) b c ea ec = tt
+      go (good s) (refused r i) c ea ec = tt
+      go (good s) (good t) c ea ec = shared s t c (strayFor (q .options) s t) ea ec
 
 -- the set of a solution: at most 80 labels, each shown in the first tree's text
 module _ (first list : List ℕ) (room : ℕ) (s : Tree) (X : List Label) (text : List ℕ) (b : SolvedBy first list room s X text) where

@@ -2,11 +2,11 @@
 -- turned down".
 use Prim.Native.Nat.{ℕ, _≤_, _<_}
 use mathlib.Core.Path.{_≡_}
-use mathlib.Core.Bool.{true}
+use mathlib.Core.Bool.{true, false}
 use mathlib.Core.List.{List}
 use lib.ListN.{length}
 use Rattle.trees.specs.declared.Reason.{Reason}
-use Rattle.trees.specs.declared.Reason.the-variants.{FirstLacks, SecondLacks, Contents, JobTooLong}
+use Rattle.trees.specs.declared.Reason.the-variants.{FirstLacks, SecondLacks, Contents, JobTooLong, NotShared}
 use Rattle.trees.specs.declared.Body.{Body}
 use Rattle.trees.specs.declared.Body.the-variants.{S, T, K, J}
 use Rattle.trees.specs.Label.{Label, goodLabels, distinct}
@@ -15,11 +15,12 @@ use Rattle.trees.specs.Text.{textOf}
 use Rattle.newick.specs.Grammar.{TreeFault}
 use Rattle.lists.specs.ReadList.{joined, listLimit}
 use Rattle.lists.specs.ListGrammar.{ListFault}
-use Rattle.agreement.specs.Closer.{Common}
+use Rattle.agreement.specs.Closer.{holds, Common}
 use Rattle.agreement.specs.Sets.{setOf}
 use Rattle.agreement.specs.Restrict.{restrict}
-use Rattle.agreement.specs.Places.{placeOfNumber, keptText}
+use Rattle.agreement.specs.Places.{placeIn, placeOfNumber, keptText}
 use Rattle.agreement.specs.Demand.{IsFirstLacks, IsSecondLacks, IsDisagreement, IsAnswer}
+use Rattle.agreement.specs.Strict.{SameLeaves, IsStray}
 use Rattle.contents.specs.Contents.{Bodies, Short, lengthsOf, jobOf}
 use Rattle.mast.specs.Largest.{Solution, solved, clashed, turned}
 use Rattle.job.specs.Printed.{jobLimit}
@@ -46,18 +47,20 @@ pub record ListBody (text : List ℕ) (xs : List Label) : Type 0 where
   pub different : distinct xs ≡ true
   pub few : length xs ≤ listLimit
 
--- the job holds two trees and a required list: no row before 6 turns it away
+-- the job holds two trees, which have the same leaves if it is strict (request C-11), and a required list: no row before 6 turns it away
 pub record Asks (job : List ℕ) (s t : Tree) (xs : List Label) : Type 0 where
   pub bodies : Bodies
   pub held : Holds job bodies
   pub first : TreeBody (bodies .first) s
   pub second : TreeBody (bodies .second) t
+  pub shared : bodies .strict ≡ true → SameLeaves s t
   pub required : ListBody (bodies .list) xs
 
 abbrev pub refusal : Reason → Body → ℕ → Solution
 refusal r b i = turned (record { reason = r; body = b; place = i })
 
--- "Order: .. 11, 10, S, T, K, then 6 or 7, then 8"; "A job that no row turns away is answered with its set."
+-- "Order: .. 11, 10, S, T, K, then 6 or 7, then 8", with 12 "after both trees are read and before K"; "A job that no row turns away is
+-- answered with its set."
 pub data JobOutcome (job : List ℕ) : Solution → Type 0 where
   -- 11, "the job passes 8,192 bytes"
   too-long : jobLimit < length job → JobOutcome job (refusal JobTooLong J 0)
@@ -67,8 +70,14 @@ pub data JobOutcome (job : List ℕ) : Solution → Type 0 where
   first-fault : (b : Bodies) → Holds job b → (r : Reason) (i : ℕ) → TreeFault (b .first) r i → JobOutcome job (refusal r S i)
   second-fault : (b : Bodies) → Holds job b → (s : Tree) → TreeBody (b .first) s → (r : Reason) (i : ℕ) → TreeFault (b .second) r i
       → JobOutcome job (refusal r T i)
-  list-fault : (b : Bodies) → Holds job b → (s t : Tree) → TreeBody (b .first) s → TreeBody (b .second) t → (r : Reason) (i : ℕ)
-      → ListFault (b .list) r i → JobOutcome job (refusal r K i)
+  list-fault : (b : Bodies) → Holds job b → (s t : Tree) → TreeBody (b .first) s → TreeBody (b .second) t
+      → (b .strict ≡ true → SameLeaves s t) → (r : Reason) (i : ℕ) → ListFault (b .list) r i → JobOutcome job (refusal r K i)
+  -- 12, where the job is strict: "the letter and place of the first such leaf in S or, if S has none, in T"
+  stray-first : (b : Bodies) → Holds job b → b .strict ≡ true → (s t : Tree) → TreeBody (b .first) s → TreeBody (b .second) t
+      → (x : Label) → IsStray s t x → JobOutcome job (refusal NotShared S (placeIn s 0 x))
+  stray-second : (b : Bodies) → Holds job b → b .strict ≡ true → (s t : Tree) → TreeBody (b .first) s → TreeBody (b .second) t
+      → (x : Label) → ((y : Label) → holds s y ≡ true → holds t y ≡ true) → IsStray t s x
+      → JobOutcome job (refusal NotShared T (placeIn t 0 x))
   -- 6 and 7, at the label's "first byte in K"
   first-lacks : (s t : Tree) (xs : List Label) → Asks job s t xs → (n : ℕ) → IsFirstLacks s t xs n
       → JobOutcome job (refusal FirstLacks K (placeOfNumber xs n))
@@ -99,3 +108,18 @@ pub record EightAnswered (job : List ℕ) (a b c : Label) : Type 0 where
   pub asked : Asks job s t xs
   pub common : Common s t (setOf xs)
   pub isDisagreement : IsDisagreement s t xs a b c
+
+-- number 12: the job is strict, its trees are read, and they do not hold the same leaves
+pub record Stopped (job : List ℕ) : Type 0 where
+  pub bodies : Bodies
+  pub held : Holds job bodies
+  pub strict : bodies .strict ≡ true
+  pub s : Tree
+  pub t : Tree
+  pub first : TreeBody (bodies .first) s
+  pub second : TreeBody (bodies .second) t
+  pub differ : SameLeaves s t → ⊥
+
+-- the bodies of the same job without the line `strict`
+abbrev pub withoutLine : Bodies → Bodies
+withoutLine b = record { strict = false; first = b .first; second = b .second; list = b .list }

@@ -15,7 +15,7 @@ use Rattle.trees.specs.Words.{bytesOf}
 use Rattle.lists.specs.ReadList.{joined}
 use Rattle.contents.specs.Decimal.{digitRoom, decimalOf}
 use Rattle.contents.specs.Contents.{Bodies, bodiesOf, line}
-use Rattle.mast.specs.Largest.{Solution, solved, clashed, turned, task, solve}
+use Rattle.mast.specs.Largest.{Solution, solved, clashed, turned, Task, task, solve}
 
 -- "A job has at most 8,192 bytes"
 abbrev pub jobLimit : ℕ
@@ -41,12 +41,16 @@ lineRoom = wordsRoom + 2 + 3 * itemRoom
 abbrev pub recordRoom : ℕ
 recordRoom = 17 + digitRoom + leafLimit * itemRoom + treeRoom
 
+-- what is asked by these bodies
+abbrev pub taskOf : Bodies → Task
+taskOf b = task (record { strict = b .strict }) (b .first) (b .second) (b .list)
+
 unfoldable pub solveBodies : Option Bodies → Solution
 unfolding solve
 solveBodies none = turned (record { reason = Contents; body = J; place = 0 })
-solveBodies (some b) = solve (task (b .first) (b .second) (b .list)) treeRoom
+solveBodies (some b) = solve (taskOf b) treeRoom
 
--- "Order: .. 11, 10, S, T, K, then 6 or 7, then 8"
+-- "Order: .. 11, 10, S, T, K, then 6 or 7, then 8", with 12 before K
 unfoldable pub solveJob : List ℕ → Solution
 unfolding solveBodies bodiesOf
 solveJob job =

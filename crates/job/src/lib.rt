@@ -4,6 +4,7 @@
 use contents::Layout;
 use lists::LabelPlaces;
 use mast::LargestAnswer;
+use mast::Options;
 use trees::Body;
 use trees::Reason;
 use trees::Refusal;
@@ -164,18 +165,25 @@ fn part_at(list: &[u8], base: usize, at: usize) -> Part
 }
 
 // The answer to three bodies, of which the list begins at `base` in the job.
-fn answer_bodies(first: &[u8], second: &[u8], list: &[u8], base: usize, out: &mut [u8]) -> JobAnswer
+fn answer_bodies(
+    options: Options,
+    first: &[u8],
+    second: &[u8],
+    list: &[u8],
+    base: usize,
+    out: &mut [u8],
+) -> JobAnswer
     requires { ⌜ base + length (now list) ≤ jobLimit ⌝ }
     ensures answer { λ r.
         ⌜ r ≡ answered base (length (now (out .entry)))
-        (solve (task (now (first .entry)) (now (second .entry)) (now (list .entry))) treeRoom) ⌝ }
+        (solve (task options (now (first .entry)) (now (second .entry)) (now (list .entry))) treeRoom) ⌝ }
     ensures output { λ _.
         ⌜ now (out .exit) ≡ jobOutput
-        (solve (task (now (first .entry)) (now (second .entry)) (now (list .entry))) treeRoom)
+        (solve (task options (now (first .entry)) (now (second .entry)) (now (list .entry))) treeRoom)
         (now (out .entry)) ⌝ }
 {
     let mut tree = [0u8; TREE_ROOM];
-    let result = mast::largest(first, second, list, &mut tree);
+    let result = mast::largest(options, first, second, list, &mut tree);
     let answer = result.answer;
     match answer {
         LargestAnswer::Found(_, bytes) => {
@@ -206,7 +214,11 @@ pub fn answer_job(job: &[u8], out: &mut [u8]) -> JobAnswer
     let second_at = at + table.first;
     let list_at = second_at + table.second;
     let end = list_at + table.required;
+    let options = Options {
+        strict: table.strict,
+    };
     answer_bodies(
+        options,
         &job[at..second_at],
         &job[second_at..list_at],
         &job[list_at..end],

@@ -1,19 +1,19 @@
 -- Bodies that were read: what the readers' answers say of them, what the engine's parts may take from them, and how the answer to
 -- three texts follows from the answer to two trees and a list. Assumes nothing.
 use Prim.Native.Nat.{ℕ, _<_, _≤_, min}
-use mathlib.Core.Path.{_≡_, refl, sym, _∙_, ap, ap₂, subst}
+use mathlib.Core.Path.{_≡_, refl, sym, _∙_, ap, ap₂}
 use mathlib.Core.Bool.{Bool, true, false, cond}
 use mathlib.Core.List.{List, []}
 use native.Mathlib.Omega.{arith}
 use lib.ListN.{length, getD}
 use Rattle.trees.specs.declared.TreeArrays.{TreeArrays}
 use Rattle.trees.specs.declared.Reason.{Reason}
-use Rattle.trees.specs.declared.Reason.the-variants.{FirstLacks, SecondLacks}
+use Rattle.trees.specs.declared.Reason.the-variants.{FirstLacks, SecondLacks, NotShared}
 use Rattle.trees.specs.declared.Body.{Body}
 use Rattle.trees.specs.declared.Body.the-variants.{S, T, K}
 use Rattle.trees.specs.declared.Refusal.{Refusal}
 use Rattle.trees.specs.Label.{Label}
-use Rattle.trees.specs.Tree.{Tree, leaves, Valid}
+use Rattle.trees.specs.Tree.{Tree, leaves}
 use Rattle.trees.specs.Arrays.{arraysOf, nodeLimit}
 use Rattle.trees.specs.Reading.{Reading, good, refused}
 use Rattle.trees.proofs.Bools.{clash, refute}
@@ -26,34 +26,34 @@ use Rattle.newick.proofs.Accepts.{accepts}
 use Rattle.lists.specs.declared.LabelPlaces.{LabelPlaces}
 use Rattle.lists.specs.declared.ListAnswer.the-variants.{Labels, Refused as ListRefused}
 use Rattle.lists.specs.declared.ListRead.{ListRead}
-use Rattle.lists.specs.ReadList.{readList, listRead, placesOf, startsOf, listLimit}
+use Rattle.lists.specs.ReadList.{readList, listRead, placesOf, listLimit}
 use Rattle.lists.proofs.Accepts.{list-accepts}
-use Rattle.lists.proofs.ListPlaces.{length-starts}
 use Rattle.agreement.specs.Closer.{holds}
 use Rattle.agreement.specs.Sets.{common}
 use Rattle.agreement.proofs.SetLaws.{common-inc, in-common, common-in}
 use Rattle.agreement.proofs.Promises.{six-promise, seven-promise}
 use Rattle.agreement.specs.Answer.{Answer, firstLacks, secondLacks, answer}
-use Rattle.agreement.specs.Places.{placeOfNumber}
+use Rattle.agreement.specs.Places.{placeIn, placeOfNumber}
+use Rattle.agreement.specs.Strict.{SameLeaves, Stray, inFirst, inSecond, nowhere}
 use Rattle.triples.specs.declared.Three.{Three}
 use Rattle.triples.proofs.Ranks.{place-number}
 use Rattle.mast.specs.declared.LargestAnswer.{LargestAnswer}
 use Rattle.mast.specs.declared.LargestAnswer.the-variants.{Disagree, Refused}
-use Rattle.mast.specs.Largest.{Solution, clashed, turned, solutionOf, task, solve, largestOf, outputOf}
-use Rattle.leaves.specs.Numbered.{Numbered}
+use Rattle.mast.specs.Largest.{Solution, clashed, turned, solutionOf, strayFor, solveShared, Task, task, plain, solve, largestOf, outputOf}
 use Rattle.table.specs.Choice.{chosenFrom, Solved}
-use Rattle.mast.specs.Engine.{OwnLeaves, OwnList}
+use Rattle.mast.specs.Engine.{OwnLeaves, OwnList, Ordered}
+use Rattle.mast.specs.Ranks.{Partners}
 use Rattle.mast.specs.Required.{Marks, MarkedTo}
 use Rattle.mast.specs.Asked.{Clashes, SomeTree, SomeClash, placesOfThree, FirstMissing, AskedOf}
 use Rattle.mast.specs.Finish.{InRange, ByRank, fittedSet, resultFrom}
 use Rattle.mast.specs.Given.{Reads}
-use Rattle.mast.specs.Bodies.{Bodies, Bounded, OrderedBodies, unreadTree, unreadList}
+use Rattle.mast.specs.declared.strict.Shared.the-variants as shared
+use Rattle.mast.specs.Strays.{sharedOf}
+use Rattle.mast.specs.Bodies.{Bodies, unreadTree, unreadList}
 use Rattle.mast.proofs.RequiredLaws.{marked-all, marked-common}
+use Rattle.mast.proofs.StrayLaws.{shared-nowhere}
 
 -- what the readers say
-
-same-good : {A : Type 0} (a b : A) → good a ≡ good b → a ≡ b
-same-good a b e = cc
 
 pub record ReadAs (text : List ℕ) (tree : TreeArrays) (count : ℕ) : Type 0 where
   pub of : Tree
@@ -77,18 +77,6 @@ pub tree-read : (body : Body) (text : List ℕ) (r : TreeRead) (n : ℕ) → r �
 tree-read body text r n e h =
     let k = tree-case body (readTree text) r n e h in
     record { of = k .0; is = k .1; arrays = k .2; count-is = k .3 }
-
--- two texts that are read have no more labels in common than the smaller tree has leaves
-pub bounded : {first second : List ℕ} {tree1 tree2 : TreeArrays} {m n : ℕ} (most : ℕ) → ReadAs first tree1 m → ReadAs second tree2 n
-    → most ≡ min m n → Bounded first second most
-bounded {first} {second} most one two e =
-    record {
-      few = omega (arith, accepts first (one .of) (one .is) .1 .few, one .count-is);
-      is = λ s t p q.
-          e
-          ∙ ap₂ min (one .count-is ∙ ap (λ (a : Tree). length (leaves a)) (same-good (one .of) s (sym (one .is) ∙ p)))
-          (two .count-is ∙ ap (λ (a : Tree). length (leaves a)) (same-good (two .of) t (sym (two .is) ∙ q)));
-    }
 
 -- a text that is not read is turned down for a reason, at a place
 pub record Unread (A : Type 0) (x : Reading A) (body : Body) (answer : LargestAnswer) : Type 0 where
@@ -137,27 +125,109 @@ pub list-unread : (body : Body) (text : List ℕ) (r : ListRead) (q : Refusal) �
     → r .answer ≡ ListRefused q → Unread (List Label) (readList text) body (unreadList (r .answer))
 list-unread body text r q e h = rw e (unlisted-case body (readList text) q (rw e at h))
 
--- a body that is not read ends the job there
+-- what the engine's parts are handed of a tree and of a list
+pub tree-leaves : {text : List ℕ} {tree : TreeArrays} {n : ℕ} (r : ReadAs text tree n)
+    → OwnLeaves (r .of) text (tree .left) (tree .start) (tree .size) (tree .nodes)
+unfolding arraysOf
+tree-leaves {text} r =
+    let a = accepts text (r .of) (r .is) in
+    record {
+      valid = a .1;
+      text-is = a .0;
+      left-is = ap (λ a. a .left) (r .arrays);
+      start-is = ap (λ a. a .start) (r .arrays);
+      size-is = ap (λ a. a .size) (r .arrays);
+      nodes-is = ap (λ a. a .nodes) (r .arrays);
+    }
 
-module _ (first second list : List ℕ) (room : ℕ) where
-  pub first-unread : (a : LargestAnswer) → Unread Tree (readTree first) S a → (q : Refusal) × (solve (task first second list) room ≡ turned q) × (a ≡ Refused q)
+pub tree-few : {text : List ℕ} {tree : TreeArrays} {n : ℕ} → ReadAs text tree n → tree .nodes ≤ nodeLimit
+tree-few r = let o = tree-leaves r in omega (arith, o .nodes-is, few-nodes (r .of) (o .valid))
+
+pub list-labels : {text : List ℕ} {places : LabelPlaces} (r : ListAs text places)
+    → OwnList (r .of) text (places .start) (places .size) (places .count)
+unfolding placesOf
+list-labels {text} r =
+    let a = list-accepts text (r .of) (r .is) in
+    record {
+      good = a .1;
+      different = a .2;
+      few = a .3;
+      text-is = a .0;
+      start-is = ap (λ p. p .start) (r .places-is);
+      size-is = ap (λ p. p .size) (r .places-is);
+      count-is = ap (λ p. p .count) (r .places-is);
+    }
+
+unfoldable pub bodies-of : {first second list : List ℕ} {tree1 tree2 : TreeArrays} {places : LabelPlaces} {m n : ℕ} (one : ReadAs first tree1 m)
+    (two : ReadAs second tree2 n) (three : ListAs list places) (partner : List ℕ) (most : ℕ)
+    → Partners (tree1 .nodes) (one .of) (two .of) partner → most ≡ min m n → Bodies first list tree1 tree2 partner places most
+bodies-of one two three partner most p e = record {
+  s = one .of;
+  t = two .of;
+  K = three .of;
+  one = tree-leaves one;
+  valid2 = tree-leaves two .valid;
+  first-arrays = one .arrays;
+  second-arrays = two .arrays;
+  own-list = list-labels three;
+  list-places = three .places-is;
+  partners = p;
+  bound = e ∙ ap₂ min (one .count-is) (two .count-is);
+}
+
+-- a body that is not read ends the job there, and so does a leaf that stands in only one tree of a strict job
+
+module _ (q : Task) (room : ℕ) where
+  pub first-unread : (a : LargestAnswer) → Unread Tree (readTree (q .first)) S a → (r : Refusal) × (solve q room ≡ turned r) × (a ≡ Refused r)
   unfolding solve
   first-unread a u = (record { reason = u .reason; body = S; place = u .place }, rw (u .is) refl, u .told)
 
-  pub second-unread : (s : Tree) → readTree first ≡ good s → (a : LargestAnswer) → Unread Tree (readTree second) T a
-      → (q : Refusal) × (solve (task first second list) room ≡ turned q) × (a ≡ Refused q)
+  pub second-unread : (s : Tree) → readTree (q .first) ≡ good s → (a : LargestAnswer) → Unread Tree (readTree (q .second)) T a
+      → (r : Refusal) × (solve q room ≡ turned r) × (a ≡ Refused r)
   unfolding solve
   second-unread s e a u = (record { reason = u .reason; body = T; place = u .place }, rw (e, u .is) refl, u .told)
 
-  pub list-not-read : (s t : Tree) → readTree first ≡ good s → readTree second ≡ good t → (a : LargestAnswer) → Unread (List Label) (readList list) K a
-      → (q : Refusal) × (solve (task first second list) room ≡ turned q) × (a ≡ Refused q)
-  unfolding solve
-  list-not-read s t e f a u = (record { reason = u .reason; body = K; place = u .place }, rw (e, f, u .is) refl, u .told)
+  module _ (s t : Tree) (e : readTree (q .first) ≡ good s) (f : readTree (q .second) ≡ good t) where
+    pub solve-trees : (r : Stray) → strayFor (q .options) s t ≡ r → solve q room ≡ solveShared s t room (readList (q .required)) r
+    unfolding solve
+    solve-trees r k = rw (e, f, k) refl
 
-  pub solve-reads : (s t : Tree) (xs : List Label) → Reads first second list s t xs
-      → solve (task first second list) room ≡ solutionOf s xs room (answer s t xs)
-  unfolding solve
-  solve-reads s t xs r = rw (r .first-is, r .second-is, r .list-is) refl
+    pub stray-stops : (p : Refusal) → shared.Stray p ≡ sharedOf s t (strayFor (q .options) s t) → solve q room ≡ turned p
+    unfolding sharedOf solveShared
+    stray-stops p k = go (strayFor (q .options) s t) refl k
+      where
+        go : (r : Stray) → strayFor (q .options) s t ≡ r → shared.Stray p ≡ sharedOf s t r → solve q room ≡ turned p
+        go (inFirst x) h k = let z : record { reason = NotShared; body = S; place = placeIn s 0 x } ≡ p = cc in solve-trees (inFirst x) h ∙ ap turned z
+        go (inSecond x) h k = let z : record { reason = NotShared; body = T; place = placeIn t 0 x } ≡ p = cc in solve-trees (inSecond x) h ∙ ap turned z
+        go nowhere h k = let z : _≡_ {A = ℕ} 0 1 = cc in absurd (omega arith)
+
+    pub all-shared : shared.All ≡ sharedOf s t (strayFor (q .options) s t) → strayFor (q .options) s t ≡ nowhere
+    unfolding sharedOf
+    all-shared k = go (strayFor (q .options) s t) k
+      where
+        go : (r : Stray) → shared.All ≡ sharedOf s t r → r ≡ nowhere
+        go (inFirst x) k = let z : _≡_ {A = ℕ} 0 1 = cc in absurd (omega arith)
+        go (inSecond x) k = let z : _≡_ {A = ℕ} 0 1 = cc in absurd (omega arith)
+        go nowhere k = refl
+
+    pub list-not-read : strayFor (q .options) s t ≡ nowhere → (a : LargestAnswer) → Unread (List Label) (readList (q .required)) K a
+        → (r : Refusal) × (solve q room ≡ turned r) × (a ≡ Refused r)
+    unfolding solveShared
+    list-not-read k a u =
+        (record { reason = u .reason; body = K; place = u .place }, solve-trees nowhere k ∙ (rw (u .is) refl), u .told)
+
+    pub solve-read : strayFor (q .options) s t ≡ nowhere → (xs : List Label) → readList (q .required) ≡ good xs
+        → solve q room ≡ solutionOf s xs room (answer s t xs)
+    unfolding solveShared
+    solve-read k xs g = solve-trees nowhere k ∙ (rw g refl)
+
+    pub strict-as-plain : SameLeaves s t → solve q room ≡ solve (task plain (q .first) (q .second) (q .required)) room
+    unfolding solve strayFor
+    strict-as-plain h = solve-trees nowhere (shared-nowhere (q .options) s t (λ _. h)) ∙ (rw (e, f) refl)
+
+  pub solve-reads : (s t : Tree) (xs : List Label) → Reads q s t xs → solve q room ≡ solutionOf s xs room (answer s t xs)
+  solve-reads s t xs r =
+      solve-read s t (r .first-is) (r .second-is) (shared-nowhere (q .options) s t (r .shared)) xs (r .list-is)
 
 -- a refusal comes back without a set, and the output keeps every byte
 pub turned-result : (x : Solution) (a : LargestAnswer) (q : Refusal) → x ≡ turned q → a ≡ Refused q
@@ -168,64 +238,6 @@ turned-result x a q e f = rw (e, f) refl
 pub turned-output : (x : Solution) (q : Refusal) (out : List ℕ) → x ≡ turned q → out ≡ outputOf x out
 unfolding outputOf
 turned-output x q out e = rw e refl
-
--- the trees and the list are those that the texts are read as
-pub same-reads : (first second list : List ℕ) (s t u v : Tree) (xs ys : List Label) → Reads first second list s t xs
-    → Reads first second list u v ys → (s ≡ u) × (t ≡ v) × (xs ≡ ys)
-same-reads first second list s t u v xs ys r q = (
-  same-good s u (sym (r .first-is) ∙ q .first-is),
-  same-good t v (sym (r .second-is) ∙ q .second-is),
-  same-good xs ys (sym (r .list-is) ∙ q .list-is),
-)
-
-module _ (first second list : List ℕ) (tree1 tree2 : TreeArrays) (places : LabelPlaces) (b : Bodies first second list tree1 tree2 places) where
-  pub first-valid : Valid (b .s)
-  first-valid = accepts first (b .s) (b .reads .first-is) .1
-
-  pub first-leaves : OwnLeaves (b .s) first (tree1 .left) (tree1 .start) (tree1 .size) (tree1 .nodes)
-  unfolding arraysOf
-  first-leaves =
-      record {
-        valid = first-valid;
-        text-is = accepts first (b .s) (b .reads .first-is) .0;
-        left-is = ap (λ a. a .left) (b .first-arrays);
-        start-is = ap (λ a. a .start) (b .first-arrays);
-        size-is = ap (λ a. a .size) (b .first-arrays);
-        nodes-is = ap (λ a. a .nodes) (b .first-arrays);
-      }
-
-  pub second-leaves : OwnLeaves (b .t) second (tree2 .left) (tree2 .start) (tree2 .size) (tree2 .nodes)
-  unfolding arraysOf
-  second-leaves =
-      let a = accepts second (b .t) (b .reads .second-is) in
-      record {
-        valid = a .1;
-        text-is = a .0;
-        left-is = ap (λ a. a .left) (b .second-arrays);
-        start-is = ap (λ a. a .start) (b .second-arrays);
-        size-is = ap (λ a. a .size) (b .second-arrays);
-        nodes-is = ap (λ a. a .nodes) (b .second-arrays);
-      }
-
-  pub own-list : OwnList (b .K) list (places .start) (places .size) (places .count)
-  unfolding placesOf
-  own-list =
-      let a = list-accepts list (b .K) (b .reads .list-is) in
-      record {
-        good = a .1;
-        different = a .2;
-        few = a .3;
-        text-is = a .0;
-        start-is = ap (λ p. p .start) (b .list-places);
-        size-is = ap (λ p. p .size) (b .list-places);
-        count-is = ap (λ p. p .count) (b .list-places);
-      }
-
-  pub first-few : tree1 .nodes ≤ nodeLimit
-  first-few = omega (arith, first-leaves .nodes-is, few-nodes (b .s) first-valid)
-
-  pub list-few : places .count ≤ listLimit
-  list-few = omega (arith, own-list .count-is, own-list .few)
 
 -- number 6 or 7: the first label of the list that is not common
 
@@ -347,58 +359,56 @@ clashed-output x xs a b c out e = rw e refl
 
 -- bodies that were read, with the common labels in label order and the required ones marked
 
-module _ (first second list : List ℕ) (tree1 tree2 : TreeArrays) (places : LabelPlaces) (order1 order2 : List ℕ) (m : ℕ)
-    (o : OrderedBodies first second list tree1 tree2 places order1 order2 m) (few : m ≤ 80) (number : List ℕ) (n : ℕ)
-    (marked : MarkedTo n (places .count) (common (o .bodies .s) (o .bodies .t)) (o .bodies .K) number) where
-  abbrev b : Bodies first second list tree1 tree2 places
-  b = o .bodies
+module _ {first list : List ℕ} {tree1 tree2 : TreeArrays} {partner : List ℕ} {places : LabelPlaces} {most : ℕ}
+    (b : Bodies first list tree1 tree2 partner places most) where
+  pub first-few : tree1 .nodes ≤ nodeLimit
+  first-few = omega (arith, b .one .nodes-is, few-nodes (b .s) (b .one .valid))
 
-  one : OwnLeaves (b .s) first (tree1 .left) (tree1 .start) (tree1 .size) (tree1 .nodes)
-  one = first-leaves first second list tree1 tree2 places b
+  pub list-few : places .count ≤ listLimit
+  list-few = omega (arith, b .own-list .count-is, b .own-list .few)
 
-  two : OwnLeaves (b .t) second (tree2 .left) (tree2 .start) (tree2 .size) (tree2 .nodes)
-  two = second-leaves first second list tree1 tree2 places b
+  pub most-few : most ≤ 80
+  most-few = omega (arith, b .bound, b .one .valid .few)
 
-  own : OwnList (b .K) list (places .start) (places .size) (places .count)
-  own = own-list first second list tree1 tree2 places b
+  module _ {order1 order2 : List ℕ} {m : ℕ} (o : Ordered (b .s) (b .t) order1 order2 m) (few : m ≤ 80) (number : List ℕ) (n : ℕ)
+      (marked : MarkedTo n (places .count) (common (b .s) (b .t)) (b .K) number) where
+    pub first-missing : n < places .count → FirstMissing (b .s) (b .t) (b .K) first list tree1 places n
+    first-missing l = record {
+      own = b .one;
+      own-list = b .own-list;
+      below = omega (arith, b .own-list .count-is);
+      earlier = marked .marks .inside;
+      missing = marked .stopped l;
+    }
 
-  pub first-missing : n < places .count → FirstMissing (b .s) (b .t) (b .K) first list tree1 places n
-  first-missing l = record {
-    own = one;
-    own-list = own;
-    below = omega (arith, own .count-is);
-    earlier = marked .marks .inside;
-    missing = marked .stopped l;
-  }
-
-  pub all-asked : places .count ≤ n → n ≤ places .count → AskedOf (b .s) (b .t) (b .K) first tree1 tree2 order1 order2 m number places
-  all-asked l k = record {
-    asked = record {
-      one = record {
-        valid = one .valid;
-        arrays-is = b .first-arrays;
-        ordered = common-inc (b .s) (b .t) (one .valid .different);
-        count = o .order .count;
-        few = few;
-        numbered = o .order .first;
+    pub all-asked : places .count ≤ n → n ≤ places .count → AskedOf (b .s) (b .t) (b .K) first tree1 tree2 order1 order2 m number places
+    all-asked l k = record {
+      asked = record {
+        one = record {
+          valid = b .one .valid;
+          arrays-is = b .first-arrays;
+          ordered = common-inc (b .s) (b .t) (b .one .valid .different);
+          count = o .count;
+          few = few;
+          numbered = o .first;
+        };
+        two = record {
+          valid = b .valid2;
+          arrays-is = b .second-arrays;
+          ordered = common-inc (b .s) (b .t) (b .one .valid .different);
+          count = o .count;
+          few = few;
+          numbered = o .second;
+        };
+        different = b .own-list .different;
+        few = b .own-list .few;
+        held = marked-common (b .s) (b .t) (b .K) number whole-list;
+        marked = marked-all (common (b .s) (b .t)) (b .K) number whole-list;
+        count-is = b .own-list .count-is;
       };
-      two = record {
-        valid = two .valid;
-        arrays-is = b .second-arrays;
-        ordered = common-inc (b .s) (b .t) (one .valid .different);
-        count = o .order .count;
-        few = few;
-        numbered = o .order .second;
-      };
-      different = own .different;
-      few = own .few;
-      held = marked-common (b .s) (b .t) (b .K) number whole-list;
-      marked = marked-all (common (b .s) (b .t)) (b .K) number whole-list;
-      count-is = own .count-is;
-    };
-    text-is = one .text-is;
-    list-places = b .list-places;
-  }
-    where
-      whole-list : Marks (length (b .K)) (common (b .s) (b .t)) (b .K) number
-      whole-list = let e : n ≡ length (b .K) = omega (arith, own .count-is) in rw e at (marked .marks)
+      text-is = b .one .text-is;
+      list-places = b .list-places;
+    }
+      where
+        whole-list : Marks (length (b .K)) (common (b .s) (b .t)) (b .K) number
+        whole-list = let e : n ≡ length (b .K) = omega (arith, b .own-list .count-is) in rw e at (marked .marks)

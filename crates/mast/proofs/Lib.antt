@@ -7,3 +7,4 @@ pub mod RankLaws
 pub mod RequiredLaws
 pub mod SaidLaws
 pub mod SolutionLaws
+pub mod StrayLaws

@@ -17,7 +17,7 @@ use Rattle.agreement.specs.Sets.{setOf}
 use Rattle.agreement.specs.Restrict.{restrict}
 use Rattle.agreement.specs.Places.{keptText}
 use Rattle.agreement.specs.Answer.{Answer, firstLacks, secondLacks, disagree, largest, answer}
-use Rattle.mast.specs.Largest.{Solution, solved, clashed, turned, tooShort, solutionOf, fitted, task, solve}
+use Rattle.mast.specs.Largest.{Solution, solved, clashed, turned, tooShort, solutionOf, fitted, Task, solve}
 use Rattle.trees.specs.declared.Reason.{Reason}
 use Rattle.trees.proofs.TreeLaws.{valid-proper}
 use Rattle.newick.proofs.Accepts.{accepts}
@@ -93,35 +93,35 @@ module _ {s : Tree} {xs : List Label} {room : ℕ} where
   short-only (fits Y h) e = let z : _≡_ {A = ℕ} 0 1 = cc in absurd (omega arith)
   short-only (short Y h) e = (Y, refl, h)
 
--- the same of three texts that are read
-module _ (first second list : List ℕ) (room : ℕ) (s t : Tree) (xs : List Label) (reads : Reads first second list s t xs) where
+-- the same of texts that are read
+module _ (q : Task) (room : ℕ) (s t : Tree) (xs : List Label) (reads : Reads q s t xs) where
   valid : Valid s
-  valid = accepts first s (reads .first-is) .1
+  valid = accepts (q .first) s (reads .first-is) .1
 
   different : distinct xs ≡ true
-  different = list-accepts list xs (reads .list-is) .2
+  different = list-accepts (q .required) xs (reads .list-is) .2
 
-  belonging : Belongs s xs room (answer s t xs) (solve (task first second list) room)
-  belonging = rw (solve-reads first second list room s t xs reads) (belongs s xs room (answer s t xs))
+  belonging : Belongs s xs room (answer s t xs) (solve q room)
+  belonging = rw (solve-reads q room s t xs reads) (belongs s xs room (answer s t xs))
 
-  pub outcome-decides : (A : Answer) → Outcome s t xs A → solve (task first second list) room ≡ solutionOf s xs room A
+  pub outcome-decides : (A : Answer) → Outcome s t xs A → solve q room ≡ solutionOf s xs room A
   outcome-decides A h =
-      solve-reads first second list room s t xs reads ∙ ap (solutionOf s xs room) (agreement.answer-promise s t xs (valid-proper s valid) different A .1 h)
+      solve-reads q room s t xs reads ∙ ap (solutionOf s xs room) (agreement.answer-promise s t xs (valid-proper s valid) different A .1 h)
 
   pub eight-exactly : Common s t (setOf xs)
       → ((a : Label) × (b : Label) × (c : Label) × Clash s t xs a b c)
-      ↔ ((a : Label) × (b : Label) × (c : Label) × (solve (task first second list) room ≡ clashed xs a b c))
+      ↔ ((a : Label) × (b : Label) × (c : Label) × (solve q room ≡ clashed xs a b c))
   unfolding solutionOf
   eight-exactly held = (
     λ k.
         let e = agreement.eight-promise s t xs (valid-proper s valid) different held .0 k in
-        (e .0, e .1, e .2, solve-reads first second list room s t xs reads ∙ ap (solutionOf s xs room) (e .3)),
+        (e .0, e .1, e .2, solve-reads q room s t xs reads ∙ ap (solutionOf s xs room) (e .3)),
     λ k.
         agreement.eight-promise s t xs (valid-proper s valid) different held .1
         (k .0, k .1, k .2, clashed-only (k .0) (k .1) (k .2) belonging (k .3)),
   )
 
-  pub set-exactly : (X : List Label) (text : List ℕ) → (solve (task first second list) room ≡ solved s X text) ↔ SetGiven s t xs X text room
+  pub set-exactly : (X : List Label) (text : List ℕ) → (solve q room ≡ solved s X text) ↔ SetGiven s t xs X text room
   unfolding solutionOf fitted
   set-exactly X text = (
     λ e.
@@ -131,16 +131,16 @@ module _ (first second list : List ℕ) (room : ℕ) (s t : Tree) (xs : List Lab
           isAnswer = a;
           first-text = k .1;
           second-text =
-              k .1 ∙ one-text s t (setOf X) (valid .different) (accepts second t (reads .second-is) .1 .different) (a .allowedSet .commonLeaves) (a .allowedSet .agreed);
+              k .1 ∙ one-text s t (setOf X) (valid .different) (accepts (q .second) t (reads .second-is) .1 .different) (a .allowedSet .commonLeaves) (a .allowedSet .agreed);
           fit = k .2;
         },
     λ g.
-        solve-reads first second list room s t xs reads
+        solve-reads q room s t xs reads
         ∙ ap (solutionOf s xs room) (agreement.set-promise s t xs (valid-proper s valid) different X .1 (g .isAnswer))
         ∙ (rw (← g .first-text, le-leb (length text) room (g .fit)) refl),
   )
 
-  pub nine-exactly : (solve (task first second list) room ≡ turned tooShort)
+  pub nine-exactly : (solve q room ≡ turned tooShort)
       ↔ ((X : List Label) × IsAnswer s t xs X × (room < length (keptText (restrict (setOf X) s))))
   unfolding solutionOf fitted
   nine-exactly = (
@@ -148,7 +148,7 @@ module _ (first second list : List ℕ) (room : ℕ) (s t : Tree) (xs : List Lab
         let k = short-only belonging e in
         (k .0, agreement.set-promise s t xs (valid-proper s valid) different (k .0) .0 (k .1), k .2),
     λ k.
-        solve-reads first second list room s t xs reads
+        solve-reads q room s t xs reads
         ∙ ap (solutionOf s xs room) (agreement.set-promise s t xs (valid-proper s valid) different (k .0) .1 (k .1))
         ∙ (rw (lt-leb (length (keptText (restrict (setOf (k .0)) s))) room (k .2)) refl),
   )

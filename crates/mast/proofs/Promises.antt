@@ -1,7 +1,7 @@
 -- Demand 3 of the engine's answer to three texts and an output of `room` bytes, in the scope paper's order; the contract of `largest`
 -- says that `solve` is what comes back. Assumes nothing.
 use Prim.Native.Nat.{ℕ, _<_}
-use mathlib.Core.Path.{_≡_, refl}
+use mathlib.Core.Path.{_≡_, refl, _∙_}
 use mathlib.Core.Logic.{_↔_}
 use mathlib.Core.Bool.{true}
 use mathlib.Core.List.{List, [], _++_}
@@ -14,14 +14,16 @@ use Rattle.agreement.specs.Sets.{setOf}
 use Rattle.agreement.specs.Restrict.{restrict}
 use Rattle.agreement.specs.Places.{placeIn, placeOfNumber, placeOfLabel, keptText}
 use Rattle.agreement.specs.Answer.{Answer, answer}
-use Rattle.mast.specs.Largest.{Solution, solved, clashed, turned, tooShort, solutionOf, task, solve, outputOf, largestOf, setPlaces}
+use Rattle.mast.specs.Largest.{Solution, solved, clashed, turned, tooShort, solutionOf, Task, task, plain, solveShared, solve, outputOf, largestOf, setPlaces}
 use Rattle.trees.specs.declared.Reason.{Reason}
+use Rattle.trees.specs.declared.Reason.the-variants.{NotShared}
 use Rattle.trees.specs.Reading.{good, refused}
 use Rattle.newick.specs.ReadTree.{readTree}
 use Rattle.lists.specs.ReadList.{readList, joined}
 use Rattle.agreement.specs.Closer.{holds, Common}
 use Rattle.agreement.specs.Demand.{IsAnswer, Clash}
 use Rattle.agreement.specs.Outcome.{Outcome}
+use Rattle.agreement.specs.Strict.{SameLeaves, IsStray, inFirst, inSecond, nowhere}
 use Rattle.mast.specs.Given.{Reads, SetGiven}
 use Rattle.mast.proofs.OutcomeLaws.{outcome-decides, eight-exactly, set-exactly, nine-exactly}
 use Rattle.mast.specs.declared.LargestAnswer.the-variants.{Found}
@@ -29,43 +31,62 @@ use Rattle.mast.specs.Rows.{saidOfLargest, saidOfSolution}
 use Rattle.trees.specs.Text.{textOf}
 use Rattle.trees.specs.Words.{Within}
 use Rattle.agreement.proofs.PlaceLaws.{tree-shown, list-shown, number-shown}
+use Rattle.mast.proofs.BodyLaws.{solve-trees, strict-as-plain}
 use Rattle.mast.proofs.SaidLaws.{said-exactly}
+use Rattle.mast.proofs.StrayLaws.{shared-nowhere, stray-told}
 
 -- "Order: .. S, T, K": "A body that fails to read ends the job there"
-module _ (first second list : List ℕ) (room : ℕ) (r : Reason) (i : ℕ) where
-  pub first-body : readTree first ≡ refused r i → solve (task first second list) room ≡ turned (record { reason = r; body = S; place = i })
+module _ (q : Task) (room : ℕ) (r : Reason) (i : ℕ) where
+  pub first-body : readTree (q .first) ≡ refused r i → solve q room ≡ turned (record { reason = r; body = S; place = i })
   unfolding solve
   first-body e = rw e refl
 
-  pub second-body : (s : Tree) → readTree first ≡ good s → readTree second ≡ refused r i
-      → solve (task first second list) room ≡ turned (record { reason = r; body = T; place = i })
+  pub second-body : (s : Tree) → readTree (q .first) ≡ good s → readTree (q .second) ≡ refused r i
+      → solve q room ≡ turned (record { reason = r; body = T; place = i })
   unfolding solve
   second-body s e f = rw (e, f) refl
 
-  pub third-body : (s t : Tree) → readTree first ≡ good s → readTree second ≡ good t → readList list ≡ refused r i
-      → solve (task first second list) room ≡ turned (record { reason = r; body = K; place = i })
-  unfolding solve
-  third-body s t e f g = rw (e, f, g) refl
+  pub third-body : (s t : Tree) → readTree (q .first) ≡ good s → readTree (q .second) ≡ good t → (q .options .strict ≡ true → SameLeaves s t)
+      → readList (q .required) ≡ refused r i → solve q room ≡ turned (record { reason = r; body = K; place = i })
+  unfolding solveShared
+  third-body s t e f h g = solve-trees q room s t e f nowhere (shared-nowhere (q .options) s t h) ∙ (rw g refl)
 
-module _ (first second list : List ℕ) (room : ℕ) (s t : Tree) (xs : List Label) (reads : Reads first second list s t xs) where
+-- request C-11, "after both trees are read and before K": a strict job gets number 12 at the first leaf of the first tree that the
+-- second lacks or, if there is none, at the first of the second that the first lacks
+module _ (q : Task) (room : ℕ) (s t : Tree) (e : readTree (q .first) ≡ good s) (f : readTree (q .second) ≡ good t) where
+  pub stray-in-first : q .options .strict ≡ true → (x : Label) → IsStray s t x
+      → solve q room ≡ turned (record { reason = NotShared; body = S; place = placeIn s 0 x })
+  unfolding solveShared
+  stray-in-first h x k = solve-trees q room s t e f (inFirst x) (stray-told (q .options) s t h (inFirst x) k)
+
+  pub stray-in-second : q .options .strict ≡ true → (x : Label) → ((y : Label) → holds s y ≡ true → holds t y ≡ true) → IsStray t s x
+      → solve q room ≡ turned (record { reason = NotShared; body = T; place = placeIn t 0 x })
+  unfolding solveShared
+  stray-in-second h x a k = solve-trees q room s t e f (inSecond x) (stray-told (q .options) s t h (inSecond x) (a, k))
+
+  -- where both hold the same leaves it answers as a job that is not strict: "a larger set is still impossible in both sorts"
+  pub strict-promise : SameLeaves s t → solve q room ≡ solve (task plain (q .first) (q .second) (q .required)) room
+  strict-promise = strict-as-plain q room s t e f
+
+module _ (q : Task) (room : ℕ) (s t : Tree) (xs : List Label) (reads : Reads q s t xs) where
   -- 6 or 7, then 8, then the set: whatever meets the paper's sentences on two trees and a list decides
-  pub outcome-promise : (A : Answer) → Outcome s t xs A → solve (task first second list) room ≡ solutionOf s xs room A
-  outcome-promise = outcome-decides first second list room s t xs reads
+  pub outcome-promise : (A : Answer) → Outcome s t xs A → solve q room ≡ solutionOf s xs room A
+  outcome-promise = outcome-decides q room s t xs reads
 
   -- 8 exactly if three required labels clash
   pub eight-promise : Common s t (setOf xs)
       → ((a : Label) × (b : Label) × (c : Label) × Clash s t xs a b c)
-      ↔ ((a : Label) × (b : Label) × (c : Label) × (solve (task first second list) room ≡ clashed xs a b c))
-  eight-promise = eight-exactly first second list room s t xs reads
+      ↔ ((a : Label) × (b : Label) × (c : Label) × (solve q room ≡ clashed xs a b c))
+  eight-promise = eight-exactly q room s t xs reads
 
   -- a set exactly if it is the largest, the first among equals, and the text of the common restriction fits
-  pub set-promise : (X : List Label) (text : List ℕ) → (solve (task first second list) room ≡ solved s X text) ↔ SetGiven s t xs X text room
-  set-promise = set-exactly first second list room s t xs reads
+  pub set-promise : (X : List Label) (text : List ℕ) → (solve q room ≡ solved s X text) ↔ SetGiven s t xs X text room
+  set-promise = set-exactly q room s t xs reads
 
   -- 9 last, and "only for a real lack"
-  pub nine-promise : (solve (task first second list) room ≡ turned tooShort)
+  pub nine-promise : (solve q room ≡ turned tooShort)
       ↔ ((X : List Label) × IsAnswer s t xs X × (room < length (keptText (restrict (setOf X) s))))
-  nine-promise = nine-exactly first second list room s t xs reads
+  nine-promise = nine-exactly q room s t xs reads
 
 -- "an output keeps every byte"; "On success the output holds the normal text and its further bytes are unchanged"
 pub kept-on-refusal : (q : Refusal) (out : List ℕ) → outputOf (turned q) out ≡ out

@@ -1,16 +1,15 @@
--- Three bodies that were read, as the engine hands them on. Intermediate: nothing public rests on this text.
-use Prim.Native.Nat.{ℕ, _≤_}
+-- Three bodies, turned down or read, as the engine hands them on. Intermediate: nothing public rests on this text.
+use Prim.Native.Nat.{ℕ}
 use mathlib.Core.Path.{_≡_}
 use mathlib.Core.List.{List}
+use lib.ListN.{length}
 use Rattle.trees.specs.declared.Body.{Body}
 use Rattle.trees.specs.declared.Body.the-variants.{K as listBody}
 use Rattle.trees.specs.declared.Reason.the-variants.{EndsTooSoon}
 use Rattle.trees.specs.declared.TreeArrays.{TreeArrays}
 use Rattle.trees.specs.Label.{Label}
-use Rattle.trees.specs.Tree.{Tree, leafLimit}
-use Rattle.trees.specs.Reading.{good}
+use Rattle.trees.specs.Tree.{Tree, Valid}
 use Rattle.trees.specs.Arrays.{arraysOf}
-use Rattle.newick.specs.ReadTree.{readTree}
 use Rattle.newick.specs.declared.TreeAnswer.{TreeAnswer}
 use Rattle.newick.specs.declared.TreeAnswer.the-variants.{Leaves, Refused as TreeRefused}
 use Rattle.lists.specs.declared.ListAnswer.{ListAnswer}
@@ -19,9 +18,11 @@ use Rattle.lists.specs.declared.LabelPlaces.{LabelPlaces}
 use Rattle.lists.specs.ReadList.{placesOf}
 use Rattle.mast.specs.declared.LargestAnswer.{LargestAnswer}
 use Rattle.mast.specs.declared.LargestAnswer.the-variants.{Refused}
-use Rattle.mast.specs.Given.{Reads}
-use Rattle.mast.specs.Engine.{Ordered}
-use Rattle.mast.specs.Ranks.{mostCommon}
+use Rattle.mast.specs.declared.LargestResult.{LargestResult}
+use Rattle.agreement.specs.Answer.{answer}
+use Rattle.mast.specs.Largest.{solutionOf, largestOf, outputOf}
+use Rattle.mast.specs.Engine.{OwnLeaves, OwnList}
+use Rattle.mast.specs.Ranks.{Partners, mostCommon}
 
 -- a refusal, where a text was read after all: it does not come there
 unfoldable pub unreadBody : Body → LargestAnswer
@@ -38,23 +39,21 @@ unfolding unreadBody
 unreadList (Labels n) = unreadBody listBody
 unreadList (ListRefused q) = Refused q
 
--- they are read, and these are their arrays and places
-pub record Bodies (first second list : List ℕ) (tree1 tree2 : TreeArrays) (places : LabelPlaces) : Type 0 where
+-- two trees and a list that were read: what the engine's parts are handed of them
+pub record Bodies (first list : List ℕ) (tree1 tree2 : TreeArrays) (partner : List ℕ) (places : LabelPlaces) (most : ℕ) : Type 0 where
   pub s : Tree
   pub t : Tree
   pub K : List Label
-  pub reads : Reads first second list s t K
+  pub one : OwnLeaves s first (tree1 .left) (tree1 .start) (tree1 .size) (tree1 .nodes)
+  pub valid2 : Valid t
   pub first-arrays : tree1 ≡ arraysOf s
   pub second-arrays : tree2 ≡ arraysOf t
+  pub own-list : OwnList K list (places .start) (places .size) (places .count)
   pub list-places : places ≡ placesOf K
+  pub partners : Partners (tree1 .nodes) s t partner
+  pub bound : most ≡ mostCommon s t
 
--- the smaller count of leaves of the two trees that the texts are read as
-pub record Bounded (first second : List ℕ) (most : ℕ) : Type 0 where
-  pub few : most ≤ leafLimit
-  pub is : (s t : Tree) → readTree first ≡ good s → readTree second ≡ good t → most ≡ mostCommon s t
-
--- with the common labels by their leaves
-pub record OrderedBodies (first second list : List ℕ) (tree1 tree2 : TreeArrays) (places : LabelPlaces) (order1 order2 : List ℕ) (m : ℕ)
-    : Type 0 where
-  pub bodies : Bodies first second list tree1 tree2 places
-  pub order : Ordered (bodies .s) (bodies .t) order1 order2 m
+-- the answer to them: what comes back, and what the output then holds
+pub record Settled (s t : Tree) (K : List Label) (out new : List ℕ) (r : LargestResult) : Type 0 where
+  pub result : r ≡ largestOf (solutionOf s K (length out) (answer s t K))
+  pub output : new ≡ outputOf (solutionOf s K (length out) (answer s t K)) out

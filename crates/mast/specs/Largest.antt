@@ -1,10 +1,10 @@
 -- The engine's answer to three texts and an output. Scope paper: "Job and printed result", "Why a job is turned down".
 use Prim.Native.Nat.{ℕ}
-use mathlib.Core.Bool.{cond}
+use mathlib.Core.Bool.{false, cond}
 use mathlib.Core.List.{List, [], _++_, map}
 use lib.Dec.{leb}
 use lib.ListN.{length, drop}
-use Rattle.trees.specs.declared.Reason.the-variants.{FirstLacks, SecondLacks, TooShort}
+use Rattle.trees.specs.declared.Reason.the-variants.{FirstLacks, SecondLacks, TooShort, NotShared}
 use Rattle.trees.specs.declared.Body.the-variants.{S, T, K, O}
 use Rattle.trees.specs.declared.Refusal.{Refusal}
 use Rattle.trees.specs.Label.{Label}
@@ -17,8 +17,10 @@ use Rattle.agreement.specs.Sets.{setOf}
 use Rattle.agreement.specs.Restrict.{restrict}
 use Rattle.agreement.specs.Answer.{Answer, firstLacks, secondLacks, disagree, largest, answer}
 use Rattle.agreement.specs.Places.{placeIn, placeOfNumber, placeOfLabel, keptText}
+use Rattle.agreement.specs.Strict.{Stray, inFirst, inSecond, nowhere, strayOf}
 use Rattle.mast.specs.declared.LargestAnswer.the-variants.{Found, Disagree, Refused}
 use Rattle.mast.specs.declared.LargestResult.{LargestResult}
+use Rattle.mast.specs.declared.Options.{Options}
 
 -- what a job comes to
 pub data Solution : Type 0 where
@@ -49,20 +51,29 @@ unfolding solutionOf
 solveList s t room (good xs) = solutionOf s xs room (answer s t xs)
 solveList s t room (refused r i) = turned (record { reason = r; body = K; place = i })
 
-unfoldable pub solveSecond : Tree → ℕ → Reading Tree → Reading (List Label) → Solution
-unfolding solveList
-solveSecond s room (good t) list = solveList s t room list
-solveSecond s room (refused r i) list = turned (record { reason = r; body = T; place = i })
+-- request C-11: "a leaf that stands in only one tree stops the job", where the job is strict
+unfoldable pub strayFor : Options → Tree → Tree → Stray
+unfolding strayOf
+strayFor o s t = cond (o .strict) (strayOf s t) nowhere
+
+-- it gets number 12, "with the letter and place of the first such leaf in S or, if S has none, in T"
+unfoldable pub solveShared : Tree → Tree → ℕ → Reading (List Label) → Stray → Solution
+unfolding solveList placeIn
+solveShared s t room list (inFirst x) = turned (record { reason = NotShared; body = S; place = placeIn s 0 x })
+solveShared s t room list (inSecond x) = turned (record { reason = NotShared; body = T; place = placeIn t 0 x })
+solveShared s t room list nowhere = solveList s t room list
+
+-- 12 is told "after both trees are read and before K"
+unfoldable pub solveSecond : Options → Tree → ℕ → Reading Tree → Reading (List Label) → Solution
+unfolding solveShared strayFor
+solveSecond o s room (good t) list = solveShared s t room list (strayFor o s t)
+solveSecond o s room (refused r i) list = turned (record { reason = r; body = T; place = i })
 
 -- "Order: .. S, T, K, then 6 or 7, then 8, then 9 for the output. A body that fails to read ends the job there."
-unfoldable pub solveFirst : ℕ → Reading Tree → Reading Tree → Reading (List Label) → Solution
+unfoldable pub solveFirst : Options → ℕ → Reading Tree → Reading Tree → Reading (List Label) → Solution
 unfolding solveSecond
-solveFirst room (good s) second list = solveSecond s room second list
-solveFirst room (refused r i) second list = turned (record { reason = r; body = S; place = i })
-
--- what is asked of the engine beside its texts: nothing so far
-pub data Options : Type 0 where
-  plain : Options
+solveFirst o room (good s) second list = solveSecond o s room second list
+solveFirst o room (refused r i) second list = turned (record { reason = r; body = S; place = i })
 
 -- what is asked of the engine
 pub record Task : Type 0 where
@@ -71,12 +82,16 @@ pub record Task : Type 0 where
   pub second : List ℕ
   pub required : List ℕ
 
-abbrev pub task : List ℕ → List ℕ → List ℕ → Task
-task first second required = record { options = plain; first = first; second = second; required = required }
+abbrev pub task : Options → List ℕ → List ℕ → List ℕ → Task
+task options first second required = record { options = options; first = first; second = second; required = required }
+
+-- nothing is asked beside the texts
+abbrev pub plain : Options
+plain = record { strict = false }
 
 unfoldable pub solve : Task → ℕ → Solution
 unfolding solveFirst
-solve q room = solveFirst room (readTree (q .first)) (readTree (q .second)) (readList (q .required))
+solve q room = solveFirst (q .options) room (readTree (q .first)) (readTree (q .second)) (readList (q .required))
 
 -- where the labels of a set stand in the first tree's text, in label order
 unfoldable pub setPlaces : Tree → List Label → LabelPlaces

@@ -7,3 +7,4 @@ pub mod Largest
 pub mod Ranks
 pub mod Required
 pub mod Rows
+pub mod Strays

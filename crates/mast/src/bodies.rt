@@ -5,22 +5,22 @@ ghost use mathlib.Core.Path.{_≡_};
 ghost use mathlib.Core.Bool.{cond};
 ghost use mathlib.Core.List.{List};
 ghost use Prim.Native.Nat.{ℕ, _<_, _≤_};
-ghost use lib.ListN.{length};
 ghost use Rattle.trees.specs.Label.{Label};
-ghost use Rattle.trees.specs.Tree.{Tree};
+ghost use Rattle.trees.specs.Tree.{Tree, Valid};
 ghost use Rattle.trees.specs.declared.Reason.the-variants.{FirstLacks, SecondLacks};
 ghost use Rattle.agreement.specs.Answer.{answer};
-ghost use Rattle.mast.specs.Largest.{clashed, solutionOf, task, solve, largestOf, outputOf};
+ghost use Rattle.mast.specs.Largest.{clashed, solutionOf, largestOf};
+ghost use Rattle.mast.specs.Engine.{OwnLeaves, Ordered};
+ghost use Rattle.mast.specs.Ranks.{Partners, mostCommon};
 ghost use Rattle.table.specs.Choice.{Solved};
 ghost use Rattle.mast.specs.Asked.{Asked, Clashes, SomeTree, SomeClash, FirstMissing};
-ghost use Rattle.mast.specs.Bodies.{Bodies, Bounded, OrderedBodies};
+ghost use Rattle.mast.specs.Bodies.{Bodies, Settled};
 use crate::LargestAnswer;
 use crate::LargestResult;
 use crate::finish::solution;
 use crate::finish::without_set;
 use crate::ranks::NO_RANK;
 use crate::ranks::common_order;
-use crate::ranks::partners;
 use crate::ranks::rank_leaves;
 use crate::required::clash_places;
 use crate::required::entries_at;
@@ -40,22 +40,20 @@ use trees::TreeArrays;
 fn order_in(
     first: &[u8],
     tree1: TreeArrays,
-    second: &[u8],
-    tree2: TreeArrays,
+    partner: &[usize; NODE_LIMIT],
     order1: &mut [usize; LEAF_LIMIT],
     order2: &mut [usize; LEAF_LIMIT],
     most: usize,
 ) -> usize
     requires { ⌜ (tree1 .nodes ≤ 159) × (most ≤ 80) ⌝ }
     ensures { λ r. ⌜ r ≤ 80 ⌝ }
-    ensures { λ r. ⌜ ((list : List ℕ) (places : LabelPlaces)
-        → Bodies (now (first .entry)) (now (second .entry)) list tree1 tree2 places
-        → Bounded (now (first .entry)) (now (second .entry)) most
-        → OrderedBodies (now (first .entry)) (now (second .entry)) list tree1 tree2 places (now (order1 .exit)) (now (order2 .exit)) r) ⌝ }
+    ensures { λ r. ⌜ ((s t : Tree)
+        → OwnLeaves s (now (first .entry)) (tree1 .left) (tree1 .start) (tree1 .size) (tree1 .nodes) → Valid t
+        → most ≡ mostCommon s t → Partners (tree1 .nodes) s t (now (partner .entry))
+        → Ordered s t (now (order1 .exit)) (now (order2 .exit)) r) ⌝ }
 {
-    let partner = partners(first, tree1, second, tree2);
-    let m = common_order(first, tree1, &partner, order1, most);
-    *order2 = entries_at(order1, &partner, m);
+    let m = common_order(first, tree1, partner, order1, most);
+    *order2 = entries_at(order1, partner, m);
     m
 }
 
@@ -140,23 +138,20 @@ fn lacks(
 pub(crate) fn answer_bodies(
     first: &[u8],
     tree1: TreeArrays,
-    second: &[u8],
     tree2: TreeArrays,
+    partner: &[usize; NODE_LIMIT],
     list: &[u8],
     places: LabelPlaces,
     most: usize,
     out: &mut [u8],
 ) -> LargestResult
-    requires { ⌜ Bodies (now first) (now second) (now list) tree1 tree2 places ⌝ }
-    requires { ⌜ Bounded (now first) (now second) most ⌝ }
-    ensures answer { λ r.
-        ⌜ r ≡ largestOf (solve (task (now (first .entry)) (now (second .entry)) (now (list .entry))) (length (now (out .entry)))) ⌝ }
-    ensures output { λ _. ⌜ now (out .exit)
-        ≡ outputOf (solve (task (now (first .entry)) (now (second .entry)) (now (list .entry))) (length (now (out .entry)))) (now (out .entry)) ⌝ }
+    requires { ⌜ Bodies (now first) (now list) tree1 tree2 (now partner) places most ⌝ }
+    ensures { λ r. ⌜ ((b : Bodies (now (first .entry)) (now (list .entry)) tree1 tree2 (now (partner .entry)) places most)
+        → Settled (b .s) (b .t) (b .K) (now (out .entry)) (now (out .exit)) r) ⌝ }
 {
     let mut order1 = [0usize; LEAF_LIMIT];
     let mut order2 = [0usize; LEAF_LIMIT];
-    let m = order_in(first, tree1, second, tree2, &mut order1, &mut order2, most);
+    let m = order_in(first, tree1, partner, &mut order1, &mut order2, most);
     let mut number = [0u8; RANKS];
     let n = mark_required(first, tree1, &order1, m, list, places, &mut number);
     if n < places.count {

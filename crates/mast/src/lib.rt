@@ -1,10 +1,16 @@
 // The engine: the largest agreement set of two trees that holds a required list, the first in label order among equals.
 //
 // No public function has a `requires`.
+use crate::bodies::answer_bodies;
+use crate::finish::without_set;
+use crate::ranks::NONE;
+use crate::strict::Shared;
+use crate::strict::pair_leaves;
 use lists::LabelPlaces;
 use lists::ListAnswer;
 use newick::TreeAnswer;
 use trees::Body;
+use trees::NODE_LIMIT;
 use trees::Reason;
 use trees::Refusal;
 ghost use mathlib.Core.Path.{_≡_};
@@ -19,6 +25,13 @@ mod bodies;
 mod finish;
 mod ranks;
 mod required;
+mod strict;
+
+// What is asked beside the texts.
+pub struct Options {
+    // A leaf that stands in only one tree stops the job.
+    pub strict: bool,
+}
 
 // The size of the set and the length of its tree's text; the places in the list of three required labels that have different
 // closer pairs (number 8); or why the job was turned down.
@@ -38,7 +51,7 @@ pub struct LargestResult {
 fn unread(body: Body) -> LargestResult
     ensures { λ r. ⌜ r ≡ resultFrom (unreadBody body) (placesOf []) ⌝ }
 {
-    finish::without_set(LargestAnswer::Refused(Refusal {
+    without_set(LargestAnswer::Refused(Refusal {
         reason: Reason::EndsTooSoon,
         body,
         place: 0,
@@ -51,7 +64,7 @@ fn unread_tree(answer: TreeAnswer, body: Body) -> LargestResult
 {
     match answer {
         TreeAnswer::Leaves(_) => unread(body),
-        TreeAnswer::Refused(refusal) => finish::without_set(LargestAnswer::Refused(refusal)),
+        TreeAnswer::Refused(refusal) => without_set(LargestAnswer::Refused(refusal)),
     }
 }
 
@@ -61,18 +74,26 @@ fn unread_list(answer: ListAnswer) -> LargestResult
 {
     match answer {
         ListAnswer::Labels(_) => unread(Body::K),
-        ListAnswer::Refused(refusal) => finish::without_set(LargestAnswer::Refused(refusal)),
+        ListAnswer::Refused(refusal) => without_set(LargestAnswer::Refused(refusal)),
     }
 }
 
 // The largest set of common leaves that holds the required ones and on which the trees agree, the first in label order among
-// equals: its size and places, and the normal text of its restriction in `out`. Refusals are told in the order S, T, K, 6 or 7,
-// 8, 9, and `out` then keeps every byte.
-pub fn largest(first: &[u8], second: &[u8], required: &[u8], out: &mut [u8]) -> LargestResult
+// equals: its size and places, and the normal text of its restriction in `out`. Refusals are told in the order S, T, 12 if the
+// options are strict, K, 6 or 7, 8, 9, and `out` then keeps every byte.
+pub fn largest(
+    options: Options,
+    first: &[u8],
+    second: &[u8],
+    required: &[u8],
+    out: &mut [u8],
+) -> LargestResult
     ensures answer { λ r.
-        ⌜ r ≡ largestOf (solve (task (now (first .entry)) (now (second .entry)) (now (required .entry))) (length (now (out .entry)))) ⌝ }
+        ⌜ r ≡ largestOf
+        (solve (task options (now (first .entry)) (now (second .entry)) (now (required .entry))) (length (now (out .entry)))) ⌝ }
     ensures output { λ _. ⌜ now (out .exit)
-        ≡ outputOf (solve (task (now (first .entry)) (now (second .entry)) (now (required .entry))) (length (now (out .entry))))
+        ≡ outputOf
+        (solve (task options (now (first .entry)) (now (second .entry)) (now (required .entry))) (length (now (out .entry))))
         (now (out .entry)) ⌝ }
 {
     let one = newick::read_tree(first, Body::S);
@@ -85,14 +106,19 @@ pub fn largest(first: &[u8], second: &[u8], required: &[u8], out: &mut [u8]) -> 
     let TreeAnswer::Leaves(leaves2) = answer2 else {
         return unread_tree(answer2, Body::T);
     };
+    let tree1 = one.tree;
+    let tree2 = two.tree;
+    let mut partner = [NONE; NODE_LIMIT];
+    let shared = pair_leaves(options, first, tree1, second, tree2, &mut partner);
+    if let Shared::Stray(refusal) = shared {
+        return without_set(LargestAnswer::Refused(refusal));
+    }
     let list = lists::read_list(required, Body::K);
     let answer3 = list.answer;
     let ListAnswer::Labels(_) = answer3 else {
         return unread_list(answer3);
     };
-    let tree1 = one.tree;
-    let tree2 = two.tree;
     let places = list.places;
     let most = trees::least(leaves1, leaves2);
-    bodies::answer_bodies(first, tree1, second, tree2, required, places, most, out)
+    answer_bodies(first, tree1, tree2, &partner, required, places, most, out)
 }

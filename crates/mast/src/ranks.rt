@@ -25,7 +25,7 @@ use trees::TreeArrays;
 pub(crate) const NO_RANK: usize = LEAF_LIMIT;
 
 // No node has this number.
-const NONE: usize = NODE_LIMIT;
+pub(crate) const NONE: usize = NODE_LIMIT;
 
 // The number of the leaf with this label, or NONE; an inner node's label has no bytes and is not looked for.
 fn look_up(
@@ -147,7 +147,7 @@ fn insert_leaf(
 }
 
 // The partner v of node u, where u is a leaf: its own left child.
-fn leaf_partner(child: usize, u: usize, v: usize) -> usize
+pub(crate) fn leaf_partner(child: usize, u: usize, v: usize) -> usize
     ensures { λ r. ⌜ r ≡ cond (eqb child u) v 159 ⌝ }
 {
     if child == u { v } else { NONE }
@@ -211,12 +211,12 @@ pub(crate) fn common_order(
     m
 }
 
-// The rank r for leaf u. The test is for safety alone: a tree has no node past 158.
-fn put_rank(rank: &mut [usize; NODE_LIMIT], u: usize, r: usize)
-    ensures { λ _. ⌜ (length (now (rank .entry)) ≡ 159 → now (rank .exit) ≡ set (now (rank .entry)) u r) ⌝ }
+// The number n for node u. The test is for safety alone: a tree has no node past 158.
+pub(crate) fn put_at(column: &mut [usize; NODE_LIMIT], u: usize, n: usize)
+    ensures { λ _. ⌜ (length (now (column .entry)) ≡ 159 → now (column .exit) ≡ set (now (column .entry)) u n) ⌝ }
 {
     if u < NODE_LIMIT {
-        rank[u] = r;
+        column[u] = n;
     }
 }
 
@@ -229,7 +229,7 @@ pub(crate) fn rank_leaves(order: &[usize; LEAF_LIMIT], m: usize, rank: &mut [usi
     *rank = [NO_RANK; NODE_LIMIT];
     let mut r: usize = 0;
     while r < m {
-        put_rank(rank, order[r], r);
+        put_at(rank, order[r], r);
         r += 1;
     }
 }

@@ -1,8 +1,9 @@
--- The numbers of the reasons and the letters of the bodies. Scope paper, "Why a job is turned down".
+-- The numbers of the reasons and the letters of the bodies. Scope paper, "Why a job is turned down"; "Each number that a request adds
+-- is a row of 01's table" (request paper, C-11).
 use Prim.Native.Nat.{ℕ}
 use Rattle.trees.specs.declared.Refusal.{Refusal}
 use Rattle.trees.specs.declared.Reason.{Reason}
-use Rattle.trees.specs.declared.Reason.the-variants.{BadByte, EndsTooSoon, LabelTooLong, TooMany, Repeated, FirstLacks, SecondLacks, Disagree, TooShort, Contents, JobTooLong}
+use Rattle.trees.specs.declared.Reason.the-variants.{BadByte, EndsTooSoon, LabelTooLong, TooMany, Repeated, FirstLacks, SecondLacks, Disagree, TooShort, Contents, JobTooLong, NotShared}
 use Rattle.trees.specs.declared.Body.{Body}
 use Rattle.trees.specs.declared.Body.the-variants.{S, T, K, J, O}
 
@@ -18,6 +19,8 @@ numberOf Disagree = 8
 numberOf TooShort = 9
 numberOf Contents = 10
 numberOf JobTooLong = 11
+-- C-11: a leaf that stands in only one tree of a job that wants both to hold the same leaves
+numberOf NotShared = 12
 
 -- the letter's byte: S, T, K, J, O
 unfoldable pub letterOf : Body → ℕ

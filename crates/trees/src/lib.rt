@@ -51,6 +51,7 @@ pub enum Reason {
     TooShort,
     Contents,
     JobTooLong,
+    NotShared,
 }
 
 // The body that a refusal speaks of.
@@ -384,6 +385,7 @@ pub fn number(r: Reason) -> u8
         Reason::TooShort => 9,
         Reason::Contents => 10,
         Reason::JobTooLong => 11,
+        Reason::NotShared => 12,
     }
 }
 

@@ -1,126 +1,120 @@
 //! Random bodies and jobs through the archive, compared with the oracle: numbers, the text's bytes, and every byte that must stay.
 
-use crate::engine::{self, largest, AgreeResult};
-use oracle::agree::{restrict, Answer, Label};
+use crate::engine::{self, AgreeResult, FLAGS, STRICT};
+use oracle::bodies::{answer, refused};
 use oracle::families::{families, long_labels, short_labels};
-use oracle::job::{job, printed};
-use oracle::jobs::{damaged, large_bodies, small_bodies};
+use oracle::job::{job, lines, strict};
+use oracle::jobs::{alike_bodies, damaged, large_bodies, small_bodies};
 use oracle::limits::{LEAVES, LINES, TREE_TEXT};
 use oracle::random::Random;
-use oracle::text::{is_label_byte, read_list, read_tree, Fault};
-use oracle::{agree, fast};
+use oracle::text::is_label_byte;
 
 const FILL: u8 = 0x5a;
 
-fn refusal(number: usize, letter: u8, place: usize) -> AgreeResult {
-    AgreeResult { number, letter: letter as usize, place, size: 0, length: 0, first: 0, second: 0, third: 0 }
+/// What a call must come to: the size and the text of an answer, or the line of a refusal.
+type Wanted = Result<(usize, Vec<u8>), String>;
+
+/// The label of the list that begins at a place of a text; the list is the last part of it, after a `;` or alone.
+fn label_at(text: &[u8], at: usize) -> String {
+    let (before, rest) = text.split_at(at);
+    let begins = !before.last().is_some_and(|&b| is_label_byte(b));
+    assert!(begins && !rest.contains(&b';'), "no label of the list begins at {at}");
+    rest.iter().take_while(|&&b| is_label_byte(b)).map(|&b| b as char).collect()
 }
 
-fn place(list: &[Label], i: usize) -> usize {
-    list[..i].iter().map(|x| x.len() + 1).sum()
+/// The line of a refusal, from the numbers that came back for a text; those without a meaning there must be 0.
+fn line(text: &[u8], r: &AgreeResult) -> String {
+    let head = refused(r.number.try_into().unwrap(), u8::try_from(r.letter).unwrap() as char, r.place);
+    let three = [r.first, r.second, r.third];
+    if r.number == 8 && [r.size, r.length] == [0; 2] {
+        return format!("{head} {}", three.map(|at| label_at(text, at)).join(","));
+    }
+    if [r.size, r.length] == [0; 2] && three == [0; 3] {
+        head
+    } else {
+        format!("{r:?}")
+    }
 }
 
-/// What must come back, and the text that must stand in an output of `room` bytes.
-fn expected(bodies: &[Vec<u8>; 3], room: usize) -> (AgreeResult, Vec<u8>) {
-    let fault = |f: Fault, letter: u8| refusal(f.number as usize, letter, f.place);
-    let answer = || -> Result<(Vec<Label>, Vec<u8>), AgreeResult> {
-        let s = read_tree(&bodies[0]).map_err(|f| fault(f, b'S'))?;
-        let t = read_tree(&bodies[1]).map_err(|f| fault(f, b'T'))?;
-        let k = read_list(&bodies[2]).map_err(|f| fault(f, b'K'))?;
-        let few = agree::common(&s, &t).len() <= 9;
-        match if few { agree::by_trying_all(&s, &t, &k) } else { fast::answer(&s, &t, &k) } {
-            Answer::FirstLacks(i) => Err(refusal(6, b'K', place(&k, i))),
-            Answer::SecondLacks(i) => Err(refusal(7, b'K', place(&k, i))),
-            Answer::Disagree(a, b, c) => {
-                let at = |x: &Label| place(&k, k.iter().position(|y| y == x).unwrap());
-                Err(AgreeResult { first: at(&a), second: at(&b), third: at(&c), ..refusal(8, b'K', 0) })
-            }
-            Answer::Set(set) => {
-                let text = restrict(&s, &set).map_or(Vec::new(), |r| r.normal_text());
-                Ok((set, text))
-            }
+/// One call with an output of `room` bytes. `text` is that in which number 8 has its places.
+fn check(wanted: &Wanted, text: &[u8], room: usize, shown: &str, call: impl FnOnce(&mut [u8]) -> AgreeResult) {
+    let mut area = vec![FILL; 2 * TREE_TEXT + LINES];
+    let got = call(&mut area[..room]);
+    let written = match wanted {
+        Ok((size, written)) if written.len() <= room => {
+            assert_eq!(got, AgreeResult { size: *size, length: written.len(), ..Default::default() }, "{shown}, output of {room} bytes");
+            &written[..]
+        }
+        refusal => {
+            let wanted = refusal.as_ref().err().cloned().unwrap_or(refused(9, 'O', 0));
+            assert_eq!(line(text, &got), wanted, "{shown}, output of {room} bytes");
+            &[]
         }
     };
-    match answer() {
-        Err(r) => (r, Vec::new()),
-        Ok((_, text)) if text.len() > room => (refusal(9, b'O', 0), Vec::new()),
-        Ok((set, text)) => (AgreeResult { size: set.len(), length: text.len(), ..refusal(0, 0, 0) }, text),
-    }
+    assert_eq!(&area[..written.len()], written, "the text for {shown}");
+    assert!(area[written.len()..].iter().all(|&b| b == FILL), "a byte that must stay, for {shown}");
 }
 
-fn check(bodies: &[Vec<u8>; 3], room: usize) {
-    let mut area = vec![FILL; TREE_TEXT + 500];
-    let got = largest(&bodies[0], &bodies[1], &bodies[2], &mut area[..room]);
-    let (want, text) = expected(bodies, room);
-    let show = || bodies.iter().map(|b| String::from_utf8_lossy(b).into_owned()).collect::<Vec<_>>();
-    assert_eq!(got, want, "bodies {:?}, output of {room} bytes", show());
-    assert_eq!(&area[..text.len()], &text[..], "the text for {:?}", show());
-    assert!(area[text.len()..].iter().all(|&b| b == FILL), "a byte that must stay, for {:?}", show());
-}
-
-/// The label that begins at a place of a job.
-fn label_at(job: &[u8], at: usize) -> String {
-    let bytes = job[at..].iter().take_while(|&&b| is_label_byte(b));
-    bytes.map(|&b| b as char).collect()
-}
-
-/// The line of a refusal, from the numbers that came back.
-fn line(job: &[u8], r: &AgreeResult) -> String {
-    let head = format!("refused {} {} {}", r.number, r.letter as u8 as char, r.place);
-    if r.number == 8 {
-        let three = [r.first, r.second, r.third].map(|at| label_at(job, at));
-        return format!("{head} {}\n", three.join(","));
-    }
-    assert_eq!([r.first, r.second, r.third], [0; 3]);
-    format!("{head}\n")
-}
-
-fn check_job(job: &[u8], room: usize) {
-    let mut area = vec![FILL; 2 * TREE_TEXT + LINES];
-    let got = engine::job(job, &mut area[..room]);
-    let want = printed(job);
-    let show = || String::from_utf8_lossy(job).into_owned();
-    let answered = want.starts_with(b"size ");
-    if answered && want.len() <= room {
-        let expected = AgreeResult { length: want.len(), ..refusal(0, 0, 0) };
-        assert_eq!(got, expected, "job {:?}, output of {room} bytes", show());
-        assert_eq!(&area[..want.len()], &want[..], "the lines for {:?}", show());
+/// Options of which some bits mean nothing.
+fn unknown(r: &mut Random) -> usize {
+    let bits = match r.below(4) {
+        0 => usize::MAX,
+        1 => r.next() as usize,
+        _ => 1 << r.below(usize::BITS as usize),
+    };
+    if bits & !FLAGS == 0 {
+        !FLAGS
     } else {
-        let wanted = if answered { "refused 9 O 0\n".to_string() } else { String::from_utf8(want).unwrap() };
-        assert_eq!(line(job, &got), wanted, "job {:?}, output of {room} bytes", show());
-        assert_eq!([got.size, got.length], [0; 2]);
+        bits
     }
-    assert!(area[got.length..].iter().all(|&b| b == FILL), "a byte that must stay, for {:?}", show());
 }
 
-/// One case, through both entries, with outputs that sometimes are too short.
-fn check_both(r: &mut Random, bodies: &[Vec<u8>; 3], greatest: usize) {
+/// One case, through all entries, with outputs that sometimes are too short.
+fn check_all(r: &mut Random, bodies: &[Vec<u8>; 3], greatest: usize) {
+    let texts = bodies.each_ref().map(|x| &x[..]);
+    let answered = |strict: bool| -> Wanted { answer(strict, texts).map(|(set, text)| (set.len(), text)) };
+    let shown = format!("bodies {:?}", texts.map(String::from_utf8_lossy));
     let room = if r.below(3) == 0 { r.below(greatest) } else { TREE_TEXT };
-    check(bodies, room);
-    let whole = job(&bodies[0], &bodies[1], &bodies[2]);
-    let whole = if r.below(8) == 0 { damaged(r, &whole) } else { whole };
+    let plain = answered(false);
+    check(&plain, texts[2], room, &shown, |out| engine::largest(texts, out));
+    let mut calls = vec![(0, plain), (STRICT, answered(true))];
+    if r.below(4) == 0 {
+        calls.push((unknown(r), Err(refused(10, 'J', 0))));
+    }
+    for (options, wanted) in calls {
+        let shown = format!("options {options}, {shown}");
+        check(&wanted, texts[2], room, &shown, |out| engine::largest_with(options, texts, out));
+    }
+    let mut whole = job(texts[0], texts[1], texts[2]);
+    if r.below(2) == 0 {
+        whole = strict(&whole);
+    }
+    if r.below(8) == 0 {
+        whole = damaged(r, &whole);
+    }
     let room = if r.below(3) == 0 { r.below(2 * greatest) } else { LINES };
-    check_job(&whole, room);
+    let wanted = lines(&whole).map(|x| (0, [x.as_bytes(), b"\n"].concat()));
+    check(&wanted, &whole, room, &format!("job {:?}", String::from_utf8_lossy(&whole)), |out| engine::job(&whole, out));
 }
 
 pub fn run(count: u64, seed: u64) {
     let mut r = Random(seed);
-    for _ in 0..count {
-        let mut bodies = small_bodies(&mut r);
+    for i in 0..count {
+        let mut bodies = if i % 2 == 0 { small_bodies(&mut r) } else { alike_bodies(&mut r, 9) };
         if r.below(5) == 0 {
             let i = r.below(3);
             bodies[i] = damaged(&mut r, &bodies[i].clone());
         }
-        check_both(&mut r, &bodies, 40);
+        check_all(&mut r, &bodies, 40);
     }
-    for _ in 0..count / 10 {
-        let bodies = large_bodies(&mut r);
-        check_both(&mut r, &bodies, 400);
+    for i in 0..count / 10 {
+        let bodies = if i % 2 == 0 { large_bodies(&mut r) } else { alike_bodies(&mut r, LEAVES) };
+        check_all(&mut r, &bodies, 400);
     }
     for i in 0..count / 1000 {
         let xs = if i % 2 == 0 { short_labels(LEAVES) } else { long_labels(LEAVES) };
         for f in families(&mut r, &xs) {
-            check_both(&mut r, &[f.first.text(), f.second.text(), f.list()], TREE_TEXT);
+            check_all(&mut r, &[f.first.text(), f.second.text(), f.list()], TREE_TEXT);
         }
     }
     println!("{count} small cases from seed {seed}, {} large ones and {} times each family: the same", count / 10, count / 1000);

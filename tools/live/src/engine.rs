@@ -1,7 +1,7 @@
 //! The engine's C entries, in safe functions.
 
 #[repr(C)]
-#[derive(Clone, Copy, Debug, PartialEq)]
+#[derive(Clone, Copy, Debug, Default, PartialEq)]
 pub struct AgreeResult {
     pub number: usize,
     pub letter: usize,
@@ -12,6 +12,10 @@ pub struct AgreeResult {
     pub second: usize,
     pub third: usize,
 }
+
+/// The flags of `options`, and all bits that have a meaning there.
+pub const STRICT: usize = 1;
+pub const FLAGS: usize = STRICT;
 
 extern "C" {
     fn agree_largest(
@@ -24,13 +28,41 @@ extern "C" {
         out: *mut u8,
         out_length: usize,
     ) -> AgreeResult;
+    fn agree_largest_with(
+        options: usize,
+        first: *const u8,
+        first_length: usize,
+        second: *const u8,
+        second_length: usize,
+        required: *const u8,
+        required_length: usize,
+        out: *mut u8,
+        out_length: usize,
+    ) -> AgreeResult;
     fn agree_job(job: *const u8, job_length: usize, out: *mut u8, out_length: usize) -> AgreeResult;
 }
 
-pub fn largest(first: &[u8], second: &[u8], required: &[u8], out: &mut [u8]) -> AgreeResult {
+pub fn largest([first, second, required]: [&[u8]; 3], out: &mut [u8]) -> AgreeResult {
     // The entry has no precondition: it takes any bytes and writes inside `out` only.
     unsafe {
         agree_largest(
+            first.as_ptr(),
+            first.len(),
+            second.as_ptr(),
+            second.len(),
+            required.as_ptr(),
+            required.len(),
+            out.as_mut_ptr(),
+            out.len(),
+        )
+    }
+}
+
+pub fn largest_with(options: usize, [first, second, required]: [&[u8]; 3], out: &mut [u8]) -> AgreeResult {
+    // As above.
+    unsafe {
+        agree_largest_with(
+            options,
             first.as_ptr(),
             first.len(),
             second.as_ptr(),

@@ -4,7 +4,7 @@ use crate::text::Tree;
 
 pub type Label = Vec<u8>;
 
-/// What two trees and a required list come to, 1 to 5 and 9 to 11 left aside.
+/// What two trees and a required list come to, 1 to 5 and 9 to 12 left aside.
 #[derive(Clone, Debug, PartialEq)]
 pub enum Answer {
     FirstLacks(usize),
@@ -63,6 +63,11 @@ pub fn common(s: &Tree, t: &Tree) -> Vec<Label> {
     let mut xs: Vec<Label> = s.leaves().into_iter().filter(|x| holds(t, x)).collect();
     xs.sort();
     xs
+}
+
+/// The number, counted from 0 and from left to right, of the first leaf that the other tree lacks.
+pub fn stray(t: &Tree, other: &Tree) -> Option<usize> {
+    t.leaves().iter().position(|x| !holds(other, x))
 }
 
 pub fn lacking(s: &Tree, t: &Tree, required: &[Label]) -> Option<Answer> {

@@ -2,7 +2,7 @@
 //! go through them.
 
 use crate::agree::Label;
-use crate::job::job;
+use crate::job::{job, strict};
 use crate::limits::{LABEL, LEAVES};
 use crate::random::Random;
 use crate::text::Tree;
@@ -36,7 +36,7 @@ pub fn long_labels(n: usize) -> Vec<Label> {
 }
 
 /// Labels that stand in no tree of these ones, and differ from them in their last byte only: a digit becomes a letter.
-fn strangers(xs: &[Label]) -> Vec<Label> {
+pub fn strangers(xs: &[Label]) -> Vec<Label> {
     let mut ys = xs.to_vec();
     ys.iter_mut().for_each(|x| *x.last_mut().unwrap() += b'a' - b'0');
     ys
@@ -117,12 +117,12 @@ pub fn families(r: &mut Random, xs: &[Label]) -> Vec<Family> {
     ]
 }
 
-/// Each family of as many leaves as may be, as a job, with labels of few and of many bytes.
+/// Each family of as many leaves as may be, as a job and as a strict one, with labels of few and of many bytes.
 pub fn family_jobs() -> Vec<Vec<u8>> {
     let mut r = Random(80);
     let mut out = Vec::new();
     for xs in [short_labels(LEAVES), long_labels(LEAVES)] {
-        out.extend(families(&mut r, &xs).iter().map(|f| f.job()));
+        out.extend(families(&mut r, &xs).iter().flat_map(|f| [f.job(), strict(&f.job())]));
     }
     out
 }

@@ -2,15 +2,16 @@
 
 use crate::agree::Label;
 use crate::job::{job, printed};
-use crate::limits::{JOB, LEAVES, LIST};
+use crate::limits::{DIGITS, JOB, LEAVES, LIST};
 use crate::random::Random;
+use crate::strict::strict_jobs;
 use crate::trees::{caterpillar, perturbed, random_tree};
 
-const P: &str = "((((a,b),c),d),e);";
-const Q: &str = "((((a,c),b),d),e);";
-const R: &str = "((((a,b),c),e),d);";
+pub const P: &str = "((((a,b),c),d),e);";
+pub const Q: &str = "((((a,c),b),d),e);";
+pub const R: &str = "((((a,b),c),e),d);";
 
-fn bytes(x: &str) -> Vec<u8> {
+pub fn bytes(x: &str) -> Vec<u8> {
     x.as_bytes().to_vec()
 }
 
@@ -65,16 +66,23 @@ fn contents_jobs() -> Vec<Vec<u8>> {
     out.push(vec![b' '; JOB]);
     out.push(vec![b' '; JOB + 1]);
     out.push(bytes("S 0\nT 0\nK 0\n\n"));
-    for n in [JOB, JOB + 1] {
-        // a job of just that length: the first tree and a list that is too long
-        let fixed = "S 14\nT 2\nK 9999\n\n".len() - 4 + 14 + 2;
-        let k = vec![b'a'; n - fixed - 4];
-        out.push(job(b"((a,b),(c,d));", b"a;", &k));
-    }
+    out.extend([JOB, JOB + 1].map(|n| filled(n, [b"((a,b),(c,d));", b"a;", b""], 2, b"a")));
     out
 }
 
-fn labels(n: usize) -> Vec<Label> {
+/// The job of just so many bytes, its contents right, that holds these bodies after one of them has grown too long by far.
+pub fn filled(n: usize, bodies: [&[u8]; 3], body: usize, filler: &[u8]) -> Vec<u8> {
+    let mut bodies = bodies.map(|x| x.to_vec());
+    let fixed = job(&bodies[0], &bodies[1], &bodies[2]).len();
+    // the contents tell the length of the body that grows in the most digits in the end
+    let digits = DIGITS - bodies[body].len().to_string().len();
+    bodies[body].extend(filler.iter().cycle().take(n - fixed - digits));
+    let made = job(&bodies[0], &bodies[1], &bodies[2]);
+    assert_eq!(made.len(), n);
+    made
+}
+
+pub fn labels(n: usize) -> Vec<Label> {
     (0..n).map(|i| format!("t{i}").into_bytes()).collect()
 }
 
@@ -83,12 +91,12 @@ fn names() -> Vec<Label> {
     ["a", "a-", "aa", "A", "_", "-", "Z9", "z", "abcdefghijklmnop", "abcdefghijklmno", "0", "b.c"].iter().map(|x| bytes(x)).collect()
 }
 
-fn list(xs: &[Label]) -> Vec<u8> {
+pub fn list(xs: &[Label]) -> Vec<u8> {
     xs.join(&b","[..])
 }
 
 /// The job that holds such bodies.
-fn small_job(r: &mut Random) -> Vec<u8> {
+pub fn small_job(r: &mut Random) -> Vec<u8> {
     let [s, t, k] = small_bodies(r);
     job(&s, &t, &k)
 }
@@ -142,6 +150,28 @@ pub fn large_bodies(r: &mut Random) -> [Vec<u8>; 3] {
     r.shuffle(&mut k);
     let m = if r.below(8) == 0 { n } else { r.below(n.min(4) + 1) };
     [s.text(), t.text(), list(&k[..m])]
+}
+
+/// Two trees over the same labels, at most so many; or one or both over labels of which one was exchanged, added or dropped. And a short
+/// list.
+pub fn alike_bodies(r: &mut Random, most: usize) -> [Vec<u8>; 3] {
+    let mut pool = if most + 2 <= names().len() && r.below(3) == 0 { names() } else { labels(most + 2) };
+    r.shuffle(&mut pool);
+    let n = 1 + r.below(most);
+    let tree = |r: &mut Random, other: &Label| {
+        let mut xs = pool[..n].to_vec();
+        let i = r.below(n);
+        match r.below(9) {
+            0 => xs[i] = other.clone(),
+            1 if n < most => xs.push(other.clone()),
+            2 if n > 1 => drop(xs.remove(i)),
+            _ => (),
+        }
+        random_tree(r, &xs).text()
+    };
+    let (s, t) = (tree(r, &pool[n]), tree(r, &pool[n + 1]));
+    let k = r.below(n.min(4) + 1);
+    [s, t, list(&pool[..k])]
 }
 
 /// A job with a few bytes changed, dropped or added.
@@ -207,6 +237,7 @@ pub fn jobs() -> Vec<Vec<u8>> {
         out.push(damaged_bodies(&mut r));
     }
     out.extend(large_jobs(&mut r));
+    out.extend(strict_jobs());
     out
 }
 

@@ -1,6 +1,7 @@
 //! Says what the library must answer, by code of its own: it shares nothing with the crates.
 
 pub mod agree;
+pub mod bodies;
 pub mod cases;
 pub mod families;
 pub mod fast;
@@ -8,5 +9,6 @@ pub mod job;
 pub mod jobs;
 pub mod limits;
 pub mod random;
+pub mod strict;
 pub mod text;
 pub mod trees;

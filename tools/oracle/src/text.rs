@@ -92,6 +92,11 @@ fn first_fault(text: &[u8], o: &Outline, limit: Option<usize>) -> Option<Fault> 
 }
 
 pub fn read_tree(text: &[u8]) -> Result<Tree, Fault> {
+    read_placed(text).map(|(tree, _)| tree)
+}
+
+/// The tree, and the places of its labels from left to right.
+pub fn read_placed(text: &[u8]) -> Result<(Tree, Vec<usize>), Fault> {
     let mut o = Outline { fault: None, labels: Vec::new(), opens: Vec::new() };
     // The descent is as deep as the text has `(`; a text with 80 of them is refused there anyway.
     let cut = text.iter().enumerate().filter(|(_, &b)| b == b'(').nth(LEAVES + 20).map_or(text.len(), |(i, _)| i);
@@ -99,7 +104,7 @@ pub fn read_tree(text: &[u8]) -> Result<Tree, Fault> {
     o.fault = tree.as_ref().err().copied();
     match first_fault(text, &o, o.opens.get(LEAVES - 1).copied()) {
         Some(f) => Err(f),
-        None => Ok(tree.unwrap()),
+        None => Ok((tree.unwrap(), o.labels.iter().map(|&(at, _)| at).collect())),
     }
 }
 

@@ -1,8 +1,8 @@
 //! What the programs are given.
 
 use oracle::families::{family_jobs, long_labels};
-use oracle::job::{job, printed};
-use oracle::limits::{DIGITS, JOB, LABEL, LEAVES, LINES, LIST, TREE_TEXT};
+use oracle::job::{job, printed, strict};
+use oracle::limits::{JOB, LABEL, LEAVES, LINES, LIST, TREE_TEXT};
 use oracle::trees::caterpillar;
 use oracle::{cases, jobs};
 
@@ -19,15 +19,18 @@ fn files(folder: &str, end: &str) -> Vec<Vec<u8>> {
 
 /// A job of just so many bytes whose contents are right: one of the bodies is too long by far.
 fn of_length(n: usize, body: usize) -> Vec<u8> {
-    let mut bodies = [b"((a,b),c);".to_vec(), b"((a,c),b);".to_vec(), b"a".to_vec()];
-    let fixed = job(&bodies[0], &bodies[1], &bodies[2]).len();
-    // the contents tell the length of the body that grows in the most digits in the end
-    let digits = DIGITS - bodies[body].len().to_string().len();
     let filler = [&b"a,"[..], b"a", b"(", b" "][n % 4];
-    bodies[body].extend(filler.iter().cycle().take(n - fixed - digits));
-    let made = job(&bodies[0], &bodies[1], &bodies[2]);
-    assert_eq!(made.len(), n);
-    made
+    jobs::filled(n, [b"((a,b),c);", b"((a,c),b);", b"a"], body, filler)
+}
+
+/// The same with the line `strict`, which is counted.
+fn strict_of_length(n: usize, body: usize) -> Vec<u8> {
+    strict(&of_length(n - strict(b"").len(), body))
+}
+
+/// A strict job whose last leaf of the second tree is not in the first; its list cannot be read.
+fn stray() -> Vec<u8> {
+    strict(&job(b"((a,b),c);", b"((c,(b,a)),x);", b",,"))
 }
 
 /// As many labels of as many bytes as may be, all in the answer: no answer is longer.
@@ -39,29 +42,37 @@ fn greatest() -> Vec<u8> {
     made
 }
 
-/// A job that is answered, and bytes after it up to a length.
-fn with_tail(n: usize, tail: u8) -> Vec<u8> {
-    let mut x = job(b"((a,b),(c,d));", b"((a,c),(b,d));", b"a");
-    x.resize(n, tail);
-    x
+/// A job that is answered.
+fn answered() -> Vec<u8> {
+    job(b"((a,b),(c,d));", b"((a,c),(b,d));", b"a")
+}
+
+/// The job, and bytes after it up to a length.
+fn with_tail(mut job: Vec<u8>, n: usize, tail: u8) -> Vec<u8> {
+    job.resize(n, tail);
+    job
 }
 
 fn long_jobs() -> Vec<Vec<u8>> {
     let mut out = Vec::new();
     for n in JOB - 4..JOB + 5 {
         out.push(vec![b' '; n]);
-        out.push(with_tail(n, b'a'));
-        out.extend((0..3).map(|body| of_length(n, body)));
+        out.push(with_tail(answered(), n, b'a'));
+        out.push(with_tail(strict(&answered()), n, b'a'));
+        out.push(with_tail(stray(), n, b','));
+        out.extend((0..3).flat_map(|body| [of_length(n, body), strict_of_length(n, body)]));
     }
     for n in [2 * JOB, 2 * JOB + 1, 65_536, 65_537, 5 * MEGABYTE] {
         out.push(vec![b' '; n]);
-        out.push(with_tail(n, b'a'));
-        out.push([of_length(JOB, 2), vec![b'a'; n - JOB]].concat());
+        out.push(with_tail(answered(), n, b'a'));
+        out.push(with_tail(strict(&answered()), n, b'a'));
+        out.push(with_tail(of_length(JOB, 2), n, b'a'));
+        out.push(with_tail(strict_of_length(JOB, 2), n, b'a'));
     }
     out
 }
 
-/// Each reason of a body in each body, and those that need all three.
+/// Each reason of a body in each body, and those that need more than one.
 fn refusals() -> Vec<Vec<u8>> {
     let (long, deep, many) = ("a".repeat(LABEL + 1), "(".repeat(LEAVES), long_labels(LIST + 1).join(&b","[..]));
     let mut out = Vec::new();
@@ -76,6 +87,8 @@ fn refusals() -> Vec<Vec<u8>> {
     out.push(job(b"(a,b);", b"(b,c);", b"b,a,c"));
     out.push(job(b"((a,b),c);", b"((a,c),b);", b"c,b,a"));
     out.push(b"S 2".to_vec());
+    out.push(job(b"((a,b),c);", b"((b,a),x);", b""));
+    out.push(job(b"(a,b);", b"((b,x),a);", b"x"));
     out
 }
 
@@ -83,7 +96,9 @@ pub fn jobs(examples: &str) -> Vec<Vec<u8>> {
     let mut out = files(examples, ".job");
     out.push(Vec::new());
     out.push(greatest());
-    out.extend(refusals());
+    out.push(strict(&greatest()));
+    out.push(stray());
+    out.extend(refusals().iter().flat_map(|x| [x.clone(), strict(x)]));
     out.extend(long_jobs());
     out.extend(family_jobs());
     out.extend(jobs::jobs());
@@ -93,11 +108,16 @@ pub fn jobs(examples: &str) -> Vec<Vec<u8>> {
 pub fn slow_jobs() -> Vec<Vec<u8>> {
     vec![
         Vec::new(),
-        job(b"((a,b),(c,d));", b"((a,c),(b,d));", b"a"),
+        answered(),
+        strict(&answered()),
+        stray(),
         job(b"((a,b),c);", b"((a,c),b);", b"a,b,c"),
         greatest(),
+        strict(&greatest()),
         of_length(JOB, 2),
         of_length(JOB + 1, 2),
+        strict_of_length(JOB, 2),
+        strict_of_length(JOB + 1, 2),
         vec![b' '; JOB],
         vec![b' '; JOB + 1],
     ]

@@ -74,7 +74,7 @@ fn main() {
     let agree = Program { path: format!("{folder}/agree"), printed: oracle::job::printed };
     let kinds = [
         "answered", "1 S", "1 T", "1 K", "2 S", "2 T", "2 K", "3 S", "3 T", "3 K", "4 S", "4 T", "4 K", "5 S", "5 T", "5 K", "6 K", "7 K", "8 K",
-        "10 J", "11 J",
+        "10 J", "11 J", "12 S", "12 T",
     ];
     whole(&agree, &inputs::jobs(examples), &inputs::slow_jobs(), &kinds);
     let normal = Program { path: format!("{folder}/normal"), printed: oracle::cases::normal_printed };

@@ -12,63 +12,45 @@ use borrow.Author.Needs.{needs}
 use Rattle.job.proofs.answer_bodies.Statement.{statement}
 use Rattle.job.proofs.answer_bodies.Tie as tie
 
-slice-aggregate-largest : tie.Need-slice-aggregate-largest
-slice-aggregate-largest c = search needs
-
-largest-requires : tie.Need-largest-requires
-largest-requires c κs = search needs
-
-enum-known-answer : tie.Need-enum-known-answer
-enum-known-answer c = search needs
-
 array-share-prefix-tree : tie.Need-array-share-prefix-tree
 array-share-prefix-tree c =
     let l = c .before .before .before .before .before .largest in
-    found-set _ _ _ blank _ _ blank-room (l .ensures .0) (l .ensures .1) _ _ (c .before .before .answer .given .1) .inside
+    found-set _ blank _ _ blank-room (l .ensures .0) (l .ensures .1) _ _ (c .before .before .answer .given .1) .inside
 
 slice-aggregate-answer-set : tie.Need-slice-aggregate-answer-set
 slice-aggregate-answer-set c =
     let l = c .before .before .before .before .before .before .largest in
-    let f = found-set _ _ _ blank _ _ blank-room (l .ensures .0) (l .ensures .1) _ _ (c .before .before .before .answer .given .1) in
-    omega (arith, f .inside, length-take (c .before .before .before .answer .given .0 .1 .0) (l .last .1 .1 .1 .0))
+    let f = found-set _ blank _ _ blank-room (l .ensures .0) (l .ensures .1) _ _ (c .before .before .before .answer .given .1) in
+    omega (arith, f .inside, length-take (c .before .before .before .answer .given .0 .1 .0) (l .last .1 .1 .1 .1 .0))
 
 answer-set-requires : tie.Need-answer-set-requires
 answer-set-requires c κs =
     let l = c .before .before .before .before .before .before .before .largest in
-    let f = found-set _ _ _ blank _ _ blank-room (l .ensures .0) (l .ensures .1) _ _ (c .before .before .before .before .answer .given .1) in
+    let f = found-set _ blank _ _ blank-room (l .ensures .0) (l .ensures .1) _ _ (c .before .before .before .before .answer .given .1) in
     (f .few, omega (arith, f .short, ap (length {A = ℕ}) (f .front)))
-
-enum-known-answer-2 : tie.Need-enum-known-answer-2
-enum-known-answer-2 c = search needs
 
 part-at-requires : tie.Need-part-at-requires
 part-at-requires c κs =
     let l = c .before .before .before .before .largest in
-    let f = found-eight _ _ _ blank _ _ blank-room (l .ensures .0) (l .ensures .1) _ _ _ (c .before .answer2 .given .1) in
+    let f = found-eight _ blank _ _ blank-room (l .ensures .0) (l .ensures .1) _ _ _ (c .before .answer2 .given .1) in
     omega (arith, f .one .inside, c .before .before .before .before .before .before .before .before .before .before .pre)
 
 part-at-requires-2 : tie.Need-part-at-requires-2
 part-at-requires-2 c κs =
     let l = c .before .before .before .before .before .largest in
-    let f = found-eight _ _ _ blank _ _ blank-room (l .ensures .0) (l .ensures .1) _ _ _ (c .before .before .answer2 .given .1) in
+    let f = found-eight _ blank _ _ blank-room (l .ensures .0) (l .ensures .1) _ _ _ (c .before .before .answer2 .given .1) in
     omega (arith, f .two .inside, c .before .before .before .before .before .before .before .before .before .before .before .pre)
 
 part-at-requires-3 : tie.Need-part-at-requires-3
 part-at-requires-3 c κs =
     let l = c .before .before .before .before .before .before .largest in
-    let f = found-eight _ _ _ blank _ _ blank-room (l .ensures .0) (l .ensures .1) _ _ _ (c .before .before .before .answer2 .given .1) in
+    let f = found-eight _ blank _ _ blank-room (l .ensures .0) (l .ensures .1) _ _ _ (c .before .before .before .answer2 .given .1) in
     omega (arith, f .three .inside, c .before .before .before .before .before .before .before .before .before .before .before .before .pre)
-
-enum-known-answer-3 : tie.Need-enum-known-answer-3
-enum-known-answer-3 c = search needs
-
-same-length : tie.Need-same-length
-same-length c = search needs
 
 returns : tie.Need-returns
 returns c =
     let l = c .before .before .before .before .before .before .before .before .before .before .largest in
-    let f = found-set _ _ _ blank _ _ blank-room (l .ensures .0) (l .ensures .1) _ _ (c .before .before .before .before .before .before .before .answer .given .1) in
+    let f = found-set _ blank _ _ blank-room (l .ensures .0) (l .ensures .1) _ _ (c .before .before .before .before .before .before .before .answer .given .1) in
     let p = ap₂ recordLines (f .labels) (f .front) in
     let out = c .before .before .before .before .before .before .before .before .before .before .before .before .before .before .before .before .args .out .now in (
       c .before .before .answer-set .ensures .0 ∙ ap (λ (t : List ℕ). recordAnswer t (length out)) p ∙ answered-solved _ _ _ (f .s) (f .X) (f .text) (f .solution),
@@ -78,7 +60,7 @@ returns c =
 returns-2 : tie.Need-returns-2
 returns-2 c =
     let l = c .before .before .before .before .before .before .before .largest in
-    let f = found-eight _ _ _ blank _ _ blank-room (l .ensures .0) (l .ensures .1) _ _ _ (c .before .before .before .before .answer2 .given .1) in
+    let f = found-eight _ blank _ _ blank-room (l .ensures .0) (l .ensures .1) _ _ _ (c .before .before .before .before .answer2 .given .1) in
     let base = c .before .before .before .before .before .before .before .before .before .before .before .before .before .args .base in (
       named-eq (c .before .before .part-at .ensures ∙ f .one .part base) (c .before .part-at2 .ensures ∙ f .two .part base) (c .part-at3 .ensures ∙ f .three .part base)
           ∙ answered-clashed _ _ _ (f .xs) (f .a) (f .b) (f .c) (f .solution),
@@ -88,25 +70,25 @@ returns-2 c =
 returns-3 : tie.Need-returns-3
 returns-3 c =
     let l = c .before .before .before .before .largest in
-    let f = found-refusal _ _ _ blank _ _ blank-room (l .ensures .0) (l .ensures .1) _ (c .before .answer3 .given .1) in
+    let f = found-refusal _ blank _ _ blank-room (l .ensures .0) (l .ensures .1) _ (c .before .answer3 .given .1) in
     (answered-turned _ _ _ _ f, output-turned _ _ _ f)
 
 pub answer-bodies-spec : {M : Type 1} → statement M
 answer-bodies-spec =
     tie.close
     (tie.spec
-    slice-aggregate-largest
-    largest-requires
-    enum-known-answer
+    (λ c. search needs)
+    (λ c κs. search needs)
+    (λ c. search needs)
     array-share-prefix-tree
     slice-aggregate-answer-set
     answer-set-requires
-    enum-known-answer-2
+    (λ c. search needs)
     part-at-requires
     part-at-requires-2
     part-at-requires-3
-    enum-known-answer-3
-    same-length
+    (λ c. search needs)
+    (λ c. search needs)
     returns
     returns-2
     returns-3)

@@ -4,7 +4,7 @@ use native.Mathlib.Omega.{arith}
 use Rattle.agreement.specs.Sets.{common}
 use Rattle.agreement.proofs.SetLaws.{common-inc}
 use Rattle.mast.specs.Largest.{Solution, largestOf, outputOf}
-use Rattle.mast.proofs.BodyLaws.{first-few, list-few, first-leaves, own-list, first-valid, first-missing, all-asked, solve-reads, lack-output}
+use Rattle.mast.proofs.BodyLaws.{first-few, list-few, most-few, first-missing, all-asked, lack-output}
 use Rattle.mast.proofs.BodyLaws.{in-range, by-rank, some-clash, clash-is, set-solution, eight-solution, clashed-output, some-first, some-second}
 use borrow.Author.Needs.{needs}
 use Rattle.mast.proofs.bodies.answer_bodies.Statement.{statement}
@@ -12,94 +12,80 @@ use Rattle.mast.proofs.bodies.answer_bodies.Tie as tie
 
 order-in-requires : tie.Need-order-in-requires
 order-in-requires c κs =
-    let p = c .before .before .before .before .before .before .pre in
-    (first-few _ _ _ _ _ _ (p .0), p .1 .few)
+    let b = c .before .before .before .before .before .pre in
+    (first-few b, most-few b)
 
 mark-required-requires : tie.Need-mark-required-requires
 mark-required-requires c κs =
-    let p = c .before .before .before .before .before .before .before .before .before .pre in
-    (c .before .before .order-in .ensures .0, list-few _ _ _ _ _ _ (p .0))
+    (c .before .before .order-in .ensures .0, list-few (c .before .before .before .before .before .before .before .before .pre))
 
 lacks-requires : tie.Need-lacks-requires
 lacks-requires c κs =
-    let p = c .before .before .before .before .before .before .before .before .before .before .before .before .pre in
-    omega (arith, c .if1 .taken, list-few _ _ _ _ _ _ (p .0))
+    omega (arith, c .if1 .taken, list-few (c .before .before .before .before .before .before .before .before .before .before .before .pre))
 
 returns : tie.Need-returns
 returns c =
-    let p = c .before .before .before .before .before .before .before .before .before .before .before .before .before .pre in
-    let o = c .before .before .before .before .before .before .order-in .ensures .1 _ _ (p .0) (p .1) in
-    let b = o .bodies in
-    let k = c .before .before .before .mark-required .ensures .1 (b .s) (common (b .s) (b .t)) (b .K) (first-leaves _ _ _ _ _ _ b) (own-list _ _ _ _ _ _ b)
-    (common-inc (b .s) (b .t) (first-valid _ _ _ _ _ _ b .different)) (o .order .count) (o .order .first) in
-    let f = first-missing _ _ _ _ _ _ _ _ _ o (c .before .before .before .before .before .before .order-in .ensures .0) _ _ k (c .before .if1 .taken) in
-    let e = solve-reads _ _ _ _ (b .s) (b .t) (b .K) (b .reads) in (
-      c .lacks .ensures (b .s) (b .t) (b .K) _ f ∙ ap largestOf (sym e),
-      lack-output (b .s) (b .t) (b .K) _ _ _ _ _ f _ _ ∙ ap (λ (x : Solution). outputOf x (c .before .before .before .before .before .before .before .before .before .before .before .before .before .args .out .now)) (sym e),
-    )
+    λ b.
+    let m = c .before .before .before .before .before .before .order-in .ensures in
+    let o = m .1 (b .s) (b .t) (b .one) (b .valid2) (b .bound) (b .partners) in
+    let k = c .before .before .before .mark-required .ensures .1 (b .s) (common (b .s) (b .t)) (b .K) (b .one) (b .own-list) (common-inc (b .s) (b .t) (b .one .valid .different)) (o .count) (o .first) in
+    let f = first-missing b o (m .0) _ _ k (c .before .if1 .taken) in
+    record { result = c .lacks .ensures (b .s) (b .t) (b .K) _ f; output = lack-output (b .s) (b .t) (b .K) _ _ _ _ _ f _ _ }
 
 find-set-requires : tie.Need-find-set-requires
 find-set-requires c κs =
-    let p = c .before .before .before .before .before .before .before .before .before .before .before .before .before .before .before .before .pre in
-    let o = c .before .before .before .before .before .before .before .before .before .order-in .ensures .1 _ _ (p .0) (p .1) in
-    let b = o .bodies in
-    let k = c .before .before .before .before .before .before .mark-required .ensures .1 (b .s) (common (b .s) (b .t)) (b .K) (first-leaves _ _ _ _ _ _ b) (own-list _ _ _ _ _ _ b)
-    (common-inc (b .s) (b .t) (first-valid _ _ _ _ _ _ b .different)) (o .order .count) (o .order .first) in
-    let a = all-asked _ _ _ _ _ _ _ _ _ o (c .before .before .before .before .before .before .before .before .before .order-in .ensures .0) _ _ k (c .before .before .before .before .if1 .left) (c .before .before .before .before .before .before .mark-required .ensures .0) in
+    let b = c .before .before .before .before .before .before .before .before .before .before .before .before .before .before .before .pre in
+    let m = c .before .before .before .before .before .before .before .before .before .order-in .ensures in
+    let o = m .1 (b .s) (b .t) (b .one) (b .valid2) (b .bound) (b .partners) in
+    let k = c .before .before .before .before .before .before .mark-required .ensures .1 (b .s) (common (b .s) (b .t)) (b .K) (b .one) (b .own-list) (common-inc (b .s) (b .t) (b .one .valid .different)) (o .count) (o .first) in
+    let a = all-asked b o (m .0) _ _ k (c .before .before .before .before .if1 .left) (c .before .before .before .before .before .before .mark-required .ensures .0) in
     (some-first _ _ _ _ _ _ _ _ _ _ _ a, some-second _ _ _ _ _ _ _ _ _ _ _ a)
 
 solution-requires : tie.Need-solution-requires
 solution-requires c κs =
-    let p = c .before .before .before .before .before .before .before .before .before .before .before .before .before .before .before .before .before .before .before .before .before .pre in
-    let o = c .before .before .before .before .before .before .before .before .before .before .before .before .before .before .order-in .ensures .1 _ _ (p .0) (p .1) in
-    let b = o .bodies in
-    let k = c .before .before .before .before .before .before .before .before .before .before .before .mark-required .ensures .1 (b .s) (common (b .s) (b .t)) (b .K) (first-leaves _ _ _ _ _ _ b) (own-list _ _ _ _ _ _ b)
-    (common-inc (b .s) (b .t) (first-valid _ _ _ _ _ _ b .different)) (o .order .count) (o .order .first) in
-    let a = all-asked _ _ _ _ _ _ _ _ _ o (c .before .before .before .before .before .before .before .before .before .before .before .before .before .before .order-in .ensures .0) _ _ k (c .before .before .before .before .before .before .before .before .before .if1 .left) (c .before .before .before .before .before .before .before .before .before .before .before .mark-required .ensures .0) in
-    (c .before .before .before .before .before .before .before .before .before .before .before .before .before .before .order-in .ensures .0, in-range _ _ _ _ _ _ _ _ _ _ _ a)
+    let b = c .before .before .before .before .before .before .before .before .before .before .before .before .before .before .before .before .before .before .before .before .pre in
+    let m = c .before .before .before .before .before .before .before .before .before .before .before .before .before .before .order-in .ensures in
+    let o = m .1 (b .s) (b .t) (b .one) (b .valid2) (b .bound) (b .partners) in
+    let k = c .before .before .before .before .before .before .before .before .before .before .before .mark-required .ensures .1 (b .s) (common (b .s) (b .t)) (b .K) (b .one) (b .own-list) (common-inc (b .s) (b .t) (b .one .valid .different)) (o .count) (o .first) in
+    let a = all-asked b o (m .0) _ _ k (c .before .before .before .before .before .before .before .before .before .if1 .left) (c .before .before .before .before .before .before .before .before .before .before .before .mark-required .ensures .0) in
+    (m .0, in-range _ _ _ _ _ _ _ _ _ _ _ a)
 
 eight-requires : tie.Need-eight-requires
 eight-requires c κs =
-    let p = c .before .before .before .before .before .before .before .before .before .before .before .before .before .before .before .before .before .before .before .before .before .pre in
-    let o = c .before .before .before .before .before .before .before .before .before .before .before .before .before .before .order-in .ensures .1 _ _ (p .0) (p .1) in
-    let b = o .bodies in
-    let k = c .before .before .before .before .before .before .before .before .before .before .before .mark-required .ensures .1 (b .s) (common (b .s) (b .t)) (b .K) (first-leaves _ _ _ _ _ _ b) (own-list _ _ _ _ _ _ b)
-    (common-inc (b .s) (b .t) (first-valid _ _ _ _ _ _ b .different)) (o .order .count) (o .order .first) in
-    let a = all-asked _ _ _ _ _ _ _ _ _ o (c .before .before .before .before .before .before .before .before .before .before .before .before .before .before .order-in .ensures .0) _ _ k (c .before .before .before .before .before .before .before .before .before .if1 .left) (c .before .before .before .before .before .before .before .before .before .before .before .mark-required .ensures .0) in
+    let b = c .before .before .before .before .before .before .before .before .before .before .before .before .before .before .before .before .before .before .before .before .pre in
+    let m = c .before .before .before .before .before .before .before .before .before .before .before .before .before .before .order-in .ensures in
+    let o = m .1 (b .s) (b .t) (b .one) (b .valid2) (b .bound) (b .partners) in
+    let k = c .before .before .before .before .before .before .before .before .before .before .before .mark-required .ensures .1 (b .s) (common (b .s) (b .t)) (b .K) (b .one) (b .own-list) (common-inc (b .s) (b .t) (b .one .valid .different)) (o .count) (o .first) in
+    let a = all-asked b o (m .0) _ _ k (c .before .before .before .before .before .before .before .before .before .if1 .left) (c .before .before .before .before .before .before .before .before .before .before .before .mark-required .ensures .0) in
     some-clash _ _ _ _ _ _ _ _ _ _ _ a _ _ (c .before .before .before .before .find-set .ensures _ _ _ (a .asked)) (c .before .before .before .if2 .left)
-
-same-length : tie.Need-same-length
-same-length c = search needs
 
 returns-2 : tie.Need-returns-2
 returns-2 c =
-    let p = c .before .before .before .before .before .before .before .before .before .before .before .before .before .before .before .before .before .before .before .before .before .before .before .before .pre in
-    let o = c .before .before .before .before .before .before .before .before .before .before .before .before .before .before .before .before .before .order-in .ensures .1 _ _ (p .0) (p .1) in
-    let b = o .bodies in
-    let k = c .before .before .before .before .before .before .before .before .before .before .before .before .before .before .mark-required .ensures .1 (b .s) (common (b .s) (b .t)) (b .K) (first-leaves _ _ _ _ _ _ b) (own-list _ _ _ _ _ _ b)
-    (common-inc (b .s) (b .t) (first-valid _ _ _ _ _ _ b .different)) (o .order .count) (o .order .first) in
-    let a = all-asked _ _ _ _ _ _ _ _ _ o (c .before .before .before .before .before .before .before .before .before .before .before .before .before .before .before .before .before .order-in .ensures .0) _ _ k (c .before .before .before .before .before .before .before .before .before .before .before .before .if1 .left) (c .before .before .before .before .before .before .before .before .before .before .before .before .before .before .mark-required .ensures .0) in
-    let e = solve-reads _ _ _ _ (b .s) (b .t) (b .K) (b .reads) in
+    λ b.
+    let m = c .before .before .before .before .before .before .before .before .before .before .before .before .before .before .before .before .before .order-in .ensures in
+    let o = m .1 (b .s) (b .t) (b .one) (b .valid2) (b .bound) (b .partners) in
+    let k = c .before .before .before .before .before .before .before .before .before .before .before .before .before .before .mark-required .ensures .1 (b .s) (common (b .s) (b .t)) (b .K) (b .one) (b .own-list) (common-inc (b .s) (b .t) (b .one .valid .different)) (o .count) (o .first) in
+    let a = all-asked b o (m .0) _ _ k (c .before .before .before .before .before .before .before .before .before .before .before .before .if1 .left) (c .before .before .before .before .before .before .before .before .before .before .before .before .before .before .mark-required .ensures .0) in
     let r = by-rank _ _ _ _ _ _ _ _ _ _ _ a in
-    let w = set-solution _ _ _ _ _ _ _ _ _ _ _ a _ _ _ (c .before .before .before .before .before .before .before .find-set .ensures _ _ _ (a .asked)) (c .before .before .before .before .before .before .if2 .taken) ∙ sym e in (
-      c .before .before .solution .ensures .0 _ _ r ∙ ap largestOf w,
-      c .before .before .solution .ensures .1 _ _ r ∙ ap (λ (x : Solution). outputOf x (c .before .before .before .before .before .before .before .before .before .before .before .before .before .before .before .before .before .before .before .before .before .before .before .before .args .out .now)) w,
-    )
+    let w = set-solution _ _ _ _ _ _ _ _ _ _ _ a _ _ _ (c .before .before .before .before .before .before .before .find-set .ensures _ _ _ (a .asked)) (c .before .before .before .before .before .before .if2 .taken) in
+    record {
+      result = c .before .before .solution .ensures .0 _ _ r ∙ ap largestOf w;
+      output = c .before .before .solution .ensures .1 _ _ r ∙ ap (λ (x : Solution). outputOf x (c .before .before .before .before .before .before .before .before .before .before .before .before .before .before .before .before .before .before .before .before .before .before .before .args .out .now)) w;
+    }
 
 returns-3 : tie.Need-returns-3
 returns-3 c =
-    let p = c .before .before .before .before .before .before .before .before .before .before .before .before .before .before .before .before .before .before .before .before .before .before .pre in
-    let o = c .before .before .before .before .before .before .before .before .before .before .before .before .before .before .before .order-in .ensures .1 _ _ (p .0) (p .1) in
-    let b = o .bodies in
-    let k = c .before .before .before .before .before .before .before .before .before .before .before .before .mark-required .ensures .1 (b .s) (common (b .s) (b .t)) (b .K) (first-leaves _ _ _ _ _ _ b) (own-list _ _ _ _ _ _ b)
-    (common-inc (b .s) (b .t) (first-valid _ _ _ _ _ _ b .different)) (o .order .count) (o .order .first) in
-    let a = all-asked _ _ _ _ _ _ _ _ _ o (c .before .before .before .before .before .before .before .before .before .before .before .before .before .before .before .order-in .ensures .0) _ _ k (c .before .before .before .before .before .before .before .before .before .before .if1 .left) (c .before .before .before .before .before .before .before .before .before .before .before .before .mark-required .ensures .0) in
-    let e = solve-reads _ _ _ _ (b .s) (b .t) (b .K) (b .reads) in
+    λ b.
+    let m = c .before .before .before .before .before .before .before .before .before .before .before .before .before .before .before .order-in .ensures in
+    let o = m .1 (b .s) (b .t) (b .one) (b .valid2) (b .bound) (b .partners) in
+    let k = c .before .before .before .before .before .before .before .before .before .before .before .before .mark-required .ensures .1 (b .s) (common (b .s) (b .t)) (b .K) (b .one) (b .own-list) (common-inc (b .s) (b .t) (b .one .valid .different)) (o .count) (o .first) in
+    let a = all-asked b o (m .0) _ _ k (c .before .before .before .before .before .before .before .before .before .before .if1 .left) (c .before .before .before .before .before .before .before .before .before .before .before .before .mark-required .ensures .0) in
     let q = clash-is _ _ _ _ _ _ _ _ _ _ _ a _ _ (c .before .before .before .before .before .find-set .ensures _ _ _ (a .asked)) (c .before .before .before .before .if2 .left) in
-    let w = e ∙ eight-solution _ _ _ _ _ _ _ _ _ _ _ a (q .0) (q .1) (q .2) _ (q .3) in (
-      c .eight .ensures _ _ _ (q .0) (q .1) (q .2) (q .3) ∙ ap largestOf (sym w),
-      clashed-output _ _ (q .0) (q .1) (q .2) _ w,
-    )
+    let w = eight-solution _ _ _ _ _ _ _ _ _ _ _ a (q .0) (q .1) (q .2) _ (q .3) in
+    record {
+      result = c .eight .ensures _ _ _ (q .0) (q .1) (q .2) (q .3) ∙ ap largestOf (sym w);
+      output = clashed-output _ _ (q .0) (q .1) (q .2) _ w;
+    }
 
 pub answer-bodies-spec : {M : Type 1} → statement M
 answer-bodies-spec =
@@ -112,6 +98,6 @@ answer-bodies-spec =
     find-set-requires
     solution-requires
     eight-requires
-    same-length
+    (λ c. search needs)
     returns-2
     returns-3)

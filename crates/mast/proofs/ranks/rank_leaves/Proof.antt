@@ -22,14 +22,14 @@ loop-holds : tie.Need-loop-holds Inv-loop μ-loop
 loop-holds c =
     (omega arith, ranks-start _)
 
-mul-put-rank : tie.Need-mul-put-rank Inv-loop μ-loop
-mul-put-rank c = omega arith
+mul-put-at : tie.Need-mul-put-at Inv-loop μ-loop
+mul-put-at c = omega arith
 
-element-copy-out-put-rank : tie.Need-element-copy-out-put-rank Inv-loop μ-loop
-element-copy-out-put-rank c = omega arith
+element-copy-out-put-at : tie.Need-element-copy-out-put-at Inv-loop μ-loop
+element-copy-out-put-at c = omega arith
 
-put-rank-requires : tie.Need-put-rank-requires Inv-loop μ-loop
-put-rank-requires c κs = search needs
+put-at-requires : tie.Need-put-at-requires Inv-loop μ-loop
+put-at-requires c κs = search needs
 
 add-r : tie.Need-add-r Inv-loop μ-loop
 add-r c = omega arith
@@ -39,7 +39,7 @@ loop-less c = omega arith
 
 loop-again : tie.Need-loop-again Inv-loop μ-loop
 loop-again c =
-    (omega arith, ranks-next _ _ _ _ (c .before .before .before .before .loop .inv .1) (c .put-rank .ensures))
+    (omega arith, ranks-next _ _ _ _ (c .before .before .before .before .loop .inv .1) (c .put-at .ensures))
 
 returns : tie.Need-returns Inv-loop μ-loop
 returns c =
@@ -55,9 +55,9 @@ rank-leaves-spec =
     Inv-loop
     μ-loop
     loop-holds
-    mul-put-rank
-    element-copy-out-put-rank
-    put-rank-requires
+    mul-put-at
+    element-copy-out-put-at
+    put-at-requires
     add-r
     loop-less
     loop-again
