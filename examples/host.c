@@ -13,6 +13,10 @@
 /* Thread data, thread-local variables and the first frames: less than two pages with glibc on x86-64. */
 #define THREAD_OWN 8192
 
+/* What always suffices for a tree's text and for the lines of a job. */
+#define TREE_ROOM 1678
+#define LINES_ROOM 4096
+
 static int failed;
 
 /* The bytes of one call; `output` is lent with `room` bytes and lies in a larger area, of which bytes that must not change are checked. */
@@ -97,6 +101,12 @@ static void largest_with(size_t options, const char *first, const char *second, 
     show(in_thread(run_largest_with));
 }
 
+/* The bytes of a label of the list from its place on: to its closing quote, or to a comma or the end. */
+static int label_length(const char *label)
+{
+    return (int)(*label == '\'' ? strcspn(label + 1, "'") + 2 : strcspn(label, ","));
+}
+
 /* The same for a whole job. */
 static void job(const char *bytes, size_t room)
 {
@@ -106,89 +116,127 @@ static void job(const char *bytes, size_t room)
     if (r.number == 0)
         printf("job: %zu bytes\n%.*s", r.length, (int)r.length, (const char *)call.output);
     else if (r.number == 8)
-        printf("job: refused 8 %c %zu labels %c%c%c\n", (int)r.letter, r.place, bytes[r.first], bytes[r.second], bytes[r.third]);
+        printf("job: refused 8 %c %zu labels %.*s %.*s %.*s\n", (int)r.letter, r.place, label_length(bytes + r.first), bytes + r.first,
+               label_length(bytes + r.second), bytes + r.second, label_length(bytes + r.third), bytes + r.third);
     else
         printf("job: refused %zu %c %zu\n", r.number, (int)r.letter, r.place);
 }
 
-/* A caterpillar of 80 leaves: no answer is deeper than it is against itself. */
-static const char *caterpillar(void)
+/* A caterpillar of 80 leaves, its labels these with a number: no answer is deeper than it is against itself. */
+static const char *caterpillar_of(char *text, const char *label)
 {
-    static char text[1024];
     size_t n = 0;
     for (int i = 0; i < 79; i++)
         text[n++] = '(';
-    for (int i = 0; i < 80; i++)
-        n += (size_t)sprintf(text + n, i == 0 ? "t%02d" : ",t%02d)", i);
+    for (int i = 0; i < 80; i++) {
+        if (i > 0)
+            text[n++] = ',';
+        n += (size_t)sprintf(text + n, label, i);
+        if (i > 0)
+            text[n++] = ')';
+    }
     text[n++] = ';';
+    text[n] = 0;
     return text;
+}
+
+static const char *caterpillar(void)
+{
+    static char text[TREE_ROOM + 1];
+    return caterpillar_of(text, "t%02d");
+}
+
+/* With labels as long as may be, in quotes: no text is longer. */
+static const char *longest(void)
+{
+    static char text[TREE_ROOM + 1];
+    return caterpillar_of(text, "'Label_of leaf.%02d'");
 }
 
 int main(void)
 {
-    largest("((a,b),(c,d));", "((a,c),(b,d));", "a", 1518);
-    largest("((((a,b),c),d),e);", "((((a,b),c),e),d);", "d,e", 1518);
+    largest("((a,b),(c,d));", "((a,c),(b,d));", "a", TREE_ROOM);
+    largest("((((a,b),c),d),e);", "((((a,b),c),e),d);", "d,e", TREE_ROOM);
     largest("(a,b);", "(c,d);", "", 0);
     largest("a;", "a;", "a", 2);
     largest("(a,b);", "(b,a);", "", 6);
     largest("(a,b);", "(b,a);", "", 5);
     largest("(a,b);", "(b,a);", "", 0);
-    largest("(a b);", "a;", "", 1518);
-    largest("a;", "(a,b)", "", 1518);
-    largest("", "a;", "", 1518);
-    largest("a;", "aaaaaaaaaaaaaaaaa;", "", 1518);
-    largest("a;", "a;", "a,a", 1518);
-    largest("(((((((((((((((((((((((((((((((((((((((((((((((((((((((((((((((((((((((((((((((((", "a;", "", 1518);
-    largest("a;", "b;", "b", 1518);
-    largest("a;", "b;", "a", 1518);
-    largest("((a,b),c);", "((a,c),b);", "c,a,b", 1518);
-    largest(caterpillar(), caterpillar(), "t79,t00", 1518);
+    largest("(a b);", "a;", "", TREE_ROOM);
+    largest("a;", "(a,b)", "", TREE_ROOM);
+    largest("", "a;", "", TREE_ROOM);
+    largest("a;", "aaaaaaaaaaaaaaaaa;", "", TREE_ROOM);
+    largest("a;", "a;", "a,a", TREE_ROOM);
+    largest("(((((((((((((((((((((((((((((((((((((((((((((((((((((((((((((((((((((((((((((((((", "a;", "", TREE_ROOM);
+    largest("a;", "b;", "b", TREE_ROOM);
+    largest("a;", "b;", "a", TREE_ROOM);
+    largest("((a,b),c);", "((a,c),b);", "c,a,b", TREE_ROOM);
+    largest(caterpillar(), caterpillar(), "t79,t00", TREE_ROOM);
+
+    /* labels in quotes, and bare ones with underscores for their blanks */
+    largest("((a_b,c),'d_e');", "(('a b','c'),'d_e');", "'c',a_b", TREE_ROOM);
+    largest("((a_b,c),'d_e');", "(('a b','c'),'d_e');", "'c',a_b", 16);
+    largest("((a_b,c),'d_e');", "(('a b','c'),'d_e');", "'c',a_b", 15);
+    largest("((a-,aZ),a_b);", "((a-,'a b'),aZ);", "", TREE_ROOM);
+    largest("('a b',(c,a_b));", "a;", "", TREE_ROOM);
+    largest("(a,'');", "a;", "", TREE_ROOM);
+    largest("a;", "(a,'a", "", TREE_ROOM);
+    largest("a;", "a;", "'aaaaaaaaaaaaaaaaa'", TREE_ROOM);
+    largest("('a b',c);", "(c,'a_b');", "'c','a b'", TREE_ROOM);
+    largest("((a_b,'c_d'),e);", "(('a b',e),'c_d');", "e,'c_d','a b'", TREE_ROOM);
+    largest(longest(), longest(), "", TREE_ROOM);
+    largest(longest(), longest(), "", TREE_ROOM - 1);
 
     struct agree_result r = agree_largest(NULL, 0, NULL, 0, NULL, 0, NULL, 0);
     printf("nothing: refused %zu %c %zu\n", r.number, (int)r.letter, r.place);
 
     /* without options: as agree_largest */
-    largest_with(0, "((a,b),x);", "(b,a);", "b,a", 1518);
-    largest_with(0, "((a,b),x);", "(b,a);", "a,x", 1518);
-    largest_with(0, "(b,a);", "((a,b),x);", "a,x", 1518);
+    largest_with(0, "((a,b),x);", "(b,a);", "b,a", TREE_ROOM);
+    largest_with(0, "((a,b),x);", "(b,a);", "a,x", TREE_ROOM);
+    largest_with(0, "(b,a);", "((a,b),x);", "a,x", TREE_ROOM);
     /* strict, equal leaf sets */
-    largest_with(AGREE_STRICT, "((a,b),(c,d));", "((a,c),(b,d));", "b,a", 1518);
+    largest_with(AGREE_STRICT, "((a,b),(c,d));", "((a,c),(b,d));", "b,a", TREE_ROOM);
     largest_with(AGREE_STRICT, "((a,b),(c,d));", "((a,c),(b,d));", "b,a", 6);
     largest_with(AGREE_STRICT, "((a,b),(c,d));", "((a,c),(b,d));", "b,a", 5);
-    largest_with(AGREE_STRICT, "(a,b);", "(b,a);", "b,", 1518);
-    largest_with(AGREE_STRICT, "((a,b),c);", "((a,c),b);", "c,a,b", 1518);
-    largest_with(AGREE_STRICT, caterpillar(), caterpillar(), "t79,t00", 1518);
+    largest_with(AGREE_STRICT, "(a,b);", "(b,a);", "b,", TREE_ROOM);
+    largest_with(AGREE_STRICT, "((a,b),c);", "((a,c),b);", "c,a,b", TREE_ROOM);
+    largest_with(AGREE_STRICT, caterpillar(), caterpillar(), "t79,t00", TREE_ROOM);
     /* strict, a leaf that the second tree lacks, one that the first lacks, both, several; before a list that cannot be read */
-    largest_with(AGREE_STRICT, "((a,b),x);", "(b,a);", "b,a", 1518);
-    largest_with(AGREE_STRICT, "(b,a);", "(y,(a,b));", "b,a", 1518);
-    largest_with(AGREE_STRICT, "((a,b),x);", "((y,(b,a)),c);", "b,a", 1518);
-    largest_with(AGREE_STRICT, "((z,y),a);", "a;", "a,z", 1518);
+    largest_with(AGREE_STRICT, "((a,b),x);", "(b,a);", "b,a", TREE_ROOM);
+    largest_with(AGREE_STRICT, "(b,a);", "(y,(a,b));", "b,a", TREE_ROOM);
+    largest_with(AGREE_STRICT, "((a,b),x);", "((y,(b,a)),c);", "b,a", TREE_ROOM);
+    largest_with(AGREE_STRICT, "((z,y),a);", "a;", "a,z", TREE_ROOM);
     largest_with(AGREE_STRICT, "((a,x),b);", "(b,a);", "b,", 0);
+    /* strict, a leaf with its partner in quotes, and one that is not the same */
+    largest_with(AGREE_STRICT, "(a_b,'c');", "(c,'a b');", "'a b'", TREE_ROOM);
+    largest_with(AGREE_STRICT, "('c',a_b);", "(c,'a_b');", "'c'", TREE_ROOM);
     /* strict, a tree that cannot be read */
-    largest_with(AGREE_STRICT, "((a,b),x);", "(b,a)", "b,a", 1518);
+    largest_with(AGREE_STRICT, "((a,b),x);", "(b,a)", "b,a", TREE_ROOM);
     /* options that mean nothing, whatever the texts are */
-    largest_with(2, "((a,b),x);", "(b,a);", "b,a", 1518);
-    largest_with(AGREE_STRICT + 2, "(a b);", "a;", "a,", 1518);
+    largest_with(2, "((a,b),x);", "(b,a);", "b,a", TREE_ROOM);
+    largest_with(AGREE_STRICT + 2, "(a b);", "a;", "a,", TREE_ROOM);
     largest_with(SIZE_MAX, "(b,a);", "((a,b),x);", "a,x", 0);
-    largest_with(SIZE_MAX / 2 + 1 + AGREE_STRICT, "((a,b),x);", "(b,a);", "b,a", 1518);
+    largest_with(SIZE_MAX / 2 + 1 + AGREE_STRICT, "((a,b),x);", "(b,a);", "b,a", TREE_ROOM);
     r = agree_largest_with(AGREE_STRICT, NULL, 0, NULL, 0, NULL, 0, NULL, 0);
     printf("nothing, strict: refused %zu %c %zu\n", r.number, (int)r.letter, r.place);
 
-    job("S 14\nT 14\nK 1\n\n((a,b),(c,d));((a,c),(b,d));a", 4096);
+    job("S 14\nT 14\nK 1\n\n((a,b),(c,d));((a,c),(b,d));a", LINES_ROOM);
     job("S 14\nT 14\nK 1\n\n((a,b),(c,d));((a,c),(b,d));a", 26);
     job("S 14\nT 14\nK 1\n\n((a,b),(c,d));((a,c),(b,d));a", 27);
-    job("S 10\nT 10\nK 5\n\n((a,b),c);((a,c),b);c,a,b", 4096);
-    job("S 2", 4096);
-    job("S 2\nT 2\nK 1\n\na;b;a", 4096);
-    job("strict\nS 14\nT 14\nK 1\n\n((a,b),(c,d));((a,c),(b,d));a", 4096);
+    job("S 10\nT 10\nK 5\n\n((a,b),c);((a,c),b);c,a,b", LINES_ROOM);
+    job("S 2", LINES_ROOM);
+    job("S 2\nT 2\nK 1\n\na;b;a", LINES_ROOM);
+    job("strict\nS 14\nT 14\nK 1\n\n((a,b),(c,d));((a,c),(b,d));a", LINES_ROOM);
     job("strict\nS 14\nT 14\nK 1\n\n((a,b),(c,d));((a,c),(b,d));a", 26);
-    job("strict\nS 10\nT 10\nK 5\n\n((a,b),c);((a,c),b);c,a,b", 4096);
-    job("strict\nS 10\nT 6\nK 2\n\n((a,b),x);(b,a);b,", 4096);
+    job("strict\nS 10\nT 10\nK 5\n\n((a,b),c);((a,c),b);c,a,b", LINES_ROOM);
+    job("strict\nS 10\nT 6\nK 2\n\n((a,b),x);(b,a);b,", LINES_ROOM);
     job("strict\nS 6\nT 10\nK 3\n\n(b,a);(y,(a,b));b,a", 0);
-    job("S 6\nstrict\nT 10\nK 3\n\n(b,a);(y,(a,b));b,a", 4096);
+    job("S 6\nstrict\nT 10\nK 3\n\n(b,a);(y,(a,b));b,a", LINES_ROOM);
+    job("S 14\nT 16\nK 3\n\n(('a_b',c),d);((c,'a_b'),'d');'c'", LINES_ROOM);
+    job("S 16\nT 18\nK 13\n\n((a_b,'c_d'),e);(('a b',e),'c_d');e,'c_d','a b'", LINES_ROOM);
     static char long_job[8194];
     memset(long_job, ' ', 8193);
-    job(long_job, 4096);
+    job(long_job, LINES_ROOM);
     if (failed)
         puts("a byte that had to stay was changed, or a number that had to be 0 was another");
     return failed;

@@ -6,6 +6,11 @@
  *
  * Nothing here allocates, keeps state or needs an initial call; calls from several threads do not meet.
  * A pointer may be null where its length is 0. The output must not overlap an input.
+ *
+ * Labels: a bare one has 1 to 16 of the bytes A to Z, a to z, 0 to 9, `_`, `.` and `-`, and its underscores read as blanks. One in quotes
+ * has 1 to 16 of these bytes or blanks between them, each for itself, and no quote. So a_b and 'a b' are one label, 'a_b' is another.
+ * Equality and order go by the bytes so read; a blank comes before `-`. In an output a label that holds an underscore stands in quotes,
+ * and any other bare, with underscores for its blanks. The place of a label in quotes is that of its opening quote.
  */
 #ifndef AGREE_H
 #define AGREE_H
@@ -18,7 +23,7 @@ extern "C" {
 #endif
 
 /* Bytes of stack that a call takes at most, whatever it is given. It is not proved: tools/stack.c holds it against the worst of many
- * inputs (measured: about 79,000 bytes for two trees and a list, 87,000 for a job). A thread needs what it takes for itself besides. */
+ * inputs (measured: about 80,000 bytes for two trees and a list, 88,000 for a job). A thread needs what it takes for itself besides. */
 #define AGREE_STACK 98304
 
 /* What comes back.
@@ -30,7 +35,7 @@ extern "C" {
  *
  *     1  a byte cannot stand there                  S, T, K   that byte
  *     2  the text ends too soon                     S, T, K   its length
- *     3  a label passes 16 bytes                    S, T, K   its 17th byte
+ *     3  a label passes 16 bytes, quotes aside      S, T, K   its 17th byte
  *     4  a tree's 80th `(`; the list's 81st label   S, T, K   that byte, or the label's first
  *     5  a label repeats in its body                S, T, K   first byte of the repeat
  *     6  the first tree lacks a required label      K         its first byte in the list
@@ -58,7 +63,7 @@ struct agree_result {
 /* The largest set of leaves common to both trees that holds every required label and on which the trees agree, the first such
  * set in label order, as the normal text of its tree in `out`.
  *
- *     uint8_t out[1518];                       no text is longer
+ *     uint8_t out[1678];                       no text is longer
  *     struct agree_result r = agree_largest(
  *         (const uint8_t *)"((a,b),(c,d));", 14,
  *         (const uint8_t *)"((a,c),(b,d));", 14,
@@ -86,8 +91,8 @@ struct agree_result agree_largest_with(size_t options, const uint8_t *first, siz
  *    11  the job passes 8,192 bytes                 J         0
  *    10  the contents break their rules             J         0
  *
- * For number 8, first, second and third are the places of the three labels' first bytes in the job. Number 9 stands for an output
- * that is shorter than the lines.
+ * For number 8, first, second and third are the places of the three labels' first bytes in the job. From there a label in quotes goes to
+ * the next quote, a bare one to a comma or the end. Number 9 stands for an output that is shorter than the lines.
  */
 struct agree_result agree_job(const uint8_t *job, size_t job_length, uint8_t *out, size_t out_length);
 

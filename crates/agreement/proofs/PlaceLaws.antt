@@ -3,19 +3,21 @@ use Prim.Native.Nat.{ℕ, zero, suc, _+_, _≤_, _<_}
 use mathlib.Core.Path.{_≡_, refl, sym, _∙_, ap, subst}
 use mathlib.Core.Bool.{true, false}
 use mathlib.Core.Logic.{_⊎_, inl, inr, ⊎-elim}
-use mathlib.Core.List.{List, [], _∷_, _++_, append-assoc, append-nil}
+use mathlib.Core.List.{List, [], _∷_, _++_, map, append-assoc, append-nil}
 use native.Mathlib.Nat.{not-suc-le-zero, le-of-suc-le-suc}
 use native.Mathlib.Omega.{arith}
 use lib.ListN.{length, getD, length-append}
 use Rattle.trees.specs.Label.{Label, sameLabel, isIn}
-use Rattle.trees.specs.Tree.{Tree, leaf, node}
+use Rattle.trees.specs.Token.{Token, spelling}
+use Rattle.trees.specs.Tree.{Tree, leaf, node, decoded}
 use Rattle.trees.specs.Text.{written, textOf}
 use Rattle.trees.specs.Words.{Within}
 use Rattle.trees.proofs.Bools.{bool-cases, clash}
 use Rattle.trees.proofs.LabelLaws.{same-eq}
+use Rattle.trees.proofs.DecodedLaws.{decoded-leaf, decoded-node}
 use Rattle.lists.specs.ReadList.{joined, startsOf}
 use Rattle.agreement.specs.Closer.{holds}
-use Rattle.agreement.specs.Places.{placeIn, placeOfNumber, placeOfLabel, BeforeLabel, AfterLabel, LeafShown, Listed}
+use Rattle.agreement.specs.Places.{placeIn, tokenIn, placeOfNumber, placeOfLabel, tokenOfLabel, BeforeLabel, AfterLabel, LeafShown, Listed}
 use Rattle.agreement.proofs.HoldsLaws.{holds-leaf, holds-cases}
 
 -- a part of a text, and of a part of it
@@ -52,61 +54,80 @@ leaf-inner b y a text x p q e f o k s =
       ends = after-inner (s .shown .after) a (s .ends) k;
     }
 
--- the place in the node's own text, and where that text starts
-placed : (t : Tree) (x : Label) → holds t x ≡ true → (q : ℕ) → (p : ℕ) × (placeIn t q x ≡ q + p) × LeafShown (written t) p x
-unfolding placeIn written
-placed (leaf y) x h q =
-    let e = holds-leaf y x h in (
-      0,
-      omega arith,
-      record {
-        shown = record { before = []; after = []; is = sym e ∙ sym (append-nil x); place = refl };
-        starts = inl refl;
-        ends = inl refl;
-      },
-    )
-placed (node a b) x h q = go (bool-cases (holds a x)) second (placed a x) (placed b x)
-  where
-    second : holds a x ≡ false → holds b x ≡ true
-    second k = ⊎-elim (λ (z : holds a x ≡ true). clash z k) (λ (z : holds b x ≡ true). z) (holds-cases a b x h)
+-- a label that a node's first child lacks is in its second
+pub held-second : (a b : Tree) (x : Label) → holds (decoded (node a b)) x ≡ true → holds (decoded a) x ≡ false
+    → holds (decoded b) x ≡ true
+held-second a b x h k =
+    ⊎-elim (λ (z : holds (decoded a) x ≡ true). clash z k) (λ (z : holds (decoded b) x ≡ true). z)
+    (holds-cases (decoded a) (decoded b) x (rw (decoded-node a b) at h))
 
-    go : (holds a x ≡ true) ⊎ (holds a x ≡ false) → (holds a x ≡ false → holds b x ≡ true)
-        → (holds a x ≡ true → (r : ℕ) → (p : ℕ) × (placeIn a r x ≡ r + p) × LeafShown (written a) p x)
-        → (holds b x ≡ true → (r : ℕ) → (p : ℕ) × (placeIn b r x ≡ r + p) × LeafShown (written b) p x)
-        → (p : ℕ) × (placeIn (node a b) q x ≡ q + p) × LeafShown (written (node a b)) p x
+-- the token that stands for a label of the tree
+pub token-spelled : (t : Tree) (x : Label) → holds (decoded t) x ≡ true → spelling (tokenIn t x) ≡ x
+unfolding tokenIn
+token-spelled (leaf y) x h = sym (holds-leaf (spelling y) x (rw (decoded-leaf y) at h))
+token-spelled (node a b) x h =
+    go (bool-cases (holds (decoded a) x)) (held-second a b x h) (token-spelled a x) (token-spelled b x)
+  where
+    go : (holds (decoded a) x ≡ true) ⊎ (holds (decoded a) x ≡ false) → (holds (decoded a) x ≡ false → holds (decoded b) x ≡ true)
+        → (holds (decoded a) x ≡ true → spelling (tokenIn a x) ≡ x) → (holds (decoded b) x ≡ true → spelling (tokenIn b x) ≡ x)
+        → spelling (tokenIn (node a b) x) ≡ x
+    go (inl k) hb f g = rw k (f k)
+    go (inr k) hb f g = rw k (g (hb k))
+
+-- the place in the node's own text, and where that text starts
+placed : (t : Tree) (x : Label) → holds (decoded t) x ≡ true → (q : ℕ)
+    → (p : ℕ) × (placeIn t q x ≡ q + p) × LeafShown (written t) p (tokenIn t x)
+unfolding placeIn tokenIn written
+placed (leaf y) x h q = (
+  0,
+  omega arith,
+  record {
+    shown = record { before = []; after = []; is = sym (append-nil y); place = refl };
+    starts = inl refl;
+    ends = inl refl;
+  },
+)
+placed (node a b) x h q = go (bool-cases (holds (decoded a) x)) (held-second a b x h) (placed a x) (placed b x)
+  where
+    go : (holds (decoded a) x ≡ true) ⊎ (holds (decoded a) x ≡ false) → (holds (decoded a) x ≡ false → holds (decoded b) x ≡ true)
+        → (holds (decoded a) x ≡ true → (r : ℕ) → (p : ℕ) × (placeIn a r x ≡ r + p) × LeafShown (written a) p (tokenIn a x))
+        → (holds (decoded b) x ≡ true → (r : ℕ) → (p : ℕ) × (placeIn b r x ≡ r + p) × LeafShown (written b) p (tokenIn b x))
+        → (p : ℕ) × (placeIn (node a b) q x ≡ q + p) × LeafShown (written (node a b)) p (tokenIn (node a b) x)
     go (inl k) hb f g =
         let w = f k (q + 1) in (
           1 + w .0,
           rw k (omega (arith, w .1)),
-          leaf-inner (40 ∷ []) (written a) (44 ∷ (written b ++ (41 ∷ []))) _ x (w .0) (1 + w .0) refl refl
-              (inr ([], 40, refl, inl refl)) (inr (44, written b ++ (41 ∷ []), refl, inl refl)) (w .2),
+          rw k
+              (leaf-inner (40 ∷ []) (written a) (44 ∷ (written b ++ (41 ∷ []))) _ (tokenIn a x) (w .0) (1 + w .0) refl refl
+              (inr ([], 40, refl, inl refl)) (inr (44, written b ++ (41 ∷ []), refl, inl refl)) (w .2)),
         )
     go (inr k) hb f g =
         let w = g (hb k) (q + 1 + length (written a) + 1) in (
           1 + length (written a) + 1 + w .0,
           rw k (omega (arith, w .1)),
-          leaf-inner (40 ∷ (written a ++ (44 ∷ []))) (written b) (41 ∷ []) _ x (w .0) (1 + length (written a) + 1 + w .0)
+          rw k
+              (leaf-inner (40 ∷ (written a ++ (44 ∷ []))) (written b) (41 ∷ []) _ (tokenIn b x) (w .0) (1 + length (written a) + 1 + w .0)
               (ap (λ (l : List ℕ). 40 ∷ l) (sym (append-assoc (written a) (44 ∷ []) (written b ++ (41 ∷ [])))))
               (omega (arith, length-append (written a) (44 ∷ [])))
-              (inr (40 ∷ written a, 44, refl, inr refl)) (inr (41, [], refl, inr (inl refl))) (w .2),
+              (inr (40 ∷ written a, 44, refl, inr refl)) (inr (41, [], refl, inr (inl refl))) (w .2)),
         )
 
 -- it is a place of that text
-pub place-inside : (t : Tree) (x : Label) → holds t x ≡ true → (q : ℕ) → (q ≤ placeIn t q x) × (placeIn t q x ≤ q + length (written t))
+pub place-inside : (t : Tree) (x : Label) → holds (decoded t) x ≡ true → (q : ℕ) → (q ≤ placeIn t q x) × (placeIn t q x ≤ q + length (written t))
 place-inside t x h q =
     let w = placed t x h q in
     let s = w .2 .shown in
     (omega (arith, w .1), omega (arith, w .1, s .place, simp length-append at (ap length (s .is))))
 
--- a label of a tree stands at its place
-pub leaf-shown : (t : Tree) (x : Label) → holds t x ≡ true → LeafShown (textOf t) (placeIn t 0 x) x
+-- a token of a tree stands at its place
+pub leaf-shown : (t : Tree) (x : Label) → holds (decoded t) x ≡ true → LeafShown (textOf t) (placeIn t 0 x) (tokenIn t x)
 unfolding textOf
 leaf-shown t x h =
     let w = placed t x h 0 in
-    leaf-inner [] (written t) (59 ∷ []) (written t ++ (59 ∷ [])) x (w .0) (placeIn t 0 x) refl (w .1)
+    leaf-inner [] (written t) (59 ∷ []) (written t ++ (59 ∷ [])) (tokenIn t x) (w .0) (placeIn t 0 x) refl (w .1)
     (inl refl) (inr (59, [], refl, inr (inr refl))) (w .2)
 
-pub tree-shown : (t : Tree) (x : Label) → holds t x ≡ true → Within (textOf t) (placeIn t 0 x) x
+pub tree-shown : (t : Tree) (x : Label) → holds (decoded t) x ≡ true → Within (textOf t) (placeIn t 0 x) (tokenIn t x)
 tree-shown t x h = leaf-shown t x h .shown
 
 -- a part of a part of a text
@@ -148,33 +169,51 @@ listed-first y (z ∷ xs) =
       ends = inr (joined (z ∷ xs), refl);
     }
 
-listed-at : (xs : List Label) (x : Label) → isIn x xs ≡ true → (q : ℕ) → (p : ℕ) × (placeOfLabel xs q x ≡ q + p) × Listed (joined xs) p x
-unfolding placeOfLabel joined isIn
-listed-at [] x h q = clash h refl
-listed-at (y ∷ []) x h q = go (bool-cases (sameLabel x y))
+-- the token that stands for a label of the list
+pub listed-spelled : (xs : List Token) (x : Label) → isIn x (map spelling xs) ≡ true → spelling (tokenOfLabel xs x) ≡ x
+unfolding tokenOfLabel isIn
+listed-spelled [] x h = clash h refl
+listed-spelled (y ∷ ys) x h = go (bool-cases (sameLabel x (spelling y))) (listed-spelled ys x)
   where
-    go : (sameLabel x y ≡ true) ⊎ (sameLabel x y ≡ false)
-        → (p : ℕ) × (placeOfLabel (y ∷ []) q x ≡ q + p) × Listed (joined (y ∷ [])) p x
-    go (inl k) = (0, rw k (omega arith), subst (Listed (joined (y ∷ [])) 0) (sym (same-eq x y k)) (listed-first y []))
-    go (inr k) = clash (rw k at h) refl
-listed-at (y ∷ z ∷ xs) x h q = go (bool-cases (sameLabel x y)) (listed-at (z ∷ xs) x)
-  where
-    go : (sameLabel x y ≡ true) ⊎ (sameLabel x y ≡ false)
-        → (isIn x (z ∷ xs) ≡ true → (r : ℕ) → (p : ℕ) × (placeOfLabel (z ∷ xs) r x ≡ r + p) × Listed (joined (z ∷ xs)) p x)
-        → (p : ℕ) × (placeOfLabel (y ∷ z ∷ xs) q x ≡ q + p) × Listed (joined (y ∷ z ∷ xs)) p x
-    go (inl k) f = (0, rw k (omega arith), subst (Listed (joined (y ∷ z ∷ xs)) 0) (sym (same-eq x y k)) (listed-first y (z ∷ xs)))
-    go (inr k) f =
-        let w = f (rw k at h) (q + length y + 1) in
-        (length y + 1 + w .0, rw k (omega (arith, w .1)), listed-later y (joined (z ∷ xs)) (w .0) (length y + 1 + w .0) x refl (w .2))
+    go : (sameLabel x (spelling y) ≡ true) ⊎ (sameLabel x (spelling y) ≡ false)
+        → (isIn x (map spelling ys) ≡ true → spelling (tokenOfLabel ys x) ≡ x) → spelling (tokenOfLabel (y ∷ ys) x) ≡ x
+    go (inl k) f = rw k (sym (same-eq x (spelling y) k))
+    go (inr k) f = rw k (f (rw k at h))
 
--- a label of a list stands at its place
-pub list-listed : (xs : List Label) (x : Label) → isIn x xs ≡ true → Listed (joined xs) (placeOfLabel xs 0 x) x
+listed-at : (xs : List Token) (x : Label) → isIn x (map spelling xs) ≡ true → (q : ℕ)
+    → (p : ℕ) × (placeOfLabel xs q x ≡ q + p) × Listed (joined xs) p (tokenOfLabel xs x)
+unfolding placeOfLabel tokenOfLabel joined isIn
+listed-at [] x h q = clash h refl
+listed-at (y ∷ []) x h q = go (bool-cases (sameLabel x (spelling y)))
+  where
+    go : (sameLabel x (spelling y) ≡ true) ⊎ (sameLabel x (spelling y) ≡ false)
+        → (p : ℕ) × (placeOfLabel (y ∷ []) q x ≡ q + p) × Listed (joined (y ∷ [])) p (tokenOfLabel (y ∷ []) x)
+    go (inl k) = (0, rw k (omega arith), rw k (listed-first y []))
+    go (inr k) = clash (rw k at h) refl
+listed-at (y ∷ z ∷ xs) x h q = go (bool-cases (sameLabel x (spelling y))) (listed-at (z ∷ xs) x)
+  where
+    go : (sameLabel x (spelling y) ≡ true) ⊎ (sameLabel x (spelling y) ≡ false)
+        → (isIn x (map spelling (z ∷ xs)) ≡ true → (r : ℕ)
+        → (p : ℕ) × (placeOfLabel (z ∷ xs) r x ≡ r + p) × Listed (joined (z ∷ xs)) p (tokenOfLabel (z ∷ xs) x))
+        → (p : ℕ) × (placeOfLabel (y ∷ z ∷ xs) q x ≡ q + p) × Listed (joined (y ∷ z ∷ xs)) p (tokenOfLabel (y ∷ z ∷ xs) x)
+    go (inl k) f = (0, rw k (omega arith), rw k (listed-first y (z ∷ xs)))
+    go (inr k) f =
+        let w = f (rw k at h) (q + length y + 1) in (
+          length y + 1 + w .0,
+          rw k (omega (arith, w .1)),
+          rw k (listed-later y (joined (z ∷ xs)) (w .0) (length y + 1 + w .0) (tokenOfLabel (z ∷ xs) x) refl (w .2)),
+        )
+
+-- a token of a list stands at its place
+pub list-listed : (xs : List Token) (x : Label) → isIn x (map spelling xs) ≡ true
+    → Listed (joined xs) (placeOfLabel xs 0 x) (tokenOfLabel xs x)
 list-listed xs x h =
     let w = listed-at xs x h 0 in
     let e : w .0 ≡ placeOfLabel xs 0 x = omega (arith, w .1) in
-    subst (λ (p : ℕ). Listed (joined xs) p x) e (w .2)
+    subst (λ (p : ℕ). Listed (joined xs) p (tokenOfLabel xs x)) e (w .2)
 
-pub list-shown : (xs : List Label) (x : Label) → isIn x xs ≡ true → Within (joined xs) (placeOfLabel xs 0 x) x
+pub list-shown : (xs : List Token) (x : Label) → isIn x (map spelling xs) ≡ true
+    → Within (joined xs) (placeOfLabel xs 0 x) (tokenOfLabel xs x)
 list-shown xs x h = list-listed xs x h .shown
 
 -- the label with a number

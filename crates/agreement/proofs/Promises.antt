@@ -7,7 +7,9 @@ use mathlib.Core.Option.{some}
 use mathlib.Core.List.{List, [], map}
 use lib.ListN.{length, getD}
 use Rattle.trees.specs.Label.{Label, distinct, isIn}
-use Rattle.trees.specs.Tree.{Tree, leaves, leafLimit, Valid, Proper, normal}
+use Rattle.trees.specs.Token.{Token, spelling, tokenOf}
+use Rattle.trees.specs.Tree.{Tree, leaves, leafLimit, relabel, decoded, Proper, normal}
+use Rattle.trees.specs.Writable.{Writable}
 use Rattle.trees.specs.Text.{textOf, normalText}
 use Rattle.trees.specs.Reading.{good}
 use Rattle.newick.specs.ReadTree.{readTree}
@@ -15,7 +17,7 @@ use Rattle.lists.specs.ReadList.{joined}
 use Rattle.agreement.specs.Closer.{holds, closer, OneOf, Agree, Common}
 use Rattle.agreement.specs.Restrict.{restrict}
 use Rattle.agreement.specs.SameKept.{SameKept}
-use Rattle.agreement.specs.Places.{placeIn, placeOfNumber, placeOfLabel, LeafShown, Listed, keptText}
+use Rattle.agreement.specs.Places.{placeIn, tokenIn, placeOfNumber, placeOfLabel, tokenOfLabel, LeafShown, Listed, keptText}
 use Rattle.agreement.specs.Sets.{increasing, sorted, common, setOf}
 use Rattle.agreement.specs.Weights.{forcedUnit, best}
 use Rattle.agreement.specs.Answer.{Answer, firstLacks, secondLacks, disagree, largest, agreeOn, largestSet, answer}
@@ -33,7 +35,7 @@ use Rattle.agreement.proofs.CloserOnce.{closer-once}
 use Rattle.agreement.proofs.AgreeRestrict.{agree-iff-same}
 use Rattle.agreement.proofs.RestrictText.{kept-none, kept-some, kept-read, one-text}
 use Rattle.agreement.proofs.Recurrence.{best-greatest}
-use Rattle.agreement.proofs.PlaceLaws.{leaf-shown, list-listed, number-listed}
+use Rattle.agreement.proofs.PlaceLaws.{leaf-shown, token-spelled, list-listed, listed-spelled, number-listed}
 use Rattle.agreement.proofs.StrictLaws.{stray-exactly, stray-held, stray-least}
 use Rattle.agreement.proofs.Table
 
@@ -56,7 +58,8 @@ empty-text = kept-none
 pub restriction-text : (X : Label → Bool) (t r : Tree) → restrict X t ≡ some r → keptText (restrict X t) ≡ normalText r
 restriction-text = kept-some
 
-pub restriction-read : (X : Label → Bool) (t r : Tree) → Valid t → restrict X t ≡ some r → readTree (keptText (restrict X t)) ≡ good (normal r)
+pub restriction-read : (X : Label → Bool) (t r : Tree) → Writable t → restrict X t ≡ some r
+    → readTree (keptText (restrict X t)) ≡ good (relabel tokenOf (normal r))
 restriction-read = kept-read
 
 -- "the normal text of the common restriction": the same bytes, whichever tree is restricted
@@ -121,15 +124,22 @@ module _ (s t : Tree) (K : List Label) (proper : Proper s) (different : distinct
         → (a : Label) × (b : Label) × (c : Label) × (answer s t K ≡ disagree a b c)
     weight-tells-eight = Tells.told-eight s t K proper different held M great
 
--- where a label stands: a leaf in its tree's text, a label in the text of a list, by itself ("its three labels") and by its number ("its
--- first byte in K")
-pub leaf-place : (t : Tree) (x : Label) → holds t x ≡ true → LeafShown (textOf t) (placeIn t 0 x) x
+-- where a label stands, as a token that stands for it: a leaf in its tree's text, a label in the text of a list, by itself ("its three
+-- labels") and by its number ("its first byte in K")
+pub leaf-place : (t : Tree) (x : Label) → holds (decoded t) x ≡ true → LeafShown (textOf t) (placeIn t 0 x) (tokenIn t x)
 leaf-place = leaf-shown
 
-pub label-place : (xs : List Label) (x : Label) → isIn x xs ≡ true → Listed (joined xs) (placeOfLabel xs 0 x) x
+pub leaf-token : (t : Tree) (x : Label) → holds (decoded t) x ≡ true → spelling (tokenIn t x) ≡ x
+leaf-token = token-spelled
+
+pub label-place : (xs : List Token) (x : Label) → isIn x (map spelling xs) ≡ true
+    → Listed (joined xs) (placeOfLabel xs 0 x) (tokenOfLabel xs x)
 label-place = list-listed
 
-pub number-place : (xs : List Label) (n : ℕ) → n < length xs → Listed (joined xs) (placeOfNumber xs n) (getD xs n [])
+pub label-token : (xs : List Token) (x : Label) → isIn x (map spelling xs) ≡ true → spelling (tokenOfLabel xs x) ≡ x
+label-token = listed-spelled
+
+pub number-place : (xs : List Token) (n : ℕ) → n < length xs → Listed (joined xs) (placeOfNumber xs n) (getD xs n [])
 number-place = number-listed
 
 -- request C-11: "a leaf that stands in only one tree": the first in the first tree or, if that has none, in the second; where there is
@@ -141,8 +151,8 @@ stray-promise = stray-exactly
 pub stray-leaf : (t other : Tree) (x : Label) → IsStray t other x → holds t x ≡ true
 stray-leaf = stray-held
 
-pub stray-place : (t other : Tree) (x : Label) → IsStray t other x → (y : Label) → holds t y ≡ true → holds other y ≡ false
-    → placeIn t 0 x ≤ placeIn t 0 y
+pub stray-place : (t other : Tree) (x : Label) → IsStray (decoded t) other x → (y : Label) → holds (decoded t) y ≡ true
+    → holds other y ≡ false → placeIn t 0 x ≤ placeIn t 0 y
 stray-place = stray-least
 
 -- "The starred cases are shown of the definitions, gathered in one table with one theorem."

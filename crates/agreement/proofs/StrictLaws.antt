@@ -8,7 +8,7 @@ use mathlib.Core.Option.{Option, some, none}
 use native.Mathlib.Omega.{arith}
 use lib.ListN.{length}
 use Rattle.trees.specs.Label.{Label, isIn}
-use Rattle.trees.specs.Tree.{Tree, leaf, node, leaves}
+use Rattle.trees.specs.Tree.{Tree, leaf, node, leaves, relabel, decoded}
 use Rattle.trees.specs.Text.{written}
 use Rattle.trees.proofs.Bools.{bool-cases, clash, refute}
 use Rattle.trees.proofs.ListLaws.{in-here}
@@ -16,8 +16,7 @@ use Rattle.agreement.specs.Closer.{holds}
 use Rattle.agreement.specs.Places.{placeIn}
 use Rattle.agreement.specs.Strict.{FirstOutside, IsStray, Stray, inFirst, inSecond, nowhere, Told, firstOutside, inEither, strayOf}
 use Rattle.agreement.proofs.SetLaws.{test-ext, in-nil, in-head, in-tail, in-cases}
-use Rattle.agreement.proofs.HoldsLaws.{holds-cases}
-use Rattle.agreement.proofs.PlaceLaws.{place-inside}
+use Rattle.agreement.proofs.PlaceLaws.{place-inside, held-second}
 
 -- what the search tells of a list
 abbrev Looked : (Label → Bool) → List Label → Option Label → Type 0
@@ -89,7 +88,9 @@ stray-exactly s t r = (λ e. told r e, only r)
 
 -- no other leaf outside the set has a smaller place: the first from left to right is the first in the text
 abbrev Least : (Label → Bool) → Tree → Type 0
-Least X t = (x : Label) → FirstOutside X (leaves t) x → (p : ℕ) (y : Label) → holds t y ≡ true → X y ≡ false → placeIn t p x ≤ placeIn t p y
+Least X t =
+    (x : Label) → FirstOutside X (leaves (decoded t)) x → (p : ℕ) (y : Label) → holds (decoded t) y ≡ true → X y ≡ false
+    → placeIn t p x ≤ placeIn t p y
 
 more : (X : Label → Bool) (xs ys : List Label) (x : Label) → FirstOutside X xs x → FirstOutside X (xs ++ ys) x
 more X xs ys x h = record {
@@ -101,40 +102,47 @@ more X xs ys x h = record {
 }
 
 least-node : (X : Label → Bool) (a b : Tree) → Least X a → Least X b → Least X (node a b)
-unfolding placeIn leaves holds
-least-node X a b f g x h p y m n = go (firstOutside X (leaves a)) refl
+unfolding placeIn leaves holds decoded relabel
+least-node X a b f g x h p y m n = go (firstOutside X first) refl
   where
-    found : firstOutside X (leaves a ++ leaves b) ≡ some x
-    found = outside-found X (leaves a ++ leaves b) x h
+    first : List Label
+    first = leaves (decoded a)
 
-    in-second : holds a y ≡ false → holds b y ≡ true
-    in-second k = ⊎-elim (λ (q : holds a y ≡ true). clash q k) (λ (q : holds b y ≡ true). q) (holds-cases a b y m)
+    second : List Label
+    second = leaves (decoded b)
 
-    left : FirstOutside X (leaves a) x → (holds a y ≡ true) ⊎ (holds a y ≡ false) → placeIn (node a b) p x ≤ placeIn (node a b) p y
-    left k (inl e) = rw (outside-in X (leaves a) x k, e) (f x k (p + 1) y e n)
+    found : firstOutside X (first ++ second) ≡ some x
+    found = outside-found X (first ++ second) x h
+
+    in-second : holds (decoded a) y ≡ false → holds (decoded b) y ≡ true
+    in-second = held-second a b y m
+
+    left : FirstOutside X first x → (holds (decoded a) y ≡ true) ⊎ (holds (decoded a) y ≡ false)
+        → placeIn (node a b) p x ≤ placeIn (node a b) p y
+    left k (inl e) = rw (outside-in X first x k, e) (f x k (p + 1) y e n)
     left k (inr e) =
-        let q : holds a x ≡ true = outside-in X (leaves a) x k in
+        let q : holds (decoded a) x ≡ true = outside-in X first x k in
         rw (q, e)
         (omega (arith, place-inside a x q (p + 1) .1, place-inside b y (in-second e) (p + 1 + length (written a) + 1) .0))
 
-    go : (o : Option Label) → firstOutside X (leaves a) ≡ o → placeIn (node a b) p x ≤ placeIn (node a b) p y
+    go : (o : Option Label) → firstOutside X first ≡ o → placeIn (node a b) p x ≤ placeIn (node a b) p y
     go (some z) k =
-        let q : FirstOutside X (leaves a) z = rw k at (looked X (leaves a)) in
-        let l : some z ≡ some x = sym (outside-found X (leaves a ++ leaves b) z (more X (leaves a) (leaves b) z q)) ∙ found in
+        let q : FirstOutside X first z = rw k at (looked X first) in
+        let l : some z ≡ some x = sym (outside-found X (first ++ second) z (more X first second z q)) ∙ found in
         let e : z ≡ x = cc in
-        left (rw e at q) (bool-cases (holds a y))
+        left (rw e at q) (bool-cases (holds (decoded a) y))
     go none k =
-        let inside : ((z : Label) → isIn z (leaves a) ≡ true → X z ≡ true) = rw k at (looked X (leaves a)) in
-        let no-x : holds a x ≡ false = refute (holds a x) (λ q. clash (inside x q) (h .outside)) in
-        let no-y : holds a y ≡ false = refute (holds a y) (λ q. clash (inside y q) n) in
-        let l : firstOutside X (leaves b) ≡ some x = sym (skip X (leaves a) (leaves b) inside) ∙ found in
-        rw (no-x, no-y) (g x (rw l at (looked X (leaves b))) (p + 1 + length (written a) + 1) y (in-second no-y) n)
+        let inside : ((z : Label) → isIn z first ≡ true → X z ≡ true) = rw k at (looked X first) in
+        let no-x : holds (decoded a) x ≡ false = refute (holds (decoded a) x) (λ q. clash (inside x q) (h .outside)) in
+        let no-y : holds (decoded a) y ≡ false = refute (holds (decoded a) y) (λ q. clash (inside y q) n) in
+        let l : firstOutside X second ≡ some x = sym (skip X first second inside) ∙ found in
+        rw (no-x, no-y) (g x (rw l at (looked X second)) (p + 1 + length (written a) + 1) y (in-second no-y) n)
 
 least : (X : Label → Bool) (t : Tree) → Least X t
 unfolding placeIn
 least X (leaf z) = λ x h p y m n. omega arith
 least X (node a b) = least-node X a b (least X a) (least X b)
 
-pub stray-least : (t other : Tree) (x : Label) → IsStray t other x → (y : Label) → holds t y ≡ true → holds other y ≡ false
-    → placeIn t 0 x ≤ placeIn t 0 y
+pub stray-least : (t other : Tree) (x : Label) → IsStray (decoded t) other x → (y : Label) → holds (decoded t) y ≡ true
+    → holds other y ≡ false → placeIn t 0 x ≤ placeIn t 0 y
 stray-least t other x h = least (holds other) t x h 0

@@ -1,4 +1,5 @@
--- Cases of our own beside the starred ones: numbers 6 and 7, trees with different leaves, trees and lists out of label order.
+-- Cases of our own beside the starred ones: numbers 6 and 7, trees with different leaves, trees and lists out of label order, labels in
+-- quotes.
 -- Scope paper, "Agreement" and rows 6 to 8 of "Why a job is turned down".
 use mathlib.Core.List.{List, [], _∷_}
 use Rattle.trees.specs.Words.{bytesOf}
@@ -26,4 +27,10 @@ ownRows =
     ∷ row "(e,(d,(c,(b,a))));" Q "c,a,b" (disagree a b c)
     -- a shorter label before any longer one that begins with it
     ∷ row "(ab,(b,a));" "((b,ab),a);" "" (largest (a ∷ bytesOf "ab" ∷ []))
+    -- C-12: "a bare `a_b` and a quoted `'a b'` are one"; a quoted underscore is itself
+    ∷ row "(a_b,c);" "(c,'a b');" "'a b'" (largest (bytesOf "a b" ∷ c ∷ []))
+    ∷ row "(a_b,c);" "(c,'a_b');" "" (largest (c ∷ []))
+    ∷ row "(a_b,c);" "(c,'a b');" "'a_b'" (firstLacks 0)
+    -- "so a blank comes before `-`": the tie falls to `a b`
+    ∷ row "((a_b,a-),c);" "((a_b,c),a-);" "c" (largest (bytesOf "a b" ∷ c ∷ []))
     ∷ []

@@ -1,4 +1,4 @@
--- Where the labels of an answer stand in the texts. Scope paper, "Why a job is turned down": the places of 6 and 7 are the
+-- Where the labels of an answer stand in the texts, and as which tokens. Scope paper, "Why a job is turned down": the places of 6 and 7 are the
 -- label's "first byte in K".
 use Prim.Native.Nat.{ℕ, _+_}
 use mathlib.Core.Path.{_≡_}
@@ -9,17 +9,25 @@ use mathlib.Core.Option.{Option, some, none}
 use lib.ListN.{length, getD}
 use Rattle.trees.specs.Bytes.{openByte, closeByte, commaByte, semicolonByte}
 use Rattle.trees.specs.Label.{Label, sameLabel}
-use Rattle.trees.specs.Tree.{Tree, leaf, node}
+use Rattle.trees.specs.Token.{Token, spelling}
+use Rattle.trees.specs.Tree.{Tree, leaf, node, decoded}
 use Rattle.trees.specs.Text.{written, normalText}
 use Rattle.trees.specs.Words.{Within}
 use Rattle.lists.specs.ReadList.{startsOf}
 use Rattle.agreement.specs.Closer.{holds}
 
--- the first byte of leaf x in the text of a tree that starts at p
+-- the first byte of the leaf that stands for x in the text of a tree that starts at p
 unfoldable pub placeIn : Tree → ℕ → Label → ℕ
 unfolding holds written
 placeIn (leaf y) p x = p
-placeIn (node a b) p x = cond (holds a x) (placeIn a (p + 1) x) (placeIn b (p + 1 + length (written a) + 1) x)
+placeIn (node a b) p x =
+    cond (holds (decoded a) x) (placeIn a (p + 1) x) (placeIn b (p + 1 + length (written a) + 1) x)
+
+-- that leaf as it stands there
+unfoldable pub tokenIn : Tree → Label → Token
+unfolding holds
+tokenIn (leaf y) x = y
+tokenIn (node a b) x = cond (holds (decoded a) x) (tokenIn a x) (tokenIn b x)
 
 -- the bytes before a leaf's label, none or up to a `(` or `,`, and those after it, none or from a `,`, `)` or `;`
 abbrev pub BeforeLabel : List ℕ → Type 0
@@ -28,29 +36,34 @@ BeforeLabel b = (b ≡ []) ⊎ ((rest : List ℕ) × (c : ℕ) × (b ≡ rest ++
 abbrev pub AfterLabel : List ℕ → Type 0
 AfterLabel a = (a ≡ []) ⊎ ((c : ℕ) × (rest : List ℕ) × (a ≡ c ∷ rest) × ((c ≡ commaByte) ⊎ ((c ≡ closeByte) ⊎ (c ≡ semicolonByte))))
 
--- a leaf's label stands at place p as a whole, not as a part of a longer one
-pub record LeafShown (text : List ℕ) (p : ℕ) (x : Label) : Type 0 where
+-- a leaf's token stands at place p as a whole, not as a part of a longer one
+pub record LeafShown (text : List ℕ) (p : ℕ) (x : Token) : Type 0 where
   pub shown : Within text p x
   pub starts : BeforeLabel (shown .before)
   pub ends : AfterLabel (shown .after)
 
 -- the first byte of the label with number n in a list's text
-unfoldable pub placeOfNumber : List Label → ℕ → ℕ
+unfoldable pub placeOfNumber : List Token → ℕ → ℕ
 unfolding startsOf
 placeOfNumber xs n = getD (startsOf xs 0) n 0
 
--- the first byte of label x in the text of a list that starts at p
-unfoldable pub placeOfLabel : List Label → ℕ → Label → ℕ
+-- the first byte of the token that stands for x in the text of a list that starts at p
+unfoldable pub placeOfLabel : List Token → ℕ → Label → ℕ
 placeOfLabel [] p x = p
-placeOfLabel (y ∷ ys) p x = cond (sameLabel x y) p (placeOfLabel ys (p + length y + 1) x)
+placeOfLabel (y ∷ ys) p x = cond (sameLabel x (spelling y)) p (placeOfLabel ys (p + length y + 1) x)
 
--- a list's label stands at place p as a whole: from the list's start or a `,` to a `,` or the list's end
-pub record Listed (text : List ℕ) (p : ℕ) (x : Label) : Type 0 where
+-- that token as it stands there
+unfoldable pub tokenOfLabel : List Token → Label → Token
+tokenOfLabel [] x = []
+tokenOfLabel (y ∷ ys) x = cond (sameLabel x (spelling y)) y (tokenOfLabel ys x)
+
+-- a list's token stands at place p as a whole: from the list's start or a `,` to a `,` or the list's end
+pub record Listed (text : List ℕ) (p : ℕ) (x : Token) : Type 0 where
   pub shown : Within text p x
   pub starts : (shown .before ≡ []) ⊎ ((rest : List ℕ) × (shown .before ≡ rest ++ (commaByte ∷ [])))
   pub ends : (shown .after ≡ []) ⊎ ((rest : List ℕ) × (shown .after ≡ commaByte ∷ rest))
 
--- the text of a restriction: "The empty set of leaves has a text of no bytes"
+-- the text of a restriction of a tree of decoded labels: "The empty set of leaves has a text of no bytes"
 unfoldable pub keptText : Option Tree → List ℕ
 unfolding normalText
 keptText none = []

@@ -1,8 +1,10 @@
 -- The starred cases of the scope paper's "Trees to try", as a table of texts and answers.
 use Prim.Native.String.{String}
 use mathlib.Core.Option.{Option, some, none}
-use mathlib.Core.List.{List, [], _∷_}
+use mathlib.Core.List.{List, [], _∷_, map}
 use Rattle.trees.specs.Label.{Label}
+use Rattle.trees.specs.Token.{spelling}
+use Rattle.trees.specs.Tree.{decoded}
 use Rattle.trees.specs.Words.{bytesOf}
 use Rattle.trees.specs.Reading.{good, refused}
 use Rattle.newick.specs.ReadTree.{readTree}
@@ -24,7 +26,11 @@ answered row =
       | good s ↦
           elim (readTree (bytesOf (row .second))) [
             | refused r at ↦ none
-            | good t ↦ elim (readList (bytesOf (row .required))) [ refused r at ↦ none | good K ↦ some (answer s t K) ]
+            | good t ↦
+                elim (readList (bytesOf (row .required))) [
+                  | refused r at ↦ none
+                  | good K ↦ some (answer (decoded s) (decoded t) (map spelling K))
+                ]
           ]
     ]
 

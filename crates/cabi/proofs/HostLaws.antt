@@ -1,7 +1,7 @@
 -- The numbers that a host gets for each outcome. Assumes nothing.
 use Prim.Native.Nat.{ℕ, _+_, _≤_, _<_}
 use mathlib.Core.Path.{_≡_, refl, _∙_, ap}
-use mathlib.Core.List.{List}
+use mathlib.Core.List.{List, map}
 use lib.Dec.{eqb}
 use lib.ListN.{length}
 use borrow.Author.Tests.{le-leb, lt-leb}
@@ -9,7 +9,8 @@ use Rattle.trees.specs.declared.Reason.the-variants.{Contents}
 use Rattle.trees.specs.declared.Body.the-variants.{J}
 use Rattle.trees.specs.declared.Refusal.{Refusal}
 use Rattle.trees.specs.Label.{Label}
-use Rattle.trees.specs.Tree.{Tree}
+use Rattle.trees.specs.Token.{Token, spelling}
+use Rattle.trees.specs.Tree.{Tree, decoded}
 use Rattle.agreement.specs.Closer.{Common}
 use Rattle.agreement.specs.Sets.{setOf}
 use Rattle.agreement.specs.Places.{placeOfLabel}
@@ -30,13 +31,14 @@ module _ (q : Task) (room : ℕ) where
   unfolding numbersOf
   refusal-numbers p e = ap numbersOf e
 
-  module _ (s t : Tree) (xs : List Label) (reads : Reads q s t xs) where
+  module _ (s t : Tree) (xs : List Token) (reads : Reads q s t xs) where
     pub set-numbers : (X : List Label) (text : List ℕ) → SetGiven s t xs X text room
         → numbersOf (solve q room) ≡ succeeded (length X) (length text)
     unfolding numbersOf
     set-numbers X text g = ap numbersOf (mast.set-promise q room s t xs reads X text .1 g)
 
-    pub eight-numbers : (a b c : Label) → Common s t (setOf xs) → IsDisagreement s t xs a b c
+    pub eight-numbers : (a b c : Label) → Common (decoded s) (decoded t) (setOf (map spelling xs))
+        → IsDisagreement (decoded s) (decoded t) (map spelling xs) a b c
         → numbersOf (solve q room) ≡ disagreed (placeOfLabel xs 0 a) (placeOfLabel xs 0 b) (placeOfLabel xs 0 c)
     unfolding numbersOf solutionOf
     eight-numbers a b c held d =
@@ -69,7 +71,7 @@ module _ (bytes : List ℕ) (room : ℕ) where
   job-nine-numbers s X text o h =
       ap jobNumbers (told (solved s X text) o) ∙ rw (lt-leb (length (recordLines X text)) room h) refl
 
-  pub job-eight-numbers : (xs : List Label) (a b c : Label) → JobOutcome bytes (clashed xs a b c)
+  pub job-eight-numbers : (xs : List Token) (a b c : Label) → JobOutcome bytes (clashed xs a b c)
       → jobNumbers (answerTo bytes room)
       ≡ disagreed (listPlace (layoutOf bytes) + placeOfLabel xs 0 a) (listPlace (layoutOf bytes) + placeOfLabel xs 0 b)
       (listPlace (layoutOf bytes) + placeOfLabel xs 0 c)

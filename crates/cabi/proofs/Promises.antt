@@ -2,13 +2,14 @@
 use Prim.Native.Nat.{ℕ, _+_, _≤_, _<_}
 use mathlib.Core.Path.{_≡_, refl}
 use mathlib.Core.Bool.{true}
-use mathlib.Core.List.{List}
+use mathlib.Core.List.{List, map}
 use lib.ListN.{length}
 use Rattle.trees.specs.declared.Reason.the-variants.{Contents}
 use Rattle.trees.specs.declared.Body.the-variants.{J}
 use Rattle.trees.specs.declared.Refusal.{Refusal}
 use Rattle.trees.specs.Label.{Label}
-use Rattle.trees.specs.Tree.{Tree}
+use Rattle.trees.specs.Token.{Token, spelling}
+use Rattle.trees.specs.Tree.{Tree, decoded}
 use Rattle.agreement.specs.Closer.{Common}
 use Rattle.agreement.specs.Sets.{setOf}
 use Rattle.agreement.specs.Places.{placeOfLabel}
@@ -24,13 +25,14 @@ use Rattle.cabi.proofs.HostLaws
 
 -- two trees and a list, with whatever is asked beside them. Demand 3: number 0, the size of the answer, the length of its text
 module _ (q : Task) (room : ℕ) where
-  module _ (s t : Tree) (xs : List Label) (reads : Reads q s t xs) where
+  module _ (s t : Tree) (xs : List Token) (reads : Reads q s t xs) where
     pub set-promise : (X : List Label) (text : List ℕ) → SetGiven s t xs X text room
         → numbersOf (solve q room) ≡ succeeded (length X) (length text)
     set-promise = HostLaws.set-numbers q room s t xs reads
 
     -- number 8 with the places of the first three in the list
-    pub eight-promise : (a b c : Label) → Common s t (setOf xs) → IsDisagreement s t xs a b c
+    pub eight-promise : (a b c : Label) → Common (decoded s) (decoded t) (setOf (map spelling xs))
+        → IsDisagreement (decoded s) (decoded t) (map spelling xs) a b c
         → numbersOf (solve q room) ≡ disagreed (placeOfLabel xs 0 a) (placeOfLabel xs 0 b) (placeOfLabel xs 0 c)
     eight-promise = HostLaws.eight-numbers q room s t xs reads
 
@@ -62,7 +64,7 @@ module _ (bytes : List ℕ) (room : ℕ) where
   job-nine-promise = HostLaws.job-nine-numbers bytes room
 
   -- number 8 with the places of the first three in the job
-  pub job-eight-promise : (xs : List Label) (a b c : Label) → JobOutcome bytes (clashed xs a b c)
+  pub job-eight-promise : (xs : List Token) (a b c : Label) → JobOutcome bytes (clashed xs a b c)
       → jobNumbers (answerTo bytes room)
       ≡ disagreed (listPlace (layoutOf bytes) + placeOfLabel xs 0 a) (listPlace (layoutOf bytes) + placeOfLabel xs 0 b)
       (listPlace (layoutOf bytes) + placeOfLabel xs 0 c)

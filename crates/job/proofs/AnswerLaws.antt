@@ -2,7 +2,7 @@
 use Prim.Native.Nat.{ℕ, _+_, _-_, _≤_, _<_}
 use mathlib.Core.Path.{_≡_, refl, sym, _∙_, ap, ap₂}
 use mathlib.Core.Bool.{true}
-use mathlib.Core.List.{List, _++_}
+use mathlib.Core.List.{List, _++_, map}
 use mathlib.Core.Option.{Option, none}
 use native.Mathlib.Omega.{arith}
 use lib.ListN.{length, take, drop, replicate, length-append, length-replicate}
@@ -12,9 +12,11 @@ use Rattle.trees.specs.declared.Reason.the-variants.{Contents, JobTooLong}
 use Rattle.trees.specs.declared.Body.the-variants.{J}
 use Rattle.trees.specs.declared.Refusal.{Refusal}
 use Rattle.trees.specs.Label.{Label, isIn}
+use Rattle.trees.specs.Text.{treeRoom}
+use Rattle.trees.specs.Token.{Token, spelling}
 use Rattle.trees.specs.Tree.{Tree, leafLimit}
 use Rattle.lists.specs.declared.LabelPlaces.{LabelPlaces}
-use Rattle.agreement.specs.Places.{placeIn, placeOfLabel}
+use Rattle.agreement.specs.Places.{placeIn, tokenIn, placeOfLabel, tokenOfLabel}
 use Rattle.mast.specs.declared.LargestAnswer.the-variants.{Found, Disagree, Refused}
 use Rattle.mast.specs.declared.LargestResult.{LargestResult}
 use Rattle.mast.specs.Largest.{Solution, solved, clashed, turned, Task, task, solve, setPlaces, largestOf, outputOf}
@@ -24,11 +26,12 @@ use Rattle.contents.specs.declared.Table.{Table}
 use Rattle.contents.specs.declared.Layout.the-variants as layout
 use Rattle.contents.specs.Contents.{Bodies, layoutOf, bodiesIn, bodiesOf, listPlace}
 use Rattle.contents.proofs.ContentsLaws.{laid-job}
-use Rattle.job.specs.Printed.{recordLines, solveBodies, solveJob, treeRoom, jobLimit}
+use Rattle.job.specs.Printed.{recordLines, solveBodies, solveJob, jobLimit}
 use Rattle.job.specs.Answered.{lineOutput, recordAnswer, partOfLabel, answered, jobOutput}
 use Rattle.job.specs.Areas.{labelsIn, untilComma}
-use Rattle.job.proofs.ShownLaws.{labels-are, listed-size, good-bytes}
+use Rattle.job.proofs.ShownLaws.{labels-are, listed-size}
 use Rattle.job.proofs.SolvedLaws.{ClashedBy, From, solution-from, set-few, set-shown, eight, label-listed}
+use Rattle.job.proofs.TokenBytes.{token-comma}
 
 -- ---- one kind of answer each
 
@@ -50,13 +53,13 @@ pub output-solved : (x : Solution) (s : Tree) (X : List Label) (text out : List 
 unfolding jobOutput
 output-solved x s X text out e = ap (λ (y : Solution). jobOutput y out) (sym e)
 
-pub answered-clashed : (base room : ℕ) (x : Solution) (xs : List Label) (a b c : Label) → x ≡ clashed xs a b c
+pub answered-clashed : (base room : ℕ) (x : Solution) (xs : List Token) (a b c : Label) → x ≡ clashed xs a b c
     → job-answer.Disagree (record { first = partOfLabel base xs a; second = partOfLabel base xs b; third = partOfLabel base xs c })
     ≡ answered base room x
 unfolding answered
 answered-clashed base room x xs a b c e = ap (answered base room) (sym e)
 
-pub output-clashed : (x : Solution) (xs : List Label) (a b c : Label) (out : List ℕ) → x ≡ clashed xs a b c → out ≡ jobOutput x out
+pub output-clashed : (x : Solution) (xs : List Token) (a b c : Label) (out : List ℕ) → x ≡ clashed xs a b c → out ≡ jobOutput x out
 unfolding jobOutput
 output-clashed x xs a b c out e = ap (λ (y : Solution). jobOutput y out) (sym e)
 
@@ -75,12 +78,12 @@ pub record SetFound (q : Task) (area : List ℕ) (places : LabelPlaces) (k : ℕ
   pub labels : labelsIn (q .first) (places .start) (places .size) (places .count) ≡ X
 
 -- a label of the list at place i
-pub record Clasher (list : List ℕ) (xs : List Label) (x : Label) (i : ℕ) : Type 0 where
+pub record Clasher (list : List ℕ) (xs : List Token) (x : Label) (i : ℕ) : Type 0 where
   pub inside : i ≤ length list
   pub part : (base : ℕ) → _≡_ {A = Part} (record { start = base + i; size = length (untilComma (drop i list)) }) (partOfLabel base xs x)
 
 pub record EightFound (q : Task) (i j k : ℕ) : Type 0 where
-  pub xs : List Label
+  pub xs : List Token
   pub a : Label
   pub b : Label
   pub c : Label
@@ -89,20 +92,20 @@ pub record EightFound (q : Task) (i j k : ℕ) : Type 0 where
   pub two : Clasher (q .required) xs b j
   pub three : Clasher (q .required) xs c k
 
-module _ (first list : List ℕ) (xs : List Label) (a b c : Label) (w : ClashedBy first list xs a b c) where
-  clasher : (x : Label) → isIn x xs ≡ true → (i : ℕ) → i ≡ placeOfLabel xs 0 x → Clasher list xs x i
+module _ (first list : List ℕ) (xs : List Token) (a b c : Label) (w : ClashedBy first list xs a b c) where
+  clasher : (x : Label) → isIn x (map spelling xs) ≡ true → (i : ℕ) → i ≡ placeOfLabel xs 0 x → Clasher list xs x i
   unfolding partOfLabel
   clasher x h i e =
       let l = label-listed first list xs a b c w x h in
       let s = l .0 .shown in
       let p : i ≡ length (s .before) = e ∙ s .place in
       record {
-        inside = omega (arith, p, ap (length {A = ℕ}) (s .is), length-append (s .before) (x ++ s .after));
+        inside = omega (arith, p, ap (length {A = ℕ}) (s .is), length-append (s .before) (tokenOfLabel xs x ++ s .after));
         part =
             λ base.
             ap₂ (λ (m n : ℕ). record { start = m; size = n }) (ap (λ (k : ℕ). base + k) e)
             (ap (λ (k : ℕ). length (untilComma (drop k list))) e
-            ∙ listed-size list (placeOfLabel xs 0 x) x (l .0) (good-bytes x (l .1)));
+            ∙ listed-size list (placeOfLabel xs 0 x) (tokenOfLabel xs x) (l .0) (token-comma (tokenOfLabel xs x) (l .1)));
       }
 
 module _ (q : Task) (blank area : List ℕ) (r : LargestResult) (roomy : length blank ≡ treeRoom)
@@ -132,7 +135,7 @@ module _ (q : Task) (blank area : List ℕ) (r : LargestResult) (roomy : length 
             few = omega (arith, set-few (q .first) (q .required) (length blank) s X text f, ap (λ (z : LargestResult). z .set .count) t);
             labels =
                 ap (λ (z : LargestResult). labelsIn (q .first) (z .set .start) (z .set .size) (z .set .count)) t
-                ∙ labels-are (q .first) (placeIn s 0) X (set-shown (q .first) (q .required) (length blank) s X text f);
+                ∙ labels-are (q .first) (placeIn s 0) (tokenIn s) X (set-shown (q .first) (q .required) (length blank) s X text f);
           }
       go (clashed xs a b c) g f t o =
           let h : Found n k ≡ Disagree (placeOfLabel xs 0 a) (placeOfLabel xs 0 b) (placeOfLabel xs 0 c) = sym e ∙ ap (λ (z : LargestResult). z .answer) t in

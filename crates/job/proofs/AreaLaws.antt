@@ -1,17 +1,18 @@
 -- Texts put into an area one after another, and a text handed over. Assumes nothing.
 use Prim.Native.Nat.{ℕ, zero, suc, _+_, _-_, _≤_, _<_, min}
 use mathlib.Core.Path.{_≡_, refl, sym, _∙_, ap, ap₂, subst}
-use mathlib.Core.Bool.{Bool, true, false, cond}
-use mathlib.Core.List.{List, [], _∷_, _++_, append-assoc, append-nil}
+use mathlib.Core.List.{List, [], _∷_, _++_, map, append-assoc, append-nil, map-append}
 use native.Mathlib.Nat.{add-zero, zero-add}
 use native.Mathlib.Numerals.{add-one}
 use native.Mathlib.Omega.{arith}
-use lib.Dec.{leb}
-use lib.ListN.{length, getD, set, take, drop, length-append, length-take, length-set, take-append-drop, drop-of-length-le}
-use lib.Seq.{take-suc, take-suc-set, drop-set-lt, drop-drop, take-length}
+use lib.ListN.{length, getD, set, take, drop, replicate, length-append, length-take, length-map, length-set, take-append-drop, drop-of-length-le}
+use lib.Seq.{take-at, take-suc, take-suc-set, drop-set-lt, drop-drop, take-length}
 use borrow.Author.Tests.{le-leb, lt-leb, eq-eqb, ne-eqb}
 use Rattle.trees.specs.Label.{Label, labelLimit}
-use Rattle.trees.specs.Stored.{partOf}
+use Rattle.trees.specs.Stored.{partOf, storedOf, storedBytes, shownOf, shownBytes}
+use Rattle.trees.specs.Token.{Token, spelling, tokenOf, tokenLimit}
+use Rattle.trees.proofs.StoredLaws.{shown-back}
+use Rattle.trees.proofs.TokenLaws.{token-short}
 use Rattle.lists.specs.ReadList.{joined}
 use Rattle.job.specs.declared.LineAnswer.the-variants.{Written, TooShort}
 use Rattle.job.specs.Answered.{outputShort, lineAnswer, lineOutput, labelIn}
@@ -99,36 +100,50 @@ output-short text out h = rw (lt-leb (length text) (length out) h) refl
 -- ---- labels
 
 pub label-short : (text : List ℕ) (start size : ℕ) → length (labelIn text start size) ≤ labelLimit
-unfolding labelIn partOf
-label-short text start size = go (leb (start + min size labelLimit) (length text))
-  where
-    go : (b : Bool) → length (cond b (take (min size labelLimit) (drop start text)) []) ≤ labelLimit
-    go true = omega (arith, length-take (min size labelLimit) (drop start text))
-    go false = omega arith
+unfolding labelIn
+label-short text start size = omega (arith, length-take labelLimit (spelling (partOf start size text)))
 
-pub item-first : (i : ℕ) (x : Label) → i ≡ 0 → x ≡ item i x
+-- what is kept of any label
+stored-cut : (x : Label) → storedBytes (storedOf x) ≡ take labelLimit x
+unfolding storedBytes storedOf
+stored-cut x =
+    let n : ℕ = min (length x) labelLimit in
+    take-at (take labelLimit x) (replicate (labelLimit - length x) 0) n (omega (arith, length-take labelLimit x))
+
+-- what is printed of the part that a place and a size name
+pub shown-part : (text : List ℕ) (start size : ℕ)
+    → shownBytes (shownOf (storedBytes (storedOf (spelling (partOf start size text))))) ≡ tokenOf (labelIn text start size)
+unfolding labelIn
+shown-part text start size =
+    ap (λ (l : Label). shownBytes (shownOf l)) (stored-cut (spelling (partOf start size text)))
+    ∙ shown-back (labelIn text start size) (label-short text start size)
+
+pub form-short : (text : List ℕ) (start size : ℕ) → length (tokenOf (labelIn text start size)) ≤ tokenLimit
+form-short text start size = token-short (labelIn text start size) (label-short text start size)
+
+pub item-first : (i : ℕ) (x : Token) → i ≡ 0 → x ≡ item i x
 unfolding item
 item-first zero x e = refl
 item-first (suc i) x e = absurd (omega arith)
 
-pub item-later : (i : ℕ) (x : Label) → (i ≡ 0 → ⊥) → (44 ∷ []) ++ x ≡ item i x
+pub item-later : (i : ℕ) (x : Token) → (i ≡ 0 → ⊥) → (44 ∷ []) ++ x ≡ item i x
 unfolding item
 item-later zero x h = absurd (h refl)
 item-later (suc i) x h = refl
 
-pub item-short : (i : ℕ) (x : Label) → length (item i x) ≤ length x + 1
+pub item-short : (i : ℕ) (x : Token) → length (item i x) ≤ length x + 1
 unfolding item
 item-short zero x = omega arith
 item-short (suc i) x = omega arith
 
-joined-more : (x : Label) (xs : List Label) (y : Label) → joined ((x ∷ xs) ++ (y ∷ [])) ≡ joined (x ∷ xs) ++ (44 ∷ y)
+joined-more : (x : Token) (xs : List Token) (y : Token) → joined ((x ∷ xs) ++ (y ∷ [])) ≡ joined (x ∷ xs) ++ (44 ∷ y)
 unfolding joined
 joined-more x [] y = refl
 joined-more x (z ∷ xs) y =
     ap (λ (l : List ℕ). x ++ (44 ∷ l)) (joined-more z xs y) ∙ sym (append-assoc x (44 ∷ joined (z ∷ xs)) (44 ∷ y))
 
 -- one label more
-pub joined-snoc : (xs : List Label) (y : Label) → joined (xs ++ (y ∷ [])) ≡ joined xs ++ item (length xs) y
+pub joined-snoc : (xs : List Token) (y : Token) → joined (xs ++ (y ∷ [])) ≡ joined xs ++ item (length xs) y
 unfolding joined item
 joined-snoc [] y = refl
 joined-snoc (x ∷ xs) y = joined-more x xs y
@@ -143,20 +158,24 @@ length-labels text starts sizes (suc n) =
 
 -- the label with number i put after the first i
 pub put-label : {a b d : List ℕ} {at i j : ℕ} (text starts sizes : List ℕ) (n : ℕ)
-    → Put a at (joined (labelsIn text starts sizes n)) i b
-    → Put b i (item n (labelIn text (getD starts n 0) (getD sizes n 0))) j d
-    → Put a at (joined (labelsIn text starts sizes (n + 1))) j d
+    → Put a at (joined (map tokenOf (labelsIn text starts sizes n))) i b
+    → Put b i (item n (tokenOf (labelIn text (getD starts n 0) (getD sizes n 0)))) j d
+    → Put a at (joined (map tokenOf (labelsIn text starts sizes (n + 1)))) j d
 unfolding labelsIn
 put-label text starts sizes n p q =
     let x : Label = labelIn text (getD starts n 0) (getD sizes n 0) in
-    put-as (joined (labelsIn text starts sizes n) ++ item n x) (joined (labelsIn text starts sizes (n + 1)))
-    (ap (λ (k : ℕ). joined (labelsIn text starts sizes n) ++ item k x) (sym (length-labels text starts sizes n))
-    ∙ sym (joined-snoc (labelsIn text starts sizes n) x)
-    ∙ ap (λ (k : ℕ). joined (labelsIn text starts sizes k)) (sym (add-one n)))
+    let X : List Label = labelsIn text starts sizes n in
+    let Z : List Token = map tokenOf X in
+    let count : n ≡ length Z = sym (length-map X tokenOf ∙ length-labels text starts sizes n) in
+    put-as (joined Z ++ item n (tokenOf x)) (joined (map tokenOf (labelsIn text starts sizes (n + 1))))
+    (ap (λ (k : ℕ). joined Z ++ item k (tokenOf x)) count
+    ∙ sym (joined-snoc Z (tokenOf x))
+    ∙ ap joined (sym (map-append tokenOf X (x ∷ [])))
+    ∙ ap (λ (k : ℕ). joined (map tokenOf (labelsIn text starts sizes k))) (sym (add-one n)))
     (put-then p q)
 
 -- no label
-pub first-none : (a : List ℕ) (at : ℕ) (text starts sizes : List ℕ) → Put a at (joined (labelsIn text starts sizes 0)) at a
+pub first-none : (a : List ℕ) (at : ℕ) (text starts sizes : List ℕ) → Put a at (joined (map tokenOf (labelsIn text starts sizes 0))) at a
 unfolding labelsIn joined
 first-none a at text starts sizes = put-to (at + 0) at (add-zero at) (put-none a at)
 

@@ -15,3 +15,4 @@ pub mod RowLaws
 pub mod ShownLaws
 pub mod SolvedLaws
 pub mod StrictLaws
+pub mod TokenBytes

@@ -1,16 +1,17 @@
 -- The parts of the lines, one after another, are the lines. Assumes nothing.
 use Prim.Native.Nat.{ℕ, _+_, _-_, _≤_}
 use mathlib.Core.Path.{_≡_, refl, _∙_, ap}
-use mathlib.Core.List.{List, [], _∷_, _++_, append-assoc}
+use mathlib.Core.List.{List, [], _∷_, _++_, map, append-assoc}
 use native.Mathlib.Omega.{arith}
 use lib.ListN.{length, take, length-append, length-take}
 use Rattle.contents.proofs.DecimalLaws.{decimal-short}
-use Rattle.job.proofs.AreaLaws.{label-short, item-short}
+use Rattle.job.proofs.AreaLaws.{form-short, item-short}
 use Rattle.trees.specs.declared.Reason.the-variants.{Disagree}
 use Rattle.trees.specs.declared.Body.the-variants.{K}
 use Rattle.trees.specs.declared.Refusal.{Refusal}
 use Rattle.trees.specs.Refusals.{numberOf, letterOf}
-use Rattle.trees.specs.Label.{Label, labelLimit}
+use Rattle.trees.specs.Label.{Label}
+use Rattle.trees.specs.Token.{Token, tokenOf, tokenLimit}
 use Rattle.lists.specs.ReadList.{joined}
 use Rattle.mast.specs.Largest.{turned}
 use Rattle.job.specs.declared.Named.{Named}
@@ -38,9 +39,9 @@ refusal-line-parts q = refl
 
 pub named-parts : (job : List ℕ) (n : Named)
     → refusedWords (record { reason = Disagree; body = K; place = 0 }) ++ (32 ∷ [])
-    ++ item 0 (labelIn job (n .first .start) (n .first .size))
-    ++ item 1 (labelIn job (n .second .start) (n .second .size))
-    ++ item 1 (labelIn job (n .third .start) (n .third .size))
+    ++ item 0 (tokenOf (labelIn job (n .first .start) (n .first .size)))
+    ++ item 1 (tokenOf (labelIn job (n .second .start) (n .second .size)))
+    ++ item 1 (tokenOf (labelIn job (n .third .start) (n .third .size)))
     ++ (10 ∷ [])
     ≡ namedLine job n
 unfolding namedLine printedOf joined item line
@@ -52,10 +53,10 @@ lines-of : (n w d x j y t : List ℕ)
 lines-of n w d x j y t = simp append-assoc
 
 pub record-parts : (X : List Label) (tree : List ℕ) (n : ℕ) → n ≡ length X
-    → bytesOf "size " ++ decimalOf n ++ (10 ∷ bytesOf "set ") ++ joined X ++ (10 ∷ bytesOf "tree ") ++ tree ++ (10 ∷ [])
+    → bytesOf "size " ++ decimalOf n ++ (10 ∷ bytesOf "set ") ++ joined (map tokenOf X) ++ (10 ∷ bytesOf "tree ") ++ tree ++ (10 ∷ [])
     ≡ recordLines X tree
 unfolding recordLines line
-record-parts X tree n e = rw e (lines-of (10 ∷ []) (bytesOf "size ") (decimalOf (length X)) (bytesOf "set ") (joined X) (bytesOf "tree ") tree)
+record-parts X tree n e = rw e (lines-of (10 ∷ []) (bytesOf "size ") (decimalOf (length X)) (bytesOf "set ") (joined (map tokenOf X)) (bytesOf "tree ") tree)
 
 -- what was put from 0 on is the front of the area
 pub put-front : {a b text : List ℕ} {n : ℕ} → Put a 0 text n b → take n b ≡ text
@@ -85,9 +86,9 @@ module _ {a b text : List ℕ} {n : ℕ} (p : Put a 0 text n b) where
   pub front-output : (o out : List ℕ) → o ≡ lineOutput (take n b) out → o ≡ lineOutput text out
   front-output o out e = e ∙ ap (λ (t : List ℕ). lineOutput t out) (put-front p)
 
--- a label that was shown, and the item it makes, are short
-pub named-short : (text : List ℕ) (start size : ℕ) {x : Label} → x ≡ labelIn text start size → length x ≤ labelLimit
-named-short text start size {x} e = omega (arith, ap (length {A = ℕ}) e, label-short text start size)
+-- a label that is printed, and the item it makes, are short
+pub named-short : (text : List ℕ) (start size : ℕ) {x : Token} → x ≡ tokenOf (labelIn text start size) → length x ≤ tokenLimit
+named-short text start size {x} e = omega (arith, ap (length {A = ℕ}) e, form-short text start size)
 
-pub item-named : (i : ℕ) (text : List ℕ) (start size : ℕ) {x : Label} → x ≡ labelIn text start size → length (item i x) ≤ itemRoom
+pub item-named : (i : ℕ) (text : List ℕ) (start size : ℕ) {x : Token} → x ≡ tokenOf (labelIn text start size) → length (item i x) ≤ itemRoom
 item-named i text start size {x} e = omega (arith, named-short text start size e, item-short i x)

@@ -3,7 +3,7 @@ use Prim.Native.Nat.{ℕ, _≤_}
 use mathlib.Core.Path.{_≡_, refl, sym, _∙_, ap, subst}
 use mathlib.Core.Bool.{true, false, cond}
 use mathlib.Core.Logic.{_⊎_, inl, inr, _↔_}
-use mathlib.Core.List.{List}
+use mathlib.Core.List.{List, map}
 use mathlib.Core.Option.{Option, some, none}
 use native.Mathlib.Omega.{arith}
 use lib.Dec.{leb}
@@ -11,11 +11,12 @@ use lib.ListN.{length}
 use borrow.Author.Tests.{le-leb, lt-leb, leb-true, leb-false}
 use Rattle.trees.specs.declared.Reason.the-variants.{Contents, JobTooLong}
 use Rattle.trees.specs.declared.Body.the-variants.{J}
-use Rattle.trees.specs.Label.{Label}
-use Rattle.trees.specs.Tree.{Tree}
+use Rattle.trees.specs.Text.{treeRoom}
+use Rattle.trees.specs.Token.{Token, spelling}
+use Rattle.trees.specs.Tree.{Tree, decoded}
 use Rattle.trees.specs.Reading.{Reading, good, refused}
 use Rattle.trees.proofs.Bools.{bool-cases}
-use Rattle.trees.proofs.TreeLaws.{valid-proper}
+use Rattle.trees.proofs.TokenLaws.{valid-decoded}
 use Rattle.newick.specs.ReadTree.{readTree}
 use Rattle.newick.proofs.Promises as newick
 use Rattle.lists.specs.ReadList.{readList}
@@ -31,7 +32,7 @@ use Rattle.mast.specs.Given.{Reads}
 use Rattle.mast.specs.Largest.{Solution, solutionOf, solveList, strayFor, solveShared, solveSecond, solveFirst, solve}
 use Rattle.mast.proofs.Promises as mast
 use Rattle.mast.proofs.StrayLaws.{nowhere-shared, stray-strict}
-use Rattle.job.specs.Printed.{jobLimit, treeRoom, taskOf, solveBodies, solveJob, printedOf, printed}
+use Rattle.job.specs.Printed.{jobLimit, taskOf, solveBodies, solveJob, printedOf, printed}
 use Rattle.job.specs.Outcome.{Follows, Holds, TreeBody, ListBody, Asks, refusal, JobOutcome}
 use Rattle.job.specs.Outcome.{too-long, no-contents, first-fault, second-fault, list-fault, stray-first, stray-second, first-lacks, second-lacks, disagreement, largest-set}
 use Rattle.job.proofs.RoomLaws.{text-fits}
@@ -44,12 +45,12 @@ tree-body text t e = let w = newick.accepted-text text t e in record { is = w .0
 pub body-tree : (text : List ℕ) (t : Tree) → TreeBody text t → readTree text ≡ good t
 body-tree text t b = ap readTree (b .is) ∙ newick.valid-read t (b .valid)
 
-list-body : (text : List ℕ) (xs : List Label) → readList text ≡ good xs → ListBody text xs
+list-body : (text : List ℕ) (xs : List Token) → readList text ≡ good xs → ListBody text xs
 list-body text xs e =
     let w = lists.accepted-list text xs e in
     record { is = w .0; labels = w .1; different = w .2; few = w .3 }
 
-body-list : (text : List ℕ) (xs : List Label) → ListBody text xs → readList text ≡ good xs
+body-list : (text : List ℕ) (xs : List Token) → ListBody text xs → readList text ≡ good xs
 body-list text xs b = ap readList (b .is) ∙ lists.labels-read xs (b .labels) (b .different) (b .few)
 
 holds-bodies : (job : List ℕ) (b : Bodies) → Holds job b → bodiesOf job ≡ some b
@@ -68,8 +69,8 @@ module _ (job : List ℕ) (b : Bodies) (held : Holds job b) where
     abbrev two-body : TreeBody (b .second) t
     two-body = tree-body (b .second) t second
 
-    module _ (shared : b .strict ≡ true → SameLeaves s t) where
-      asks : (xs : List Label) → readList (b .list) ≡ good xs → Asks job s t xs
+    module _ (shared : b .strict ≡ true → SameLeaves (decoded s) (decoded t)) where
+      asks : (xs : List Token) → readList (b .list) ≡ good xs → Asks job s t xs
       asks xs e = record {
         bodies = b;
         held = held;
@@ -79,18 +80,19 @@ module _ (job : List ℕ) (b : Bodies) (held : Holds job b) where
         required = list-body (b .list) xs e;
       }
 
-      listed : (z : Reading (List Label)) → readList (b .list) ≡ z → JobOutcome job (solveList s t treeRoom z)
+      listed : (z : Reading (List Token)) → readList (b .list) ≡ z → JobOutcome job (solveList s t treeRoom z)
       unfolding solveList solutionOf
       listed (refused r i) e = list-fault b held s t one-body two-body shared r i (lists.refused-first (b .list) r i e)
-      listed (good xs) e = answers (answer s t xs) refl
+      listed (good xs) e = answers (answer (decoded s) (decoded t) (map spelling xs)) refl
         where
           a : Asks job s t xs
           a = asks xs e
 
-          told : (A : Answer) → answer s t xs ≡ A → Outcome s t xs A
-          told A k = agreement.answer-promise s t xs (valid-proper s (a .first .valid)) (a .required .different) A .0 k
+          told : (A : Answer) → answer (decoded s) (decoded t) (map spelling xs) ≡ A → Outcome (decoded s) (decoded t) (map spelling xs) A
+          told A k =
+              agreement.answer-promise (decoded s) (decoded t) (map spelling xs) (valid-decoded s (a .first .valid)) (a .required .different) A .0 k
 
-          answers : (A : Answer) → answer s t xs ≡ A → JobOutcome job (solutionOf s xs treeRoom A)
+          answers : (A : Answer) → answer (decoded s) (decoded t) (map spelling xs) ≡ A → JobOutcome job (solutionOf s xs treeRoom A)
           answers (firstLacks n) k = first-lacks s t xs a n (told (firstLacks n) k)
           answers (secondLacks n) k = second-lacks s t xs a n (told (secondLacks n) k)
           answers (disagree p q r) k =
@@ -141,7 +143,7 @@ module _ (job : List ℕ) (b : Bodies) (held : Holds job b) where
   unfolding solveJob solveBodies
   job-solve = rw (le-leb (length job) jobLimit (held .size)) (ap solveBodies (holds-bodies job b held))
 
-module _ (job : List ℕ) (s t : Tree) (xs : List Label) (asks : Asks job s t xs) where
+module _ (job : List ℕ) (s t : Tree) (xs : List Token) (asks : Asks job s t xs) where
   abbrev bodies : Bodies
   bodies = asks .bodies
 
@@ -154,7 +156,7 @@ module _ (job : List ℕ) (s t : Tree) (xs : List Label) (asks : Asks job s t xs
         list-is = body-list (bodies .list) xs (asks .required);
       }
 
-  decided : (A : Answer) → Outcome s t xs A → solveJob job ≡ solutionOf s xs treeRoom A
+  decided : (A : Answer) → Outcome (decoded s) (decoded t) (map spelling xs) A → solveJob job ≡ solutionOf s xs treeRoom A
   decided A o =
       job-solve job bodies (asks .held)
       ∙ mast.outcome-promise (taskOf bodies) treeRoom s t xs reads A o

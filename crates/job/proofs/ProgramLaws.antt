@@ -2,40 +2,43 @@
 use Prim.Native.Nat.{ℕ, _+_, _*_, _≤_, _<_}
 use mathlib.Core.Path.{_≡_, refl, sym, _∙_, ap}
 use mathlib.Core.Bool.{true, false}
-use mathlib.Core.Logic.{_⊎_, inl, inr, ⊎-elim}
-use mathlib.Core.List.{List, [], _∷_, _++_}
+use mathlib.Core.Logic.{_⊎_, inl, inr}
+use mathlib.Core.List.{List, [], _∷_, _++_, map}
 use native.Mathlib.Omega.{arith}
 use lib.Dec.{leb}
-use lib.ListN.{length, take, drop, length-append, length-take}
+use lib.ListN.{length, take, drop, length-append, length-take, length-map}
 use lib.Seq.{take-all, take-append-seam}
 use borrow.Author.Tests.{le-leb, leb-true, leb-false}
 use Rattle.trees.specs.declared.Reason.the-variants.{Disagree}
 use Rattle.trees.specs.declared.Body.the-variants.{K}
 use Rattle.trees.specs.declared.Refusal.{Refusal}
-use Rattle.trees.specs.Label.{Label, isIn, labelLimit}
-use Rattle.trees.specs.Tree.{Tree, leafLimit, leaves}
+use Rattle.trees.specs.Label.{Label}
+use Rattle.trees.specs.Text.{treeRoom}
+use Rattle.trees.specs.Token.{Token, tokenOf, goodLabels}
+use Rattle.trees.specs.Tree.{Tree, leafLimit, decoded}
 use Rattle.trees.specs.Stored.{partOf}
 use Rattle.trees.specs.Words.{bytesOf}
+use Rattle.trees.specs.Writable.{writableLabels}
 use Rattle.trees.proofs.Bools.{bool-cases}
-use Rattle.trees.proofs.ListLaws.{in-one-eq}
+use Rattle.trees.proofs.ListLaws.{good-head}
+use Rattle.trees.proofs.TokenLaws.{good-short}
+use Rattle.trees.proofs.WritableLaws.{decoded-writable, tokens-good}
 use Rattle.lists.specs.ReadList.{joined}
-use Rattle.agreement.specs.Closer.{holds}
 use Rattle.agreement.specs.Sets.{setOf}
 use Rattle.agreement.specs.Restrict.{restrict}
 use Rattle.agreement.specs.Places.{keptText}
-use Rattle.agreement.proofs.SetLaws.{in-head, in-tail, in-cases, within-few}
 use Rattle.contents.specs.Contents.{line}
 use Rattle.contents.specs.Decimal.{decimalOf}
 use Rattle.contents.proofs.DecimalLaws.{decimal-short}
 use Rattle.mast.specs.Largest.{Solution, solved, clashed, turned}
-use Rattle.job.specs.Printed.{jobLimit, treeRoom, itemRoom, recordRoom, solveJob, refusedWords, recordLines, printedOf, printed}
+use Rattle.job.specs.Printed.{jobLimit, itemRoom, recordRoom, solveJob, refusedWords, recordLines, printedOf, printed}
 use Rattle.job.specs.Outcome.{JobOutcome, too-long, no-contents, first-fault, second-fault, list-fault, stray-first, stray-second, first-lacks, second-lacks, disagreement, largest-set}
 use Rattle.job.specs.Answered.{lineAnswer, lineOutput, writtenPart}
 use Rattle.job.proofs.AnswerLaws.{job-long}
+use Rattle.job.proofs.DemandLaws.{answer-few, answer-writable, eight-writable}
 use Rattle.job.proofs.LineLaws.{words-short}
 use Rattle.job.proofs.OutcomeLaws.{outcome-exactly}
 use Rattle.job.proofs.RoomLaws.{kept-short}
-use Rattle.job.proofs.ShownLaws.{good-in, good-short}
 
 -- ---- one byte over the limit is enough
 
@@ -69,35 +72,36 @@ written-whole text out h =
 
 -- ---- the lines of any answer are short
 
-joined-short : (X : List Label) → ((x : Label) → isIn x X ≡ true → length x ≤ labelLimit) → length (joined X) ≤ itemRoom * length X
+joined-short : (X : List Token) → goodLabels X ≡ true → length (joined X) ≤ itemRoom * length X
 unfolding joined
-joined-short [] all = omega arith
-joined-short (x ∷ []) all = omega (arith, all x (in-head x []))
-joined-short (x ∷ y ∷ ys) all =
-    omega (
-      arith,
-      all x (in-head x (y ∷ ys)),
-      length-append x (44 ∷ joined (y ∷ ys)),
-      joined-short (y ∷ ys) (λ (z : Label) (h : isIn z (y ∷ ys) ≡ true). all z (in-tail z x (y ∷ ys) h)),
-    )
+joined-short [] good = omega arith
+joined-short (x ∷ []) good = omega (arith, good-short x (good-head x [] good .0))
+joined-short (x ∷ y ∷ ys) good =
+    let g = good-head x (y ∷ ys) good in
+    omega (arith, good-short x (g .0), length-append x (44 ∷ joined (y ∷ ys)), joined-short (y ∷ ys) (g .1))
+
+-- labels as they are printed
+forms-short : (X : List Label) → writableLabels X ≡ true → length (joined (map tokenOf X)) ≤ itemRoom * length X
+forms-short X can = omega (arith, joined-short (map tokenOf X) (tokens-good X can), length-map X tokenOf)
 
 line-size : (w v : List ℕ) → length (line (w ++ v)) ≡ length w + length v + 1
 unfolding line
 line-size w v = omega (arith, length-append (w ++ v) (10 ∷ []), length-append w v)
 
-record-short : (s : Tree) (X : List Label) (text : List ℕ) → length X ≤ leafLimit → length (joined X) ≤ itemRoom * length X → length text ≤ treeRoom
+record-short : (s : Tree) (X : List Label) (text : List ℕ) → length X ≤ leafLimit → writableLabels X ≡ true → length text ≤ treeRoom
     → length (printedOf (solved s X text)) ≤ recordRoom
 unfolding printedOf recordLines bytesOf
-record-short s X text few labels short =
+record-short s X text few can short =
     let one : List ℕ = line (bytesOf "size " ++ decimalOf (length X)) in
-    let two : List ℕ = line (bytesOf "set " ++ joined X) in
+    let two : List ℕ = line (bytesOf "set " ++ joined (map tokenOf X)) in
     let three : List ℕ = line (bytesOf "tree " ++ text) in
     omega (
       arith,
       length-append one (two ++ three),
       length-append two three,
       line-size (bytesOf "size ") (decimalOf (length X)),
-      line-size (bytesOf "set ") (joined X),
+      line-size (bytesOf "set ") (joined (map tokenOf X)),
+      forms-short X can,
       line-size (bytesOf "tree ") text,
       decimal-short (length X),
     )
@@ -106,29 +110,20 @@ refusal-short : (q : Refusal) → length (printedOf (turned q)) ≤ recordRoom
 unfolding printedOf line
 refusal-short q = omega (arith, length-append (refusedWords q) (10 ∷ []), words-short q)
 
-three-labels : (a b c x : Label) → isIn x (a ∷ b ∷ c ∷ []) ≡ true → length a ≤ labelLimit → length b ≤ labelLimit → length c ≤ labelLimit
-    → length x ≤ labelLimit
-three-labels a b c x h p q r =
-    ⊎-elim (λ (e : x ≡ a). rw e p)
-    (λ (k : isIn x (b ∷ c ∷ []) ≡ true).
-    ⊎-elim (λ (e : x ≡ b). rw e q) (λ (m : isIn x (c ∷ []) ≡ true). rw (in-one-eq x c m) r) (in-cases x b (c ∷ []) k))
-    (in-cases x a (b ∷ c ∷ []) h)
-
-eight-short : (xs : List Label) (a b c : Label) → length a ≤ labelLimit → length b ≤ labelLimit → length c ≤ labelLimit
+eight-short : (xs : List Token) (a b c : Label) → writableLabels (a ∷ b ∷ c ∷ []) ≡ true
     → length (printedOf (clashed xs a b c)) ≤ recordRoom
 unfolding printedOf
-eight-short xs a b c p q r =
+eight-short xs a b c can =
     let three : List Label = a ∷ b ∷ c ∷ [] in
     let words : Refusal = record { reason = Disagree; body = K; place = 0 } in
     omega (
       arith,
-      line-size (refusedWords words) (32 ∷ joined three),
+      line-size (refusedWords words) (32 ∷ joined (map tokenOf three)),
       words-short words,
-      joined-short three (λ (x : Label) (h : isIn x three ≡ true). three-labels a b c x h p q r),
+      forms-short three can,
     )
 
 short : (job : List ℕ) (x : Solution) → JobOutcome job x → length (printedOf x) ≤ recordRoom
-unfolding holds
 short job x (too-long h) = refusal-short _
 short job x (no-contents h never) = refusal-short _
 short job x (first-fault b held r i f) = refusal-short _
@@ -139,15 +134,10 @@ short job x (stray-second b held k s t p q y a o) = refusal-short _
 short job x (first-lacks s t xs asks n o) = refusal-short _
 short job x (second-lacks s t xs asks n o) = refusal-short _
 short job x (disagreement s t xs asks a b c held o) =
-    let low : (y : Label) → isIn y xs ≡ true → length y ≤ labelLimit = λ (y : Label) (h : isIn y xs ≡ true). good-short y (good-in xs y (asks .required .labels) h) in
-    eight-short xs a b c (low a (o .clash .inOne)) (low b (o .clash .inTwo)) (low c (o .clash .inThree))
+    eight-short xs a b c (eight-writable job s t xs asks a b c o)
 short job x (largest-set s t xs asks X o) =
-    let v = asks .first .valid in
-    let inside : (y : Label) → isIn y X ≡ true → isIn y (leaves s) ≡ true = λ (y : Label) (h : isIn y X ≡ true). o .allowedSet .commonLeaves y h .0 in
-    record-short s X (keptText (restrict (setOf X) s))
-    (omega (arith, within-few X (leaves s) (o .allowedSet .ordered) (v .different) inside, v .few))
-    (joined-short X (λ (y : Label) (h : isIn y X ≡ true). good-short y (good-in (leaves s) y (v .labels) (inside y h))))
-    (kept-short (setOf X) s v)
+    record-short s X (keptText (restrict (setOf X) (decoded s))) (answer-few job s t xs asks X o) (answer-writable job s t xs asks X o)
+    (kept-short (setOf X) (decoded s) (decoded-writable s (asks .first .valid)))
 
 pub printed-short : (job : List ℕ) → length (printed job) ≤ recordRoom
 unfolding printed

@@ -1,22 +1,26 @@
 -- What jobs promise, in the scope paper's order; each theorem cites one name. Assumes nothing.
 use Prim.Native.Nat.{ℕ, _+_, _<_, _≤_}
 use mathlib.Core.Path.{_≡_}
+use mathlib.Core.Bool.{true}
 use mathlib.Core.Logic.{_↔_}
-use mathlib.Core.List.{List, []}
+use mathlib.Core.List.{List, [], _∷_}
 use mathlib.Core.Option.{some}
 use lib.ListN.{length, take}
 use Rattle.trees.specs.declared.Refusal.{Refusal}
 use Rattle.trees.specs.Refusals.{numberOf}
-use Rattle.trees.specs.Label.{Label}
-use Rattle.trees.specs.Tree.{Tree}
+use Rattle.trees.specs.Label.{Label, isIn}
+use Rattle.trees.specs.Text.{treeRoom}
+use Rattle.trees.specs.Token.{Token, spelling}
+use Rattle.trees.specs.Tree.{Tree, decoded}
 use Rattle.trees.specs.Words.{Within}
-use Rattle.agreement.specs.Places.{placeOfLabel}
+use Rattle.trees.specs.Writable.{writableLabels}
+use Rattle.agreement.specs.Places.{placeOfLabel, tokenOfLabel}
 use Rattle.agreement.specs.Strict.{SameLeaves}
 use Rattle.contents.specs.Contents.{Bodies, layoutOf, listPlace}
 use Rattle.mast.specs.Largest.{Solution, solved, clashed, turned, Task, solve}
 use Rattle.job.specs.declared.JobAnswer.the-variants as job-answer
 use Rattle.job.specs.declared.Named.{Named}
-use Rattle.job.specs.Printed.{jobLimit, treeRoom, recordRoom, solveBodies, solveJob, recordLines, printedOf, printed}
+use Rattle.job.specs.Printed.{jobLimit, recordRoom, solveBodies, solveJob, recordLines, printedOf, printed}
 use Rattle.job.specs.Answered.{outputShort, lineAnswer, lineOutput, writtenPart, namedLine, answerTo}
 use Rattle.job.specs.Outcome.{TreeBody, SetAnswered, EightAnswered, JobOutcome, Stopped, withoutLine}
 use Rattle.job.specs.Rows.{saidOfLine, saidOfJob, saidOfText, saidOfOutcome}
@@ -28,12 +32,16 @@ use Rattle.job.proofs.RoomLaws
 use Rattle.job.proofs.RowLaws
 use Rattle.job.proofs.StrictLaws
 
--- demand 3 from the bytes of a job: the lines of X and its text are printed exactly if the bodies are read and X is the answer
-pub demand-promise : (job : List ℕ) (X : List Label) (text : List ℕ) → (printed job ≡ recordLines X text) ↔ SetAnswered job X text
+-- demand 3 from the bytes of a job, "made on decoded labels" (request C-12): the labels of X can be written, and the lines of X and its text
+-- are printed, exactly if the bodies are read and X is the answer
+pub demand-promise : (job : List ℕ) (X : List Label) (text : List ℕ)
+    → ((writableLabels X ≡ true) × (printed job ≡ recordLines X text)) ↔ SetAnswered job X text
 demand-promise = DemandLaws.set-lines
 
--- number 8's line is printed exactly if the three are the first required labels with different closer pairs
-pub eight-promise : (job : List ℕ) (a b c : Label) → (printed job ≡ printedOf (clashed [] a b c)) ↔ EightAnswered job a b c
+-- three labels can be written, and number 8's line is printed with them, exactly if they are the first required labels with different
+-- closer pairs
+pub eight-promise : (job : List ℕ) (a b c : Label)
+    → ((writableLabels (a ∷ b ∷ c ∷ []) ≡ true) × (printed job ≡ printedOf (clashed [] a b c))) ↔ EightAnswered job a b c
 eight-promise = DemandLaws.eight-lines
 
 -- from the bytes of a job to demand 3, one row after another: what is printed is what belongs to the outcome that the papers give the
@@ -53,7 +61,7 @@ twelve-promise = StrictLaws.twelve-exactly
 
 -- "a larger set is still impossible in both sorts": where both trees hold the same leaves, a strict job comes to what it comes to
 -- without the line
-pub strict-promise : (b : Bodies) (s t : Tree) → TreeBody (b .first) s → TreeBody (b .second) t → SameLeaves s t
+pub strict-promise : (b : Bodies) (s t : Tree) → TreeBody (b .first) s → TreeBody (b .second) t → SameLeaves (decoded s) (decoded t)
     → solveBodies (some b) ≡ solveBodies (some (withoutLine b))
 strict-promise = StrictLaws.strict-same
 
@@ -85,11 +93,10 @@ nine-when-short = RoomLaws.short-output
 pub eight-line : (job : List ℕ) (room : ℕ) (n : Named) → answerTo job room ≡ job-answer.Disagree n → namedLine job n ≡ printed job
 eight-line = ClashLaws.clash-line
 
--- and each of its labels stands in the job where the answer says
-pub eight-places : (job : List ℕ) (xs : List Label) (a b c : Label) → solveJob job ≡ clashed xs a b c
-    → Within job (listPlace (layoutOf job) + placeOfLabel xs 0 a) a
-    × Within job (listPlace (layoutOf job) + placeOfLabel xs 0 b) b
-    × Within job (listPlace (layoutOf job) + placeOfLabel xs 0 c) c
+-- and each of its labels stands in the job where the answer says, as a token of the list that stands for it
+pub eight-places : (job : List ℕ) (xs : List Token) (a b c : Label) → solveJob job ≡ clashed xs a b c
+    → (x : Label) → isIn x (a ∷ b ∷ c ∷ []) ≡ true
+    → Within job (listPlace (layoutOf job) + placeOfLabel xs 0 x) (tokenOfLabel xs x) × (spelling (tokenOfLabel xs x) ≡ x)
 eight-places = ClashLaws.clash-shown
 
 -- "The program `agree` reads a job from standard input": it takes one byte over the limit in and no more, and writes what is printed for

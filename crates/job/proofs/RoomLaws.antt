@@ -2,7 +2,7 @@
 use Prim.Native.Nat.{ℕ, _≤_, _<_}
 use mathlib.Core.Path.{_≡_, refl, sym, _∙_, ap, subst}
 use mathlib.Core.Bool.{Bool, true, false, cond}
-use mathlib.Core.List.{List}
+use mathlib.Core.List.{List, map}
 use mathlib.Core.Option.{Option, some, none}
 use native.Mathlib.Omega.{arith}
 use lib.Dec.{leb}
@@ -14,11 +14,13 @@ use Rattle.trees.specs.declared.Body.the-variants.{J}
 use Rattle.trees.specs.declared.Refusal.{Refusal}
 use Rattle.trees.specs.Refusals.{numberOf}
 use Rattle.trees.specs.Label.{Label}
-use Rattle.trees.specs.Tree.{Tree, Valid, normal}
-use Rattle.trees.specs.Text.{normalText}
+use Rattle.trees.specs.Token.{Token, spelling, tokenOf}
+use Rattle.trees.specs.Tree.{Tree, Valid, relabel, decoded, normal}
+use Rattle.trees.specs.Text.{normalText, treeRoom}
+use Rattle.trees.specs.Writable.{Writable}
 use Rattle.trees.specs.Reading.{Reading, good, refused}
 use Rattle.trees.specs.Faults.{Fault, bad-byte, ends-too-soon, label-too-long, too-many, repeated}
-use Rattle.trees.proofs.NormalLaws.{normal-valid}
+use Rattle.trees.proofs.WritableLaws.{decoded-writable, writable-valid, normal-writable}
 use Rattle.trees.proofs.ArrayLaws.{text-short}
 use Rattle.newick.specs.ReadTree.{readTree}
 use Rattle.newick.proofs.Accepts.{accepts}
@@ -30,28 +32,30 @@ use Rattle.agreement.specs.Restrict.{restrict}
 use Rattle.agreement.specs.Answer.{Answer, firstLacks, secondLacks, disagree, largest, answer}
 use Rattle.agreement.specs.Places.{keptText}
 use Rattle.agreement.specs.Strict.{Stray, inFirst, inSecond, nowhere}
-use Rattle.agreement.proofs.RestrictText.{restrict-valid}
+use Rattle.agreement.proofs.RestrictText.{restrict-writable}
 use Rattle.mast.specs.Largest.{Solution, solved, clashed, turned, fitted, solutionOf, solveList, strayFor, solveShared, solveSecond, solveFirst, Task, solve}
 use Rattle.job.specs.declared.JobAnswer.the-variants as job-answer
 use Rattle.contents.specs.Contents.{Bodies, bodiesOf, layoutOf, listPlace}
-use Rattle.job.specs.Printed.{jobLimit, treeRoom, taskOf, solveBodies, solveJob, recordLines, printedOf, printed}
+use Rattle.job.specs.Printed.{jobLimit, taskOf, solveBodies, solveJob, recordLines, printedOf, printed}
 use Rattle.job.specs.Answered.{outputShort, lineAnswer, linesAnswer, recordAnswer, answered, answerTo}
 use Rattle.job.proofs.RecordLaws.{record-refused}
 
 -- ---- the text of a restriction
 
-pub kept-short : (X : Label → Bool) (s : Tree) → Valid s → length (keptText (restrict X s)) ≤ treeRoom
+pub kept-short : (X : Label → Bool) (t : Tree) → Writable t → length (keptText (restrict X t)) ≤ treeRoom
 unfolding keptText normalText
-kept-short X s v = go (restrict X s) refl
+kept-short X t w = go (restrict X t) refl
   where
-    go : (o : Option Tree) → restrict X s ≡ o → length (keptText o) ≤ treeRoom
+    go : (o : Option Tree) → restrict X t ≡ o → length (keptText o) ≤ treeRoom
     go none e = omega arith
-    go (some r) e = text-short (normal r) (normal-valid r (restrict-valid X s r v e))
+    go (some r) e =
+        text-short (relabel tokenOf (normal r)) (writable-valid (normal r) (normal-writable r (restrict-writable X t r w e)))
 
 pub text-fits : (s : Tree) (X : List Label) → Valid s
-    → fitted s X (keptText (restrict (setOf X) s)) treeRoom ≡ solved s X (keptText (restrict (setOf X) s))
+    → fitted s X (keptText (restrict (setOf X) (decoded s))) treeRoom ≡ solved s X (keptText (restrict (setOf X) (decoded s)))
 unfolding fitted
-text-fits s X v = rw (le-leb (length (keptText (restrict (setOf X) s))) treeRoom (kept-short (setOf X) s v)) refl
+text-fits s X v =
+    rw (le-leb (length (keptText (restrict (setOf X) (decoded s)))) treeRoom (kept-short (setOf X) (decoded s) (decoded-writable s v))) refl
 
 -- ---- the other refusals
 
@@ -62,7 +66,7 @@ fault-low (bad-byte i a b c) = omega arith
 fault-low (ends-too-soon a b) = omega arith
 fault-low (label-too-long j a b) = omega arith
 fault-low (too-many i a) = omega arith
-fault-low (repeated j k a b c d e) = omega arith
+fault-low (repeated j k a b c d e f) = omega arith
 
 -- not number 9
 abbrev pub NotNine : Solution → Type 0
@@ -78,10 +82,10 @@ module _ (q : Task) where
       low : (r : Reason) → numberOf r ≤ 5 → numberOf r ≡ 9 → ⊥
       low r h e = omega arith
 
-      listed : (s t : Tree) (c : Reading (List Label)) → readTree (q .first) ≡ good s → readList (q .required) ≡ c
+      listed : (s t : Tree) (c : Reading (List Token)) → readTree (q .first) ≡ good s → readList (q .required) ≡ c
           → NotNine (solveList s t treeRoom c)
       listed s t (refused r i) ea ec = low r (fault-low (refused-first (q .required) r i ec .here))
-      listed s t (good xs) ea ec = answers (answer s t xs)
+      listed s t (good xs) ea ec = answers (answer (decoded s) (decoded t) (map spelling xs))
         where
           answers : (w : Answer) → NotNine (solutionOf s xs treeRoom w)
           answers (firstLacks n) = λ h. omega arith
@@ -89,13 +93,13 @@ module _ (q : Task) where
           answers (disagree a b c) = tt
           answers (largest X) = subst NotNine (sym (text-fits s X (accepts (q .first) s ea .1))) tt
 
-      shared : (s t : Tree) (c : Reading (List Label)) (z : Stray) → readTree (q .first) ≡ good s → readList (q .required) ≡ c
+      shared : (s t : Tree) (c : Reading (List Token)) (z : Stray) → readTree (q .first) ≡ good s → readList (q .required) ≡ c
           → NotNine (solveShared s t treeRoom c z)
       shared s t c (inFirst x) ea ec = λ h. omega arith
       shared s t c (inSecond x) ea ec = λ h. omega arith
       shared s t c nowhere ea ec = listed s t c ea ec
 
-      go : (a b : Reading Tree) (c : Reading (List Label)) → readTree (q .first) ≡ a → readTree (q .second) ≡ b → readList (q .required) ≡ c
+      go : (a b : Reading Tree) (c : Reading (List Token)) → readTree (q .first) ≡ a → readTree (q .second) ≡ b → readList (q .required) ≡ c
           → NotNine (solveFirst (q .options) treeRoom a b c)
       go (refused r i) b c ea eb ec = low r (fault-low (refusal (q .first) r i ea .here))
       go (good s) (refused r i) c ea eb ec = low r (fault-low (refusal (q .second) r i eb .here))

@@ -1,17 +1,18 @@
 -- What the functions over jobs answer, and what the lent output then holds: all of it is told by what a job comes to (`solveJob`)
 -- and by its printed lines (`printedOf`). Scope paper, "Job and printed result" and "Why a job is turned down".
-use Prim.Native.Nat.{ℕ, _+_, min}
+use Prim.Native.Nat.{ℕ, _+_}
 use mathlib.Core.Bool.{Bool, cond}
 use mathlib.Core.List.{List, [], _++_}
 use lib.Dec.{leb}
-use lib.ListN.{length, drop}
+use lib.ListN.{length, take, drop}
 use Rattle.trees.specs.declared.Reason.the-variants.{TooShort as TooShortReason}
 use Rattle.trees.specs.declared.Body.the-variants.{O}
 use Rattle.trees.specs.declared.Refusal.{Refusal}
 use Rattle.trees.specs.Label.{Label, labelLimit}
 use Rattle.trees.specs.Stored.{partOf}
+use Rattle.trees.specs.Token.{Token, spelling}
 use Rattle.contents.specs.Contents.{layoutOf, listPlace}
-use Rattle.agreement.specs.Places.{placeOfLabel}
+use Rattle.agreement.specs.Places.{placeOfLabel, tokenOfLabel}
 use Rattle.mast.specs.Largest.{Solution, solved, clashed, turned}
 use Rattle.job.specs.declared.JobAnswer.{JobAnswer}
 use Rattle.job.specs.declared.JobAnswer.the-variants as job-answer
@@ -43,9 +44,9 @@ unfolding partOf
 writtenPart out (Written n) = partOf 0 n out
 writtenPart out (TooShort q) = []
 
--- the label of `size` bytes at a place of a text, cut after 16 bytes; nothing where it runs past the end
+-- the label that the `size` bytes at a place of a text stand for, cut after 16 bytes; nothing where they run past the end
 unfoldable pub labelIn : List ℕ → ℕ → ℕ → Label
-labelIn text start size = partOf start (min size labelLimit) text
+labelIn text start size = take labelLimit (spelling (partOf start size text))
 
 -- the line of number 8 with the labels that places and sizes in the job name
 unfoldable pub namedLine : List ℕ → Named → List ℕ
@@ -64,10 +65,10 @@ unfoldable pub recordAnswer : List ℕ → ℕ → JobAnswer
 unfolding linesAnswer lineAnswer
 recordAnswer lines room = linesAnswer (lineAnswer lines room)
 
--- a label of the list, which begins at `base` in the job
-unfoldable pub partOfLabel : ℕ → List Label → Label → Part
-unfolding placeOfLabel
-partOfLabel base xs x = record { start = base + placeOfLabel xs 0 x; size = length x }
+-- a label of the list, which begins at `base` in the job: "the part of the text shown for it has both quotes"
+unfoldable pub partOfLabel : ℕ → List Token → Label → Part
+unfolding placeOfLabel tokenOfLabel
+partOfLabel base xs x = record { start = base + placeOfLabel xs 0 x; size = length (tokenOfLabel xs x) }
 
 -- the answer to a job whose list begins at `base`, for an output of `room` bytes
 unfoldable pub answered : ℕ → ℕ → Solution → JobAnswer

@@ -6,6 +6,7 @@ use lib.Dec.{eqb}
 use mathlib.Core.List.{List, [], _∷_, _++_}
 use lib.ListN.{length, getD, take, drop}
 use Rattle.trees.specs.Label.{Label}
+use Rattle.trees.specs.Token.{Token}
 use Rattle.job.specs.Answered.{labelIn}
 
 -- a text was put into an area from `at` on: the next byte goes to `next`, and what stood before `at` stands there still
@@ -15,8 +16,8 @@ pub record Put (area : List ℕ) (at : ℕ) (text : List ℕ) (next : ℕ) (afte
   pub back : drop next after ≡ drop next area
   pub whole : length after ≡ length area
 
--- the label with number i, after a comma where it is not the first
-unfoldable pub item : ℕ → Label → List ℕ
+-- the label with number i as it is printed, after a comma where it is not the first
+unfoldable pub item : ℕ → Token → List ℕ
 item zero x = x
 item (suc i) x = 44 ∷ x
 

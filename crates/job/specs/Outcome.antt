@@ -1,16 +1,18 @@
 -- What the papers say of a job, from its bytes to demand 3. Scope paper, "Job and printed result", "Agreement" and "Why a job is
--- turned down".
+-- turned down". Trees and the list are as they are read, of tokens; request C-12: "The comparison with the definition is made on decoded
+-- labels."
 use Prim.Native.Nat.{ℕ, _≤_, _<_}
 use mathlib.Core.Path.{_≡_}
 use mathlib.Core.Bool.{true, false}
-use mathlib.Core.List.{List}
+use mathlib.Core.List.{List, map}
 use lib.ListN.{length}
 use Rattle.trees.specs.declared.Reason.{Reason}
 use Rattle.trees.specs.declared.Reason.the-variants.{FirstLacks, SecondLacks, Contents, JobTooLong, NotShared}
 use Rattle.trees.specs.declared.Body.{Body}
 use Rattle.trees.specs.declared.Body.the-variants.{S, T, K, J}
-use Rattle.trees.specs.Label.{Label, goodLabels, distinct}
-use Rattle.trees.specs.Tree.{Tree, Valid}
+use Rattle.trees.specs.Label.{Label, distinct}
+use Rattle.trees.specs.Token.{Token, spelling, goodLabels}
+use Rattle.trees.specs.Tree.{Tree, Valid, decoded}
 use Rattle.trees.specs.Text.{textOf}
 use Rattle.newick.specs.Grammar.{TreeFault}
 use Rattle.lists.specs.ReadList.{joined, listLimit}
@@ -41,19 +43,19 @@ pub record TreeBody (text : List ℕ) (t : Tree) : Type 0 where
   pub valid : Valid t
 
 -- a body that is the text of a list
-pub record ListBody (text : List ℕ) (xs : List Label) : Type 0 where
+pub record ListBody (text : List ℕ) (xs : List Token) : Type 0 where
   pub is : text ≡ joined xs
   pub labels : goodLabels xs ≡ true
-  pub different : distinct xs ≡ true
+  pub different : distinct (map spelling xs) ≡ true
   pub few : length xs ≤ listLimit
 
 -- the job holds two trees, which have the same leaves if it is strict (request C-11), and a required list: no row before 6 turns it away
-pub record Asks (job : List ℕ) (s t : Tree) (xs : List Label) : Type 0 where
+pub record Asks (job : List ℕ) (s t : Tree) (xs : List Token) : Type 0 where
   pub bodies : Bodies
   pub held : Holds job bodies
   pub first : TreeBody (bodies .first) s
   pub second : TreeBody (bodies .second) t
-  pub shared : bodies .strict ≡ true → SameLeaves s t
+  pub shared : bodies .strict ≡ true → SameLeaves (decoded s) (decoded t)
   pub required : ListBody (bodies .list) xs
 
 abbrev pub refusal : Reason → Body → ℕ → Solution
@@ -71,43 +73,44 @@ pub data JobOutcome (job : List ℕ) : Solution → Type 0 where
   second-fault : (b : Bodies) → Holds job b → (s : Tree) → TreeBody (b .first) s → (r : Reason) (i : ℕ) → TreeFault (b .second) r i
       → JobOutcome job (refusal r T i)
   list-fault : (b : Bodies) → Holds job b → (s t : Tree) → TreeBody (b .first) s → TreeBody (b .second) t
-      → (b .strict ≡ true → SameLeaves s t) → (r : Reason) (i : ℕ) → ListFault (b .list) r i → JobOutcome job (refusal r K i)
+      → (b .strict ≡ true → SameLeaves (decoded s) (decoded t)) → (r : Reason) (i : ℕ) → ListFault (b .list) r i
+      → JobOutcome job (refusal r K i)
   -- 12, where the job is strict: "the letter and place of the first such leaf in S or, if S has none, in T"
   stray-first : (b : Bodies) → Holds job b → b .strict ≡ true → (s t : Tree) → TreeBody (b .first) s → TreeBody (b .second) t
-      → (x : Label) → IsStray s t x → JobOutcome job (refusal NotShared S (placeIn s 0 x))
+      → (x : Label) → IsStray (decoded s) (decoded t) x → JobOutcome job (refusal NotShared S (placeIn s 0 x))
   stray-second : (b : Bodies) → Holds job b → b .strict ≡ true → (s t : Tree) → TreeBody (b .first) s → TreeBody (b .second) t
-      → (x : Label) → ((y : Label) → holds s y ≡ true → holds t y ≡ true) → IsStray t s x
+      → (x : Label) → ((y : Label) → holds (decoded s) y ≡ true → holds (decoded t) y ≡ true) → IsStray (decoded t) (decoded s) x
       → JobOutcome job (refusal NotShared T (placeIn t 0 x))
   -- 6 and 7, at the label's "first byte in K"
-  first-lacks : (s t : Tree) (xs : List Label) → Asks job s t xs → (n : ℕ) → IsFirstLacks s t xs n
+  first-lacks : (s t : Tree) (xs : List Token) → Asks job s t xs → (n : ℕ) → IsFirstLacks (decoded s) (decoded t) (map spelling xs) n
       → JobOutcome job (refusal FirstLacks K (placeOfNumber xs n))
-  second-lacks : (s t : Tree) (xs : List Label) → Asks job s t xs → (n : ℕ) → IsSecondLacks s t xs n
+  second-lacks : (s t : Tree) (xs : List Token) → Asks job s t xs → (n : ℕ) → IsSecondLacks (decoded s) (decoded t) (map spelling xs) n
       → JobOutcome job (refusal SecondLacks K (placeOfNumber xs n))
   -- 8, "three required leaves have different closer pairs"
-  disagreement : (s t : Tree) (xs : List Label) → Asks job s t xs → (a b c : Label) → Common s t (setOf xs) → IsDisagreement s t xs a b c
-      → JobOutcome job (clashed xs a b c)
+  disagreement : (s t : Tree) (xs : List Token) → Asks job s t xs → (a b c : Label) → Common (decoded s) (decoded t) (setOf (map spelling xs))
+      → IsDisagreement (decoded s) (decoded t) (map spelling xs) a b c → JobOutcome job (clashed xs a b c)
   -- demand 3: the set, and "the normal text of the common restriction"
-  largest-set : (s t : Tree) (xs : List Label) → Asks job s t xs → (X : List Label) → IsAnswer s t xs X
-      → JobOutcome job (solved s X (keptText (restrict (setOf X) s)))
+  largest-set : (s t : Tree) (xs : List Token) → Asks job s t xs → (X : List Label) → IsAnswer (decoded s) (decoded t) (map spelling xs) X
+      → JobOutcome job (solved s X (keptText (restrict (setOf X) (decoded s))))
 
 -- demand 3 of a set and a text that are printed: the bodies are read, the set is the answer, the text that of the common restriction
 pub record SetAnswered (job : List ℕ) (X : List Label) (text : List ℕ) : Type 0 where
   pub s : Tree
   pub t : Tree
-  pub xs : List Label
+  pub xs : List Token
   pub asked : Asks job s t xs
-  pub isAnswer : IsAnswer s t xs X
-  pub first-text : text ≡ keptText (restrict (setOf X) s)
-  pub second-text : text ≡ keptText (restrict (setOf X) t)
+  pub isAnswer : IsAnswer (decoded s) (decoded t) (map spelling xs) X
+  pub first-text : text ≡ keptText (restrict (setOf X) (decoded s))
+  pub second-text : text ≡ keptText (restrict (setOf X) (decoded t))
 
 -- number 8 of three labels: the bodies are read, both trees hold what is required, and these are the first three that disagree
 pub record EightAnswered (job : List ℕ) (a b c : Label) : Type 0 where
   pub s : Tree
   pub t : Tree
-  pub xs : List Label
+  pub xs : List Token
   pub asked : Asks job s t xs
-  pub common : Common s t (setOf xs)
-  pub isDisagreement : IsDisagreement s t xs a b c
+  pub common : Common (decoded s) (decoded t) (setOf (map spelling xs))
+  pub isDisagreement : IsDisagreement (decoded s) (decoded t) (map spelling xs) a b c
 
 -- number 12: the job is strict, its trees are read, and they do not hold the same leaves
 pub record Stopped (job : List ℕ) : Type 0 where
@@ -118,7 +121,7 @@ pub record Stopped (job : List ℕ) : Type 0 where
   pub t : Tree
   pub first : TreeBody (bodies .first) s
   pub second : TreeBody (bodies .second) t
-  pub differ : SameLeaves s t → ⊥
+  pub differ : SameLeaves (decoded s) (decoded t) → ⊥
 
 -- the bodies of the same job without the line `strict`
 abbrev pub withoutLine : Bodies → Bodies

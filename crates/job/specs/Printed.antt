@@ -1,7 +1,8 @@
--- What is printed for a job. Scope paper, "Job and printed result" and "Why a job is turned down".
-use Prim.Native.Nat.{ℕ, _+_, _-_, _*_}
+-- What is printed for a job. Scope paper, "Job and printed result" and "Why a job is turned down". Sets and their labels are decoded; each
+-- label is printed in the one form by which it is written (request C-12: "for trees and every printed label").
+use Prim.Native.Nat.{ℕ, _+_, _*_}
 use mathlib.Core.Bool.{cond}
-use mathlib.Core.List.{List, [], _∷_, _++_}
+use mathlib.Core.List.{List, [], _∷_, _++_, map}
 use mathlib.Core.Option.{Option, some, none}
 use lib.Dec.{leb}
 use lib.ListN.{length}
@@ -9,7 +10,9 @@ use Rattle.trees.specs.declared.Reason.the-variants.{Disagree, Contents, JobToo
 use Rattle.trees.specs.declared.Body.the-variants.{K, J}
 use Rattle.trees.specs.declared.Refusal.{Refusal}
 use Rattle.trees.specs.Refusals.{numberOf, letterOf}
-use Rattle.trees.specs.Label.{Label, labelLimit}
+use Rattle.trees.specs.Label.{Label}
+use Rattle.trees.specs.Text.{treeRoom}
+use Rattle.trees.specs.Token.{tokenOf, tokenLimit}
 use Rattle.trees.specs.Tree.{leafLimit}
 use Rattle.trees.specs.Words.{bytesOf}
 use Rattle.lists.specs.ReadList.{joined}
@@ -21,13 +24,9 @@ use Rattle.mast.specs.Largest.{Solution, solved, clashed, turned, Task, task, s
 abbrev pub jobLimit : ℕ
 jobLimit = 8192
 
--- the longest text that a tree can have, its labels, `(` `,` `)` of each inner node and `;`; the library's own area for it
-abbrev pub treeRoom : ℕ
-treeRoom = leafLimit * labelLimit + 3 * (leafLimit - 1) + 1
-
--- a label and a comma
+-- a label as it is printed, and a comma
 abbrev pub itemRoom : ℕ
-itemRoom = labelLimit + 1
+itemRoom = tokenLimit + 1
 
 -- `refused`, number, letter and place, with three blanks
 abbrev pub wordsRoom : ℕ
@@ -66,14 +65,14 @@ refusedWords q =
 unfoldable pub recordLines : List Label → List ℕ → List ℕ
 unfolding bytesOf decimalOf joined line
 recordLines X text =
-    line (bytesOf "size " ++ decimalOf (length X)) ++ (line (bytesOf "set " ++ joined X) ++ line (bytesOf "tree " ++ text))
+    line (bytesOf "size " ++ decimalOf (length X)) ++ (line (bytesOf "set " ++ joined (map tokenOf X)) ++ line (bytesOf "tree " ++ text))
 
 -- "Number 8 adds a space and its three labels joined by commas."
 unfoldable pub printedOf : Solution → List ℕ
 unfolding refusedWords recordLines joined line
 printedOf (solved s X text) = recordLines X text
 printedOf (clashed xs a b c) =
-    line (refusedWords (record { reason = Disagree; body = K; place = 0 }) ++ (32 ∷ joined (a ∷ b ∷ c ∷ [])))
+    line (refusedWords (record { reason = Disagree; body = K; place = 0 }) ++ (32 ∷ joined (map tokenOf (a ∷ b ∷ c ∷ []))))
 printedOf (turned q) = line (refusedWords q)
 
 unfoldable pub printed : List ℕ → List ℕ

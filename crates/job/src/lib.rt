@@ -6,8 +6,11 @@ use lists::LabelPlaces;
 use mast::LargestAnswer;
 use mast::Options;
 use trees::Body;
+use trees::LEAF_LIMIT;
 use trees::Reason;
 use trees::Refusal;
+use trees::TOKEN_LIMIT;
+use trees::TREE_ROOM;
 ghost use mathlib.Core.Path.{_≡_};
 ghost use lib.ListN.{length};
 ghost use Prim.Native.Nat.{_+_, _≤_};
@@ -15,8 +18,9 @@ ghost use lib.ListN.{drop, replicate};
 ghost use Rattle.mast.specs.Largest.{turned, task, solve};
 ghost use Rattle.job.specs.declared.JobAnswer as JobAnswer;
 ghost use Rattle.trees.specs.declared.Body.the-variants.{J};
+ghost use Rattle.trees.specs.Text.{treeRoom};
 ghost use Rattle.trees.specs.Tree.{leafLimit};
-ghost use Rattle.job.specs.Printed.{printedOf, printed, recordLines, solveJob, treeRoom, jobLimit};
+ghost use Rattle.job.specs.Printed.{printedOf, printed, recordLines, solveJob, jobLimit};
 ghost use Rattle.job.specs.Areas.{labelsIn, untilComma};
 ghost use Rattle.job.specs.Answered.{lineAnswer, lineOutput, writtenPart, namedLine, answered, answerTo, jobOutput, recordAnswer};
 
@@ -29,14 +33,14 @@ const JOB_LIMIT: usize = 8192;
 // A byte more than that.
 const JOB_AREA: usize = JOB_LIMIT + 1;
 
-// The longest text that a tree can have: 80 labels of 16 bytes, 79 inner nodes of 3 bytes, and `;`.
-const TREE_ROOM: usize = 80 * 16 + 3 * 79 + 1;
+// A label as it is printed, and a comma.
+const ITEM_ROOM: usize = TOKEN_LIMIT + 1;
 
-// A refusal's line: words with two numbers of 20 digits, three labels of 16 bytes with their commas, a blank and a line end.
-const LINE_ROOM: usize = 11 + 2 * 20 + 2 + 3 * 17;
+// A refusal's line: words with two numbers of 20 digits, three labels with their commas, a blank and a line end.
+const LINE_ROOM: usize = 11 + 2 * 20 + 2 + 3 * ITEM_ROOM;
 
 // The three lines: their words, a number of 20 digits, 80 labels with their commas, and the tree's text.
-const RECORD_ROOM: usize = 17 + 20 + 80 * 17 + TREE_ROOM;
+const RECORD_ROOM: usize = 17 + 20 + LEAF_LIMIT * ITEM_ROOM + TREE_ROOM;
 
 // How many bytes the lines have that now stand in the output, or number 9 where it is too short for them.
 pub enum LineAnswer {
@@ -93,7 +97,7 @@ pub fn refusal_line(refusal: Refusal, out: &mut [u8]) -> LineAnswer
     lines::hand_over(&line[..n], out)
 }
 
-// The line of number 8 into `out`: the labels are the parts of the job that the places and sizes name.
+// The line of number 8 into `out`: the labels are those that the parts of the job, named by places and sizes, stand for.
 pub fn disagreement_line(job: &[u8], named: Named, out: &mut [u8]) -> LineAnswer
     ensures answer { λ r. ⌜ r ≡ lineAnswer (namedLine (now (job .entry)) named) (length (now (out .entry))) ⌝ }
     ensures output { λ _. ⌜ now (out .exit) ≡ lineOutput (namedLine (now (job .entry)) named) (now (out .entry)) ⌝ }

@@ -3,21 +3,22 @@ use crate::LineAnswer;
 use crate::Named;
 use crate::decimal::put_digits;
 use trees::Body;
-use trees::LABEL_LIMIT;
 use trees::Reason;
 use trees::Refusal;
-use trees::StoredLabel;
+use trees::ShownLabel;
 use trees::wide;
 ghost use mathlib.Core.Path.{_≡_};
-ghost use mathlib.Core.List.{[], _∷_};
+ghost use mathlib.Core.List.{[], _∷_, map};
 ghost use Prim.Native.Nat.{_+_, _*_, _≤_};
 ghost use lib.ListN.{length};
 ghost use Rattle.contents.specs.Decimal.{decimalOf, digitRoom};
-ghost use Rattle.trees.specs.Stored.{storedBytes};
+ghost use Rattle.trees.specs.Stored.{shownBytes};
+ghost use Rattle.trees.specs.Text.{treeRoom};
+ghost use Rattle.trees.specs.Token.{tokenOf};
 ghost use Rattle.trees.specs.Tree.{leafLimit};
 ghost use Rattle.lists.specs.ReadList.{joined};
 ghost use Rattle.mast.specs.Largest.{turned};
-ghost use Rattle.job.specs.Printed.{refusedWords, recordLines, printedOf, treeRoom, itemRoom, wordsRoom, lineRoom, recordRoom};
+ghost use Rattle.job.specs.Printed.{refusedWords, recordLines, printedOf, itemRoom, wordsRoom, lineRoom, recordRoom};
 ghost use Rattle.job.specs.Answered.{lineAnswer, lineOutput, labelIn, namedLine};
 ghost use Rattle.job.specs.Areas.{Put, item, labelsIn};
 
@@ -54,32 +55,32 @@ pub(crate) fn put_number(n: usize, area: &mut [u8], at: usize) -> usize
     put_digits(DIGIT_ROOM, n, area, at)
 }
 
-// The label of `size` bytes at a place of a text, kept apart from it, cut after 16 bytes; nothing where it runs past the end.
-pub(crate) fn label_in(text: &[u8], start: usize, size: usize) -> StoredLabel
-    ensures { λ r. ⌜ storedBytes r ≡ labelIn (now (text .entry)) start size ⌝ }
+// The label that the `size` bytes at a place of a text stand for, as it is printed; of one that no reader accepts, 16 bytes.
+pub(crate) fn label_in(text: &[u8], start: usize, size: usize) -> ShownLabel
+    ensures { λ r. ⌜ shownBytes r ≡ tokenOf (labelIn (now (text .entry)) start size) ⌝ }
 {
-    trees::stored(trees::part(text, start, trees::least(size, LABEL_LIMIT)))
+    trees::shown(trees::stored(trees::part(text, start, size)))
 }
 
-// Puts a label that is kept apart from its text.
-pub(crate) fn put_stored(x: StoredLabel, area: &mut [u8], at: usize) -> usize
-    requires { ⌜ at + length (storedBytes x) ≤ length (now area) ⌝ }
-    ensures { λ r. ⌜ Put (now (area .entry)) at (storedBytes x) r (now (area .exit)) ⌝ }
+// Puts a label as it is printed.
+pub(crate) fn put_shown(x: ShownLabel, area: &mut [u8], at: usize) -> usize
+    requires { ⌜ at + length (shownBytes x) ≤ length (now area) ⌝ }
+    ensures { λ r. ⌜ Put (now (area .entry)) at (shownBytes x) r (now (area .exit)) ⌝ }
 {
     let bytes = x.bytes;
     put_bytes(trees::first_bytes(&bytes, x.len), area, at)
 }
 
 // Puts a label, after a comma where it is not the first.
-pub(crate) fn put_item(i: usize, x: StoredLabel, area: &mut [u8], at: usize) -> usize
-    requires { ⌜ at + 1 + length (storedBytes x) ≤ length (now area) ⌝ }
-    ensures { λ r. ⌜ Put (now (area .entry)) at (item i (storedBytes x)) r (now (area .exit)) ⌝ }
+pub(crate) fn put_item(i: usize, x: ShownLabel, area: &mut [u8], at: usize) -> usize
+    requires { ⌜ at + 1 + length (shownBytes x) ≤ length (now area) ⌝ }
+    ensures { λ r. ⌜ Put (now (area .entry)) at (item i (shownBytes x)) r (now (area .exit)) ⌝ }
 {
     if i == 0 {
-        return put_stored(x, area, at);
+        return put_shown(x, area, at);
     }
     let next = put_byte(b',', area, at);
-    put_stored(x, area, next)
+    put_shown(x, area, next)
 }
 
 // Puts the first `count` labels that places and sizes name, joined by commas.
@@ -95,7 +96,7 @@ pub(crate) fn put_labels(
     requires { ⌜ at + itemRoom * count ≤ length (now area) ⌝ }
     ensures { λ r.
         ⌜ Put (now (area .entry)) at
-        (joined (labelsIn (now (text .entry)) (now (start .entry)) (now (size .entry)) count)) r (now (area .exit)) ⌝ }
+        (joined (map tokenOf (labelsIn (now (text .entry)) (now (start .entry)) (now (size .entry)) count))) r (now (area .exit)) ⌝ }
     ensures { λ r. ⌜ r ≤ at + itemRoom * count ⌝ }
 {
     let mut next = at;

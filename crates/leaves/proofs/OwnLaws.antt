@@ -10,15 +10,17 @@ use lib.Dec.{eqb}
 use lib.ListN.{length, getD, replicate}
 use borrow.Author.Tests.{ne-eqb, eq-eqb, le-leb}
 use Rattle.trees.specs.Label.{Label, sameLabel, isIn}
-use Rattle.trees.specs.Tree.{Tree, leaf, node, leaves, Valid}
+use Rattle.trees.specs.Token.{Token, spelling}
+use Rattle.trees.specs.Tree.{Tree, leaf, node, leaves, decoded, Valid}
 use Rattle.trees.specs.Text.{textOf}
 use Rattle.trees.specs.Arrays.{arraysOf, nodesOf, lefts, rights, starts, sizes, isLeaf, nodeLimit}
 use Rattle.trees.specs.Stored.{partOf}
 use Rattle.trees.specs.Postorder.{postorder, subtree, LaidNode, laid-leaf, laid-node, Laid}
 use Rattle.trees.proofs.Bools.{bool-cases, clash}
-use Rattle.trees.proofs.LabelLaws.{same-eq, same-refl}
+use Rattle.trees.proofs.LabelLaws.{same-eq, eq-same}
 use Rattle.trees.proofs.ArrayLaws.{own-stands, good-at, label-inside, few-nodes}
 use Rattle.trees.proofs.PostorderLaws.{laid-arrays, length-postorder, label-shown, LeafAt, leaf-at, subtree-in, holds-leaf}
+use Rattle.trees.proofs.DecodedLaws.{decoded-nodes, token-of-leaf, leaf-of-token}
 use Rattle.leaves.specs.Find.{labelled, leafFrom, foundLeaf, ShowsLeaf}
 pub use Rattle.leaves.specs.Find.{ownFound}
 
@@ -42,8 +44,8 @@ pub own-inner : (t : Tree) (u : ℕ) (a b : Tree) → u < nodesOf t → subtree 
     → getD (arraysOf t .left) u 0 < u
 own-inner t u a b h e = laid-other e (own-laid t u (omega (arith, length-postorder t)))
 
--- a leaf's label is the part of the text that its start and size name
-pub own-label : (t : Tree) → Valid t → (u : ℕ) (x : Label) → u < nodesOf t → subtree (postorder t) u ≡ leaf x
+-- a leaf's token is the part of the text that its start and size name
+pub own-label : (t : Tree) → Valid t → (u : ℕ) (x : Token) → u < nodesOf t → subtree (postorder t) u ≡ leaf x
     → partOf (getD (arraysOf t .start) u 0) (getD (arraysOf t .size) u 0) (textOf t) ≡ x
 unfolding partOf isLeaf arraysOf
 own-label t v u x h e =
@@ -52,11 +54,18 @@ own-label t v u x h e =
     rw (le-leb (getD (arraysOf t .start) u 0 + getD (arraysOf t .size) u 0) (length (textOf t)) (i .inside))
     (label-shown t (replicate (nodeLimit - length (starts t 0)) 0) (replicate (nodeLimit - length (sizes t)) 0) u h x e)
 
+-- and it stands for the label of the decoded tree's leaf
+pub own-spelling : (t : Tree) → Valid t → (u : ℕ) (x : Label) → u < nodesOf t → subtree (postorder (decoded t)) u ≡ leaf x
+    → spelling (partOf (getD (arraysOf t .start) u 0) (getD (arraysOf t .size) u 0) (textOf t)) ≡ x
+own-spelling t v u x h e =
+    let f = token-of-leaf t u x h e in
+    ap spelling (own-label t v u (f .token) h (f .is)) ∙ f .label
+
 abbrev pub ownLabelled : Tree → Label → ℕ → Bool
 ownLabelled t x = labelled (textOf t) (arraysOf t .left) (arraysOf t .start) (arraysOf t .size) x
 
-labelled-leaf : (t : Tree) → Valid t → (u : ℕ) (x y : Label) → u < nodesOf t → subtree (postorder t) u ≡ leaf y
-    → ownLabelled t x u ≡ sameLabel y x
+labelled-leaf : (t : Tree) → Valid t → (u : ℕ) (x : Label) (y : Token) → u < nodesOf t → subtree (postorder t) u ≡ leaf y
+    → ownLabelled t x u ≡ sameLabel (spelling y) x
 unfolding labelled
 labelled-leaf t v u x y h e =
     rw (eq-eqb (getD (arraysOf t .left) u 0) u (own-leaf t u y h e), own-label t v u y h e) refl
@@ -70,16 +79,18 @@ labelled-inner t u x a b h e =
 
 -- a node passes the test exactly if it is the leaf with the label
 pub labelled-is : (t : Tree) → Valid t → (u : ℕ) (x : Label) → u < nodesOf t → ownLabelled t x u ≡ true
-    → subtree (postorder t) u ≡ leaf x
+    → subtree (postorder (decoded t)) u ≡ leaf x
 labelled-is t v u x h k = go (subtree (postorder t) u) refl
   where
-    go : (s : Tree) → subtree (postorder t) u ≡ s → subtree (postorder t) u ≡ leaf x
-    go (leaf y) e = e ∙ ap leaf (same-eq y x (sym (labelled-leaf t v u x y h e) ∙ k))
+    go : (s : Tree) → subtree (postorder t) u ≡ s → subtree (postorder (decoded t)) u ≡ leaf x
+    go (leaf y) e = leaf-of-token t u y h e ∙ ap leaf (same-eq (spelling y) x (sym (labelled-leaf t v u x y h e) ∙ k))
     go (node a b) e = clash k (labelled-inner t u x a b h e)
 
-pub is-labelled : (t : Tree) → Valid t → (u : ℕ) (x : Label) → u < nodesOf t → subtree (postorder t) u ≡ leaf x
+pub is-labelled : (t : Tree) → Valid t → (u : ℕ) (x : Label) → u < nodesOf t → subtree (postorder (decoded t)) u ≡ leaf x
     → ownLabelled t x u ≡ true
-is-labelled t v u x h e = labelled-leaf t v u x x h e ∙ same-refl x
+is-labelled t v u x h e =
+    let f = token-of-leaf t u x h e in
+    labelled-leaf t v u x (f .token) h (f .is) ∙ eq-same (spelling (f .token)) x (f .label)
 
 -- the search stops at the first node that passes, or passes none
 pub data Search (is : ℕ → Bool) (n u r : ℕ) : Type 0 where
@@ -112,31 +123,36 @@ found-search t x v =
     let e : min (nodesOf t) nodeLimit ≡ nodesOf t = omega (arith, few-nodes t v) in
     rw e (search-from (ownLabelled t x) (nodesOf t) 0)
 
-pub found : (t : Tree) (x : Label) → Valid t → isIn x (leaves t) ≡ true → Found t x (ownFound t x)
-found t x v h = go (found-search t x v) (leaf-at t x h)
+pub found : (t : Tree) (x : Label) → Valid t → isIn x (leaves (decoded t)) ≡ true → Found (decoded t) x (ownFound t x)
+found t x v h = go (found-search t x v) (leaf-at (decoded t) x h)
   where
-    go : Search (ownLabelled t x) (nodesOf t) 0 (ownFound t x) → LeafAt t x → Found t x (ownFound t x)
-    go (hit l k) a = record { below = omega arith; is = labelled-is t v (ownFound t x) x (omega arith) k }
-    go (none e k) a = clash (is-labelled t v (a .at) x (a .below) (a .is)) (k (a .at) (omega arith) (omega (arith, a .below)))
+    go : Search (ownLabelled t x) (nodesOf t) 0 (ownFound t x) → LeafAt (decoded t) x → Found (decoded t) x (ownFound t x)
+    go (hit l k) a =
+        record { below = omega (arith, decoded-nodes t); is = labelled-is t v (ownFound t x) x (omega arith) k }
+    go (none e k) a =
+        let below : a .at < nodesOf t = omega (arith, a .below, decoded-nodes t) in
+        clash (is-labelled t v (a .at) x below (a .is)) (k (a .at) (omega arith) (omega arith))
 
-pub missing : (t : Tree) (x : Label) → Valid t → isIn x (leaves t) ≡ false → ownFound t x ≡ nodesOf t
+pub missing : (t : Tree) (x : Label) → Valid t → isIn x (leaves (decoded t)) ≡ false → ownFound t x ≡ nodesOf t
 missing t x v h = go (found-search t x v)
   where
     go : Search (ownLabelled t x) (nodesOf t) 0 (ownFound t x) → ownFound t x ≡ nodesOf t
     go (hit l k) =
         clash
-        (subtree-in t (ownFound t x) (omega arith) x
-        (holds-leaf (subtree (postorder t) (ownFound t x)) x (labelled-is t v (ownFound t x) x (omega arith) k)))
+        (subtree-in (decoded t) (ownFound t x) (omega (arith, decoded-nodes t)) x
+        (holds-leaf (subtree (postorder (decoded t)) (ownFound t x)) x (labelled-is t v (ownFound t x) x (omega arith) k)))
         h
     go (none e k) = omega arith
 
 -- the leaf that is found has the label
-pub found-shown : (t : Tree) → Valid t → (x : Label) → isIn x (leaves t) ≡ true → ShowsLeaf t (ownFound t x) x
+pub found-shown : (t : Tree) → Valid t → (x : Label) → isIn x (leaves (decoded t)) ≡ true → ShowsLeaf t (ownFound t x) x
 unfolding isLeaf
 found-shown t v x h =
     let f = found t x v h in
+    let below : ownFound t x < nodesOf t = omega (arith, f .below, decoded-nodes t) in
+    let own = token-of-leaf t (ownFound t x) x below (f .is) in
     record {
-      below = f .below;
-      leaf = eq-eqb (getD (arraysOf t .left) (ownFound t x) 0) (ownFound t x) (own-leaf t (ownFound t x) x (f .below) (f .is));
-      label = own-label t v (ownFound t x) x (f .below) (f .is);
+      below = below;
+      leaf = eq-eqb (getD (arraysOf t .left) (ownFound t x) 0) (ownFound t x) (own-leaf t (ownFound t x) (own .token) below (own .is));
+      label = own-spelling t v (ownFound t x) x below (f .is);
     }

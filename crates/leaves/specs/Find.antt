@@ -6,15 +6,16 @@ use mathlib.Core.List.{List}
 use lib.Dec.{eqb}
 use lib.ListN.{getD}
 use Rattle.trees.specs.Label.{Label, sameLabel}
+use Rattle.trees.specs.Token.{spelling}
 use Rattle.trees.specs.Tree.{Tree}
 use Rattle.trees.specs.Text.{textOf}
 use Rattle.trees.specs.Arrays.{nodeLimit, nodesOf, arraysOf, isLeaf}
 use Rattle.trees.specs.Stored.{leafLabel}
 
--- node u is a leaf with label x
+-- node u is a leaf whose token stands for label x
 unfoldable pub labelled : List ℕ → List ℕ → List ℕ → List ℕ → Label → ℕ → Bool
 labelled text left start size x u =
-    eqb (getD left u 0) u && sameLabel (leafLabel text start size u) x
+    eqb (getD left u 0) u && sameLabel (spelling (leafLabel text start size u)) x
 
 -- the first of the n nodes from u on that is, or the node after them
 unfoldable pub leafFrom : (ℕ → Bool) → ℕ → ℕ → ℕ
@@ -29,8 +30,8 @@ foundLeaf text left start size x nodes = leafFrom (labelled text left start size
 abbrev pub ownFound : Tree → Label → ℕ
 ownFound t x = foundLeaf (textOf t) (arraysOf t .left) (arraysOf t .start) (arraysOf t .size) x (nodesOf t)
 
--- node u of the tree's arrays is a leaf, and x is the part of the text that shows it
+-- node u of the tree's arrays is a leaf, and the part of the text that shows it stands for x
 pub record ShowsLeaf (t : Tree) (u : ℕ) (x : Label) : Type 0 where
   pub below : u < nodesOf t
   pub leaf : isLeaf (arraysOf t) u ≡ true
-  pub label : leafLabel (textOf t) (arraysOf t .start) (arraysOf t .size) u ≡ x
+  pub label : spelling (leafLabel (textOf t) (arraysOf t .start) (arraysOf t .size) u) ≡ x

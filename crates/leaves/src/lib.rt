@@ -6,36 +6,46 @@ ghost use mathlib.Core.Path.{_≡_};
 ghost use Prim.Native.Nat.{_<_};
 ghost use Rattle.leaves.specs.Find.{labelled, foundLeaf};
 ghost use Rattle.trees.specs.Arrays.{nodeLimit};
+ghost use Rattle.trees.specs.Token.{spelling};
 use trees::NODE_LIMIT;
 
-// Leaf u of the arrays has this label.
+// Leaf u of the arrays has the label that a token stands for.
 fn has_label(
     text: &[u8],
     left: &[usize; NODE_LIMIT],
     start: &[usize; NODE_LIMIT],
     size: &[usize; NODE_LIMIT],
-    label: &[u8],
+    token: &[u8],
     u: usize,
 ) -> bool
     requires { ⌜ u < nodeLimit ⌝ }
     ensures { λ r.
-        ⌜ r ≡ labelled (now (text .entry)) (now (left .entry)) (now (start .entry)) (now (size .entry)) (now (label .entry)) u ⌝ }
+        ⌜
+        r ≡
+        labelled
+        (now (text .entry))
+        (now (left .entry))
+        (now (start .entry))
+        (now (size .entry))
+        (spelling (now (token .entry)))
+        u
+        ⌝ }
 {
     let child = left[u];
     if child != u {
         return false;
     }
-    trees::same_label(trees::leaf_label(text, start, size, u), label)
+    trees::same_label(trees::leaf_label(text, start, size, u), token)
 }
 
-// The number of the first leaf with this label; where no leaf has it, how many nodes there are, 159 at the most.
+// The number of the first leaf with the label that a token stands for; where no leaf has it, how many nodes there are, 159 at the most.
 pub fn find_leaf(
     text: &[u8],
     left: &[usize; NODE_LIMIT],
     start: &[usize; NODE_LIMIT],
     size: &[usize; NODE_LIMIT],
     nodes: usize,
-    label: &[u8],
+    token: &[u8],
 ) -> usize
     ensures { λ r.
         ⌜
@@ -45,14 +55,14 @@ pub fn find_leaf(
         (now (left .entry))
         (now (start .entry))
         (now (size .entry))
-        (now (label .entry))
+        (spelling (now (token .entry)))
         nodes
         ⌝ }
 {
     let end = trees::least(nodes, NODE_LIMIT);
     let mut u: usize = 0;
     while u < end {
-        if has_label(text, left, start, size, label, u) {
+        if has_label(text, left, start, size, token, u) {
             return u;
         }
         u += 1;

@@ -6,5 +6,6 @@ pub mod ListPlaces
 pub mod ListSimulation
 pub mod MachineLaws
 pub mod Promises
+pub mod ReadSteps
 pub mod ReaderLoop
 pub mod SaysLaws

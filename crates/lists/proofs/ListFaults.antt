@@ -3,7 +3,7 @@ use Prim.Native.Nat.{ℕ}
 use mathlib.Core.Path.{_≡_, _∙_, ap, subst}
 use mathlib.Core.List.{List}
 use Rattle.trees.specs.declared.Reason.{Reason}
-use Rattle.trees.specs.Label.{Label}
+use Rattle.trees.specs.Token.{Token}
 use Rattle.trees.specs.Reading.{Reading, good, refused}
 use Rattle.trees.specs.Faults.{Fault}
 use Rattle.lists.specs.ReadList.{readList}
@@ -16,7 +16,7 @@ pub list-refusal : (text : List ℕ) (r : Reason) (i : ℕ) → readList text �
 list-refusal text r i e = subst (Result text) e (reading text)
 
 -- an accepted list has no fault
-pub list-accepted-clean : (text : List ℕ) (xs : List Label) → readList text ≡ good xs → (q : Reason) (j : ℕ)
+pub list-accepted-clean : (text : List ℕ) (xs : List Token) → readList text ≡ good xs → (q : Reason) (j : ℕ)
     → Fault ListText LabelCrowd text q j → ⊥
 list-accepted-clean text xs e = let r = subst (Result text) e (reading text) in r .4
 
@@ -24,7 +24,7 @@ list-accepted-clean text xs e = let r = subst (Result text) e (reading text) in 
 pub list-fault-refused : (text : List ℕ) (r : Reason) (i : ℕ) → ListFault text r i → readList text ≡ refused r i
 list-fault-refused text r i f = go (readList text) (reading text)
   where
-    go : (a : Reading (List Label)) → Result text a → a ≡ refused r i
+    go : (a : Reading (List Token)) → Result text a → a ≡ refused r i
     go (good xs) g = absurd (g .4 r i (f .here))
     go (refused q j) g =
         let u = first-unique ListText LabelCrowd text q r j i g f in ap (λ (w : Reason). refused w j) (u .0) ∙ ap (λ (w : ℕ). refused r w) (u .1)

@@ -4,42 +4,43 @@ use native.Mathlib.Nat.{add-zero}
 use native.Mathlib.Omega.{arith}
 use mathlib.Core.Path.{_≡_, refl, ap, ap₂, sym, _∙_}
 use mathlib.Core.Bool.{_||_}
-use mathlib.Core.List.{List, [], _∷_, _++_, append-assoc}
+use mathlib.Core.List.{List, [], _∷_, _++_, map, append-assoc}
 use lib.ListN.{length, set, length-append}
 use Rattle.trees.specs.Bytes.{commaByte}
-use Rattle.trees.specs.Label.{Label, isIn}
+use Rattle.trees.specs.Label.{isIn}
+use Rattle.trees.specs.Token.{Token, spelling}
 use Rattle.trees.proofs.PaddedLaws.{padded-store}
 use Rattle.trees.proofs.AmongLaws.{amongParts, part-same}
 use Rattle.lists.specs.ReadList.{listLimit, padded, sizesOf, startsOf}
 
 -- the text of complete labels, a comma after each
-unfoldable pub consumed : List Label → List ℕ
+unfoldable pub consumed : List Token → List ℕ
 consumed [] = []
 consumed (x ∷ xs) = x ++ (commaByte ∷ consumed xs)
 
-pub consumed-snoc : (xs : List Label) (x : Label) → consumed (xs ++ (x ∷ [])) ≡ consumed xs ++ (x ++ (commaByte ∷ []))
+pub consumed-snoc : (xs : List Token) (x : Token) → consumed (xs ++ (x ∷ [])) ≡ consumed xs ++ (x ++ (commaByte ∷ []))
 unfolding consumed
 consumed-snoc [] x = refl
 consumed-snoc (y ∷ ys) x = rw (consumed-snoc ys x) (sym (append-assoc y (commaByte ∷ consumed ys) (x ++ (commaByte ∷ []))))
 
-pub starts-snoc : (xs : List Label) (x : Label) (p : ℕ) → startsOf (xs ++ (x ∷ [])) p ≡ startsOf xs p ++ ((p + length (consumed xs)) ∷ [])
+pub starts-snoc : (xs : List Token) (x : Token) (p : ℕ) → startsOf (xs ++ (x ∷ [])) p ≡ startsOf xs p ++ ((p + length (consumed xs)) ∷ [])
 unfolding startsOf consumed
 starts-snoc [] x p = ap (λ (n : ℕ). n ∷ []) (sym (add-zero p))
 starts-snoc (y ∷ ys) x p =
     let far : p + length y + 1 + length (consumed ys) ≡ p + length (y ++ (commaByte ∷ consumed ys)) = simp length-append (omega arith) in
     rw (starts-snoc ys x (p + length y + 1), far) refl
 
-pub sizes-snoc : (xs : List Label) (x : Label) → sizesOf (xs ++ (x ∷ [])) ≡ sizesOf xs ++ (length x ∷ [])
+pub sizes-snoc : (xs : List Token) (x : Token) → sizesOf (xs ++ (x ∷ [])) ≡ sizesOf xs ++ (length x ∷ [])
 unfolding sizesOf
 sizes-snoc [] x = refl
 sizes-snoc (y ∷ ys) x = ap (λ (l : List ℕ). length y ∷ l) (sizes-snoc ys x)
 
-pub length-starts : (xs : List Label) (p : ℕ) → length (startsOf xs p) ≡ length xs
+pub length-starts : (xs : List Token) (p : ℕ) → length (startsOf xs p) ≡ length xs
 unfolding startsOf
 length-starts [] p = refl
 length-starts (x ∷ xs) p = ap suc (length-starts xs (p + length x + 1))
 
-pub length-sizes : (xs : List Label) → length (sizesOf xs) ≡ length xs
+pub length-sizes : (xs : List Token) → length (sizesOf xs) ≡ length xs
 unfolding sizesOf
 length-sizes [] = refl
 length-sizes (x ∷ xs) = ap suc (length-sizes xs)
@@ -48,9 +49,9 @@ length-sizes (x ∷ xs) = ap suc (length-sizes xs)
 pub store : (l : List ℕ) (v n : ℕ) → length l ≡ n → n < listLimit → set (padded l) n v ≡ padded (l ++ (v ∷ []))
 store l v n e h = rw (← e) (padded-store listLimit l (omega arith) v)
 
--- a label looked for among the places of complete labels is one of them
-pub among-seen : (text : List ℕ) (x : Label) (ys : List Label) (before rest : List ℕ) (p : ℕ)
-    → text ≡ before ++ (consumed ys ++ rest) → p ≡ length before → amongParts text x (startsOf ys p) (sizesOf ys) ≡ isIn x ys
+-- a label looked for among the places of complete labels stands for one of them
+pub among-seen : (text : List ℕ) (x : Token) (ys : List Token) (before rest : List ℕ) (p : ℕ)
+    → text ≡ before ++ (consumed ys ++ rest) → p ≡ length before → amongParts text x (startsOf ys p) (sizesOf ys) ≡ isIn (spelling x) (map spelling ys)
 unfolding amongParts consumed startsOf sizesOf isIn
 among-seen text x [] before rest p t e = refl
 among-seen text x (y ∷ ys) before rest p t e =

@@ -2,11 +2,12 @@
 use Prim.Native.Nat.{ℕ, _≤_}
 use mathlib.Core.Path.{_≡_, ap}
 use mathlib.Core.Bool.{true}
-use mathlib.Core.List.{List}
+use mathlib.Core.List.{List, map}
 use lib.ListN.{length}
 use Rattle.trees.specs.declared.Reason.{Reason}
 use Rattle.trees.specs.declared.Body.{Body}
-use Rattle.trees.specs.Label.{Label, goodLabels, distinct}
+use Rattle.trees.specs.Label.{distinct}
+use Rattle.trees.specs.Token.{Token, spelling, goodLabels}
 use Rattle.trees.specs.Reading.{Reading, good, refused}
 use Rattle.trees.specs.Refusals.{numberOf, letterOf, value, row, rowOf}
 use Rattle.lists.specs.ReadList.{readList, listRead, joined, listLimit}
@@ -16,12 +17,12 @@ use Rattle.lists.proofs.Accepts.{list-reads}
 use Rattle.lists.proofs.ListFaults.{list-fault-refused}
 
 -- what is said of a result
-says-read : (body : Body) (text : List ℕ) (r : Reading (List Label)) → readList text ≡ r
+says-read : (body : Body) (text : List ℕ) (r : Reading (List Token)) → readList text ≡ r
     → saysOf body text ≡ listSays (listRead body r .answer)
 unfolding saysOf
-says-read body text r e = ap (λ (w : Reading (List Label)). listSays (listRead body w .answer)) e
+says-read body text r e = ap (λ (w : Reading (List Token)). listSays (listRead body w .answer)) e
 
-pub says-labels : (body : Body) (xs : List Label) → goodLabels xs ≡ true → distinct xs ≡ true → length xs ≤ listLimit
+pub says-labels : (body : Body) (xs : List Token) → goodLabels xs ≡ true → distinct (map spelling xs) ≡ true → length xs ≤ listLimit
     → saysOf body (joined xs) ≡ value (length xs)
 unfolding listSays listRead
 says-labels body xs g d h = says-read body (joined xs) (good xs) (list-reads xs g d h)

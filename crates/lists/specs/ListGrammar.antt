@@ -7,15 +7,15 @@ use mathlib.Core.List.{List}
 use lib.ListN.{take}
 use Rattle.trees.specs.declared.Reason.{Reason}
 use Rattle.trees.specs.Bytes.{commaByte}
-use Rattle.trees.specs.Label.{Label, looseLabels}
+use Rattle.trees.specs.Token.{Token, looseLabels}
 use Rattle.trees.specs.Faults.{LabelStarts, FirstFault, occurrences}
 use Rattle.lists.specs.ReadList.{joined, listLimit}
 
 -- a text of the grammar, limits and repeats left aside
 abbrev pub ListText : List ℕ → Type 0
-ListText text = (xs : List Label) × (looseLabels xs ≡ true) × (text ≡ joined xs)
+ListText text = (xs : List Token) × (looseLabels xs ≡ true) × (text ≡ joined xs)
 
--- "the list's 81st label", at its first byte
+-- "the list's 81st label", at its first byte; "An opening quote begins a label, so number 4 can stand there" (C-12)
 pub record LabelCrowd (text : List ℕ) (i : ℕ) : Type 0 where
   pub starts : LabelStarts ListText text i
   pub earlier : occurrences commaByte (take i text) ≡ listLimit

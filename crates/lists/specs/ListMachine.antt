@@ -3,10 +3,10 @@
 use Prim.Native.Nat.{ℕ, _+_, _≤_, _<_}
 use mathlib.Core.Bool.{Bool, cond}
 use mathlib.Core.List.{List, [], _∷_}
-use lib.Dec.{ltb}
+use lib.Dec.{eqb, ltb}
 use lib.ListN.{set}
 use Rattle.trees.specs.declared.Kind.{Kind}
-use Rattle.trees.specs.declared.Kind.the-variants.{Label as LabelByte, Open, Close, Comma, Semicolon, Other}
+use Rattle.trees.specs.declared.Kind.the-variants.{Label as LabelByte, Open, Close, Comma, Semicolon, Quote, Blank, Other}
 use Rattle.trees.specs.declared.Reason.the-variants.{BadByte, EndsTooSoon, LabelTooLong, TooMany, Repeated}
 use Rattle.trees.specs.declared.Body.{Body}
 use Rattle.trees.specs.Bytes.{kindOf}
@@ -14,7 +14,7 @@ use Rattle.trees.specs.Label.{labelLimit}
 use Rattle.trees.specs.Stored.{partOf, isAmong}
 use Rattle.trees.specs.Reading.{refused}
 use Rattle.lists.specs.declared.Stage.{Stage}
-use Rattle.lists.specs.declared.Stage.the-variants.{Start, Due, Inside}
+use Rattle.lists.specs.declared.Stage.the-variants.{Start, Due, Bare, Quoted, Closed}
 use Rattle.lists.specs.declared.Outcome.{Outcome}
 use Rattle.lists.specs.declared.Outcome.the-variants.{Next, Stop}
 use Rattle.lists.specs.declared.ListAnswer.{ListAnswer}
@@ -44,18 +44,27 @@ ended a start size = record { answer = a; start = start; size = size }
 abbrev pub Room : Stage → Type 0
 Room Start = 0 ≤ listLimit
 Room (Due count) = count ≤ listLimit
-Room (Inside first len count) = count < listLimit
+Room (Bare first len count) = count < listLimit
+Room (Quoted first len count) = (count < listLimit) × (len ≤ labelLimit)
+Room (Closed count) = count ≤ listLimit
 
--- the label of len bytes at first is one of the `count` before it
+-- the token of len bytes at first stands for the same label as one of the `count` before it
 unfoldable pub repeatOf : List ℕ → List ℕ → List ℕ → (count first len : ℕ) → Bool
 repeatOf text start size count first len = isAmong text start size count (partOf first len text)
 
+-- a label begins here
+unfoldable pub beginOf : (at count : ℕ) → Stage → Outcome
+beginOf at count stage = cond (ltb count listLimit) (Next stage) (Stop TooMany at)
+
 unfoldable pub dueOf : Kind → (at count : ℕ) → Outcome
-dueOf LabelByte at count = cond (ltb count listLimit) (Next (Inside at 1 count)) (Stop TooMany at)
+unfolding beginOf
+dueOf LabelByte at count = beginOf at count (Bare at 1 count)
+dueOf Quote at count = beginOf at count (Quoted at 0 count)
 dueOf Open at count = Stop BadByte at
 dueOf Close at count = Stop BadByte at
 dueOf Comma at count = Stop BadByte at
 dueOf Semicolon at count = Stop BadByte at
+dueOf Blank at count = Stop BadByte at
 dueOf Other at count = Stop BadByte at
 
 -- the label has ended; where it is new, `following` counts
@@ -64,21 +73,57 @@ unfolding repeatOf
 closeOf text start size count first len following =
     after (cond (repeatOf text start size count first len) (Stop Repeated first) following) (set start count first) (set size count len)
 
-unfoldable pub insideOf : List ℕ → Kind → (at : ℕ) → (first len count : ℕ) → List ℕ → List ℕ → After
+-- one more byte of a label that has len bytes
+unfoldable pub moreOf : (at len : ℕ) → Stage → Outcome
+moreOf at len stage = cond (ltb len labelLimit) (Next stage) (Stop LabelTooLong at)
+
+unfoldable pub bareOf : List ℕ → Kind → (at : ℕ) → (first len count : ℕ) → List ℕ → List ℕ → After
+unfolding closeOf moreOf
+bareOf text LabelByte at first len count start size = after (moreOf at len (Bare first (len + 1) count)) start size
+bareOf text Quote at first len count start size = closeOf text start size count first len (Stop BadByte at)
+bareOf text Open at first len count start size = closeOf text start size count first len (Stop BadByte at)
+bareOf text Close at first len count start size = closeOf text start size count first len (Stop BadByte at)
+bareOf text Comma at first len count start size = closeOf text start size count first len (Next (Due (count + 1)))
+bareOf text Semicolon at first len count start size = closeOf text start size count first len (Stop BadByte at)
+bareOf text Blank at first len count start size = closeOf text start size count first len (Stop BadByte at)
+bareOf text Other at first len count start size = closeOf text start size count first len (Stop BadByte at)
+
+-- the closing quote of a label that has len bytes between the quotes
+unfoldable pub quoteOf : List ℕ → (at : ℕ) → (first len count : ℕ) → List ℕ → List ℕ → After
 unfolding closeOf
-insideOf text LabelByte at first len count start size =
-    after (cond (ltb len labelLimit) (Next (Inside first (len + 1) count)) (Stop LabelTooLong at)) start size
-insideOf text Open at first len count start size = closeOf text start size count first len (Stop BadByte at)
-insideOf text Close at first len count start size = closeOf text start size count first len (Stop BadByte at)
-insideOf text Comma at first len count start size = closeOf text start size count first len (Next (Due (count + 1)))
-insideOf text Semicolon at first len count start size = closeOf text start size count first len (Stop BadByte at)
-insideOf text Other at first len count start size = closeOf text start size count first len (Stop BadByte at)
+quoteOf text at first len count start size =
+    cond (eqb len 0) (after (Stop BadByte at) start size)
+    (closeOf text start size count first (len + 2) (Next (Closed (count + 1))))
+
+unfoldable pub quotedOf : List ℕ → Kind → (at : ℕ) → (first len count : ℕ) → List ℕ → List ℕ → After
+unfolding quoteOf moreOf
+quotedOf text LabelByte at first len count start size = after (moreOf at len (Quoted first (len + 1) count)) start size
+quotedOf text Blank at first len count start size = after (moreOf at len (Quoted first (len + 1) count)) start size
+quotedOf text Quote at first len count start size = quoteOf text at first len count start size
+quotedOf text Open at first len count start size = after (Stop BadByte at) start size
+quotedOf text Close at first len count start size = after (Stop BadByte at) start size
+quotedOf text Comma at first len count start size = after (Stop BadByte at) start size
+quotedOf text Semicolon at first len count start size = after (Stop BadByte at) start size
+quotedOf text Other at first len count start size = after (Stop BadByte at) start size
+
+-- just after a closing quote
+unfoldable pub closedOf : Kind → (at count : ℕ) → Outcome
+closedOf Comma at count = Next (Due count)
+closedOf LabelByte at count = Stop BadByte at
+closedOf Quote at count = Stop BadByte at
+closedOf Open at count = Stop BadByte at
+closedOf Close at count = Stop BadByte at
+closedOf Semicolon at count = Stop BadByte at
+closedOf Blank at count = Stop BadByte at
+closedOf Other at count = Stop BadByte at
 
 unfoldable pub stepOf : List ℕ → Kind → ℕ → Stage → List ℕ → List ℕ → After
-unfolding dueOf insideOf
+unfolding dueOf bareOf quotedOf closedOf
 stepOf text k at Start start size = after (dueOf k at 0) start size
 stepOf text k at (Due count) start size = after (dueOf k at count) start size
-stepOf text k at (Inside first len count) start size = insideOf text k at first len count start size
+stepOf text k at (Bare first len count) start size = bareOf text k at first len count start size
+stepOf text k at (Quoted first len count) start size = quotedOf text k at first len count start size
+stepOf text k at (Closed count) start size = after (closedOf k at count) start size
 
 -- the text ends at place `at`
 unfoldable pub endAt : List ℕ → Body → Stage → ℕ → List ℕ → List ℕ → AtEnd
@@ -86,12 +131,15 @@ unfolding repeatOf
 endAt text body Start at start size = ended (Labels 0) start size
 endAt text body (Due count) at start size =
     ended (Refused (record { reason = EndsTooSoon; body = body; place = at })) start size
-endAt text body (Inside first len count) at start size =
+endAt text body (Bare first len count) at start size =
     ended
     (cond (repeatOf text start size count first len) (Refused (record { reason = Repeated; body = body; place = first }))
     (Labels (count + 1)))
     (set start count first)
     (set size count len)
+endAt text body (Quoted first len count) at start size =
+    ended (Refused (record { reason = EndsTooSoon; body = body; place = at })) start size
+endAt text body (Closed count) at start size = ended (Labels count) start size
 
 -- the answer with the places; a refusal has none
 unfoldable pub answerOf : ListAnswer → List ℕ → List ℕ → ListRead

@@ -1,4 +1,4 @@
-// The reader of a list of labels.
+// The reader of a list of labels, with quotes or without.
 //
 // No public function has a `requires`: a text of any length and any bytes is answered.
 use trees::Body;
@@ -7,10 +7,15 @@ use trees::LABEL_LIMIT;
 use trees::Reason;
 use trees::Refusal;
 ghost use mathlib.Core.Path.{_≡_};
-ghost use Prim.Native.Nat.{_<_};
+ghost use Prim.Native.Nat.{_+_, _<_, _≤_};
 ghost use lib.ListN.{length, set};
 ghost use Rattle.lists.specs.ReadList.{listLimit, listRead, readList};
-ghost use Rattle.lists.specs.ListMachine.{Room, after, answerOf, closeOf, dueOf, endAt, ended, insideOf, repeatOf, stepOf};
+ghost use Rattle.trees.specs.Label.{labelLimit};
+ghost use Rattle.trees.specs.declared.Reason.the-variants.{EndsTooSoon};
+ghost use Rattle.lists.specs.declared.Stage.the-variants.{Quoted};
+ghost use Rattle.lists.specs.declared.ListAnswer.the-variants.{Refused};
+ghost use Rattle.lists.specs.ListMachine.{Room, after, answerOf, bareOf, beginOf, closeOf, closedOf, dueOf, endAt, ended};
+ghost use Rattle.lists.specs.ListMachine.{moreOf, quoteOf, quotedOf, repeatOf, stepOf};
 
 // The most labels of a list.
 pub const LIST_LIMIT: usize = 80;
@@ -35,15 +40,24 @@ pub struct ListRead {
 }
 
 // Where the reader stands, with `count` labels complete: at the start, where a label must begin,
-// or inside the label whose `len` bytes from `first` on have been read.
+// inside a label without quotes whose `len` bytes from `first` on have been read, between the quotes
+// of a label that opened at `first` with `len` bytes so far, or just after a closing quote.
 enum Stage {
     Start,
     Due {
         count: usize,
     },
-    Inside {
+    Bare {
         first: usize,
         len: usize,
+        count: usize,
+    },
+    Quoted {
+        first: usize,
+        len: usize,
+        count: usize,
+    },
+    Closed {
         count: usize,
     },
 }
@@ -54,26 +68,45 @@ enum Outcome {
     Stop(Reason, usize),
 }
 
-// A byte where a label must begin. The 81st label is refused before it is compared.
+// A label begins with this byte. The 81st is refused before it is compared.
+fn begin(at: usize, count: usize, stage: Stage) -> Outcome
+    ensures { λ r. ⌜ r ≡ beginOf at count stage ⌝ }
+{
+    if count < LIST_LIMIT {
+        Outcome::Next(stage)
+    } else {
+        Outcome::Stop(Reason::TooMany, at)
+    }
+}
+
+// A byte where a label must begin: a quote opens one.
 fn due(kind: Kind, at: usize, count: usize) -> Outcome
     ensures { λ r. ⌜ r ≡ dueOf kind at count ⌝ }
 {
     match kind {
-        Kind::Label => {
-            if count < LIST_LIMIT {
-                Outcome::Next(Stage::Inside {
-                    first: at,
-                    len: 1,
-                    count,
-                })
-            } else {
-                Outcome::Stop(Reason::TooMany, at)
-            }
-        }
+        Kind::Label => begin(
+            at,
+            count,
+            Stage::Bare {
+                first: at,
+                len: 1,
+                count,
+            },
+        ),
+        Kind::Quote => begin(
+            at,
+            count,
+            Stage::Quoted {
+                first: at,
+                len: 0,
+                count,
+            },
+        ),
         Kind::Open => Outcome::Stop(Reason::BadByte, at),
         Kind::Close => Outcome::Stop(Reason::BadByte, at),
         Kind::Comma => Outcome::Stop(Reason::BadByte, at),
         Kind::Semicolon => Outcome::Stop(Reason::BadByte, at),
+        Kind::Blank => Outcome::Stop(Reason::BadByte, at),
         Kind::Other => Outcome::Stop(Reason::BadByte, at),
     }
 }
@@ -120,8 +153,8 @@ fn close(
     following
 }
 
-// A byte inside a label or just after it. A label's 17th byte is refused before the label is compared.
-fn inside(
+// A byte inside a label without quotes or just after it. A label's 17th byte is refused before the label is compared.
+fn bare(
     text: &[u8],
     kind: Kind,
     at: usize,
@@ -134,14 +167,14 @@ fn inside(
     requires { ⌜ count < listLimit ⌝ }
     ensures { λ r. ⌜
         after r (now (start .exit)) (now (size .exit))
-        ≡ insideOf (now (text .entry)) kind at first len count (now (start .entry)) (now (size .entry))
+        ≡ bareOf (now (text .entry)) kind at first len count (now (start .entry)) (now (size .entry))
         ⌝ }
 {
     let bad = Outcome::Stop(Reason::BadByte, at);
     match kind {
         Kind::Label => {
             if len < LABEL_LIMIT {
-                Outcome::Next(Stage::Inside {
+                Outcome::Next(Stage::Bare {
                     first,
                     len: len + 1,
                     count,
@@ -159,10 +192,97 @@ fn inside(
             size,
             Outcome::Next(Stage::Due { count: count + 1 }),
         ),
+        Kind::Quote => close(text, first, len, count, start, size, bad),
         Kind::Open => close(text, first, len, count, start, size, bad),
         Kind::Close => close(text, first, len, count, start, size, bad),
         Kind::Semicolon => close(text, first, len, count, start, size, bad),
+        Kind::Blank => close(text, first, len, count, start, size, bad),
         Kind::Other => close(text, first, len, count, start, size, bad),
+    }
+}
+
+// One more byte between quotes.
+fn more(at: usize, first: usize, len: usize, count: usize) -> Outcome
+    ensures { λ r. ⌜ r ≡ moreOf at len (Quoted first (len + 1) count) ⌝ }
+{
+    if len < LABEL_LIMIT {
+        Outcome::Next(Stage::Quoted {
+            first,
+            len: len + 1,
+            count,
+        })
+    } else {
+        Outcome::Stop(Reason::LabelTooLong, at)
+    }
+}
+
+// The second quote of a label: a byte at least stands before it, and only now is the label compared.
+fn quote(
+    text: &[u8],
+    at: usize,
+    first: usize,
+    len: usize,
+    count: usize,
+    start: &mut [usize; LIST_LIMIT],
+    size: &mut [usize; LIST_LIMIT],
+) -> Outcome
+    requires { ⌜ count < listLimit ⌝ }
+    requires { ⌜ len ≤ labelLimit ⌝ }
+    ensures { λ r. ⌜
+        after r (now (start .exit)) (now (size .exit))
+        ≡ quoteOf (now (text .entry)) at first len count (now (start .entry)) (now (size .entry))
+        ⌝ }
+{
+    if len == 0 {
+        return Outcome::Stop(Reason::BadByte, at);
+    }
+    let next = Outcome::Next(Stage::Closed { count: count + 1 });
+    close(text, first, len + 2, count, start, size, next)
+}
+
+// A byte after an opening quote. Nothing but label bytes, blanks and a quote may stand there, also where a label is too long.
+fn quoted(
+    text: &[u8],
+    kind: Kind,
+    at: usize,
+    first: usize,
+    len: usize,
+    count: usize,
+    start: &mut [usize; LIST_LIMIT],
+    size: &mut [usize; LIST_LIMIT],
+) -> Outcome
+    requires { ⌜ count < listLimit ⌝ }
+    requires { ⌜ len ≤ labelLimit ⌝ }
+    ensures { λ r. ⌜
+        after r (now (start .exit)) (now (size .exit))
+        ≡ quotedOf (now (text .entry)) kind at first len count (now (start .entry)) (now (size .entry))
+        ⌝ }
+{
+    match kind {
+        Kind::Label => more(at, first, len, count),
+        Kind::Blank => more(at, first, len, count),
+        Kind::Quote => quote(text, at, first, len, count, start, size),
+        Kind::Open => Outcome::Stop(Reason::BadByte, at),
+        Kind::Close => Outcome::Stop(Reason::BadByte, at),
+        Kind::Comma => Outcome::Stop(Reason::BadByte, at),
+        Kind::Semicolon => Outcome::Stop(Reason::BadByte, at),
+        Kind::Other => Outcome::Stop(Reason::BadByte, at),
+    }
+}
+
+// A byte just after a closing quote.
+fn after_quote(kind: Kind, at: usize, count: usize) -> Outcome
+    ensures { λ r. ⌜ r ≡ closedOf kind at count ⌝ }
+{
+    match kind {
+        Kind::Comma => Outcome::Next(Stage::Due { count }),
+        Kind::Label => Outcome::Stop(Reason::BadByte, at),
+        Kind::Quote => Outcome::Stop(Reason::BadByte, at),
+        Kind::Open => Outcome::Stop(Reason::BadByte, at),
+        Kind::Close => Outcome::Stop(Reason::BadByte, at),
+        Kind::Semicolon => Outcome::Stop(Reason::BadByte, at),
+        Kind::Blank => Outcome::Stop(Reason::BadByte, at),
+        Kind::Other => Outcome::Stop(Reason::BadByte, at),
     }
 }
 
@@ -184,7 +304,8 @@ fn step(
     match stage {
         Stage::Start => due(kind, at, 0),
         Stage::Due { count } => due(kind, at, count),
-        Stage::Inside { first, len, count } => inside(
+        Stage::Bare { first, len, count } => bare(text, kind, at, first, len, count, start, size),
+        Stage::Quoted { first, len, count } => quoted(
             text,
             kind,
             at,
@@ -194,10 +315,22 @@ fn step(
             start,
             size,
         ),
+        Stage::Closed { count } => after_quote(kind, at, count),
     }
 }
 
-// The text ends, which also completes a label.
+// The text ends too soon.
+fn too_soon(text: &[u8], body: Body) -> ListAnswer
+    ensures { λ r. ⌜ r ≡ Refused (record { reason = EndsTooSoon; body = body; place = length (now (text .entry)) }) ⌝ }
+{
+    ListAnswer::Refused(Refusal {
+        reason: Reason::EndsTooSoon,
+        body,
+        place: text.len(),
+    })
+}
+
+// The text ends, which also completes a label without quotes.
 fn at_end(
     text: &[u8],
     body: Body,
@@ -213,12 +346,8 @@ fn at_end(
 {
     match stage {
         Stage::Start => ListAnswer::Labels(0),
-        Stage::Due { count: _ } => ListAnswer::Refused(Refusal {
-            reason: Reason::EndsTooSoon,
-            body,
-            place: text.len(),
-        }),
-        Stage::Inside { first, len, count } => {
+        Stage::Due { count: _ } => too_soon(text, body),
+        Stage::Bare { first, len, count } => {
             if keep(text, first, len, count, start, size) {
                 return ListAnswer::Refused(Refusal {
                     reason: Reason::Repeated,
@@ -228,6 +357,12 @@ fn at_end(
             }
             ListAnswer::Labels(count + 1)
         }
+        Stage::Quoted {
+            first: _,
+            len: _,
+            count: _,
+        } => too_soon(text, body),
+        Stage::Closed { count } => ListAnswer::Labels(count),
     }
 }
 

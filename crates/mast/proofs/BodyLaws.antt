@@ -3,9 +3,9 @@
 use Prim.Native.Nat.{ℕ, _<_, _≤_, min}
 use mathlib.Core.Path.{_≡_, refl, sym, _∙_, ap, ap₂}
 use mathlib.Core.Bool.{Bool, true, false, cond}
-use mathlib.Core.List.{List, []}
+use mathlib.Core.List.{List, [], map}
 use native.Mathlib.Omega.{arith}
-use lib.ListN.{length, getD}
+use lib.ListN.{length, getD, length-map}
 use Rattle.trees.specs.declared.TreeArrays.{TreeArrays}
 use Rattle.trees.specs.declared.Reason.{Reason}
 use Rattle.trees.specs.declared.Reason.the-variants.{FirstLacks, SecondLacks, NotShared}
@@ -13,12 +13,14 @@ use Rattle.trees.specs.declared.Body.{Body}
 use Rattle.trees.specs.declared.Body.the-variants.{S, T, K}
 use Rattle.trees.specs.declared.Refusal.{Refusal}
 use Rattle.trees.specs.Label.{Label}
-use Rattle.trees.specs.Tree.{Tree, leaves}
+use Rattle.trees.specs.Token.{Token, spelling}
+use Rattle.trees.specs.Tree.{Tree, leaves, decoded, Proper}
 use Rattle.trees.specs.Arrays.{arraysOf, nodeLimit}
 use Rattle.trees.specs.Reading.{Reading, good, refused}
 use Rattle.trees.proofs.Bools.{clash, refute}
 use Rattle.trees.proofs.ArrayLaws.{few-nodes}
-use Rattle.trees.proofs.TreeLaws.{valid-proper}
+use Rattle.trees.proofs.DecodedLaws.{decoded-count}
+use Rattle.trees.proofs.TokenLaws.{valid-decoded}
 use Rattle.newick.specs.declared.TreeAnswer.the-variants.{Leaves, Refused as TreeRefused}
 use Rattle.newick.specs.declared.TreeRead.{TreeRead}
 use Rattle.newick.specs.ReadTree.{readTree, treeRead}
@@ -32,6 +34,7 @@ use Rattle.agreement.specs.Closer.{holds}
 use Rattle.agreement.specs.Sets.{common}
 use Rattle.agreement.proofs.SetLaws.{common-inc, in-common, common-in}
 use Rattle.agreement.proofs.Promises.{six-promise, seven-promise}
+use Rattle.agreement.specs.Demand.{FirstLacking}
 use Rattle.agreement.specs.Answer.{Answer, firstLacks, secondLacks, answer}
 use Rattle.agreement.specs.Places.{placeIn, placeOfNumber}
 use Rattle.agreement.specs.Strict.{SameLeaves, Stray, inFirst, inSecond, nowhere}
@@ -50,6 +53,7 @@ use Rattle.mast.specs.Given.{Reads}
 use Rattle.mast.specs.declared.strict.Shared.the-variants as shared
 use Rattle.mast.specs.Strays.{sharedOf}
 use Rattle.mast.specs.Bodies.{Bodies, unreadTree, unreadList}
+use Rattle.mast.proofs.RankLaws.{proper-nodes, own-proper}
 use Rattle.mast.proofs.RequiredLaws.{marked-all, marked-common}
 use Rattle.mast.proofs.StrayLaws.{shared-nowhere}
 
@@ -96,12 +100,12 @@ pub tree-unread : (body : Body) (text : List ℕ) (r : TreeRead) (q : Refusal) �
 tree-unread body text r q e h = rw e (unread-case body (readTree text) q (rw e at h))
 
 pub record ListAs (text : List ℕ) (places : LabelPlaces) : Type 0 where
-  pub of : List Label
+  pub of : List Token
   pub is : readList text ≡ good of
   pub places-is : places ≡ placesOf of
 
-list-case : (body : Body) (x : Reading (List Label)) (r : ListRead) (n : ℕ) → r ≡ listRead body x → r .answer ≡ Labels n
-    → (xs : List Label) × (x ≡ good xs) × (r .places ≡ placesOf xs)
+list-case : (body : Body) (x : Reading (List Token)) (r : ListRead) (n : ℕ) → r ≡ listRead body x → r .answer ≡ Labels n
+    → (xs : List Token) × (x ≡ good xs) × (r .places ≡ placesOf xs)
 unfolding listRead
 list-case body (good t) r n e h = (t, refl, ap (λ q. q .places) e)
 list-case body (refused q i) r n e h =
@@ -115,14 +119,14 @@ list-read body text r n e h =
     let k = list-case body (readList text) r n e h in
     record { of = k .0; is = k .1; places-is = k .2 }
 
-unlisted-case : (body : Body) (x : Reading (List Label)) (q : Refusal) → listRead body x .answer ≡ ListRefused q
-    → Unread (List Label) x body (unreadList (listRead body x .answer))
+unlisted-case : (body : Body) (x : Reading (List Token)) (q : Refusal) → listRead body x .answer ≡ ListRefused q
+    → Unread (List Token) x body (unreadList (listRead body x .answer))
 unfolding listRead unreadList
 unlisted-case body (good t) q h = let z : _≡_ {A = ℕ} 0 1 = cc in absurd (omega arith)
 unlisted-case body (refused r i) q h = record { reason = r; place = i; is = refl; told = refl }
 
 pub list-unread : (body : Body) (text : List ℕ) (r : ListRead) (q : Refusal) → r ≡ listRead body (readList text)
-    → r .answer ≡ ListRefused q → Unread (List Label) (readList text) body (unreadList (r .answer))
+    → r .answer ≡ ListRefused q → Unread (List Token) (readList text) body (unreadList (r .answer))
 list-unread body text r q e h = rw e (unlisted-case body (readList text) q (rw e at h))
 
 -- what the engine's parts are handed of a tree and of a list
@@ -160,7 +164,8 @@ list-labels {text} r =
 
 unfoldable pub bodies-of : {first second list : List ℕ} {tree1 tree2 : TreeArrays} {places : LabelPlaces} {m n : ℕ} (one : ReadAs first tree1 m)
     (two : ReadAs second tree2 n) (three : ListAs list places) (partner : List ℕ) (most : ℕ)
-    → Partners (tree1 .nodes) (one .of) (two .of) partner → most ≡ min m n → Bodies first list tree1 tree2 partner places most
+    → Partners (tree1 .nodes) (decoded (one .of)) (decoded (two .of)) partner → most ≡ min m n
+    → Bodies first list tree1 tree2 partner places most
 bodies-of one two three partner most p e = record {
   s = one .of;
   t = two .of;
@@ -172,7 +177,7 @@ bodies-of one two three partner most p e = record {
   own-list = list-labels three;
   list-places = three .places-is;
   partners = p;
-  bound = e ∙ ap₂ min (one .count-is) (two .count-is);
+  bound = e ∙ ap₂ min (one .count-is ∙ sym (decoded-count (one .of))) (two .count-is ∙ sym (decoded-count (two .of)));
 }
 
 -- a body that is not read ends the job there, and so does a leaf that stands in only one tree of a strict job
@@ -210,22 +215,24 @@ module _ (q : Task) (room : ℕ) where
         go (inSecond x) k = let z : _≡_ {A = ℕ} 0 1 = cc in absurd (omega arith)
         go nowhere k = refl
 
-    pub list-not-read : strayFor (q .options) s t ≡ nowhere → (a : LargestAnswer) → Unread (List Label) (readList (q .required)) K a
+    pub list-not-read : strayFor (q .options) s t ≡ nowhere → (a : LargestAnswer) → Unread (List Token) (readList (q .required)) K a
         → (r : Refusal) × (solve q room ≡ turned r) × (a ≡ Refused r)
     unfolding solveShared
     list-not-read k a u =
         (record { reason = u .reason; body = K; place = u .place }, solve-trees nowhere k ∙ (rw (u .is) refl), u .told)
 
-    pub solve-read : strayFor (q .options) s t ≡ nowhere → (xs : List Label) → readList (q .required) ≡ good xs
-        → solve q room ≡ solutionOf s xs room (answer s t xs)
+    pub solve-read : strayFor (q .options) s t ≡ nowhere → (xs : List Token) → readList (q .required) ≡ good xs
+        → solve q room ≡ solutionOf s xs room (answer (decoded s) (decoded t) (map spelling xs))
     unfolding solveShared
     solve-read k xs g = solve-trees nowhere k ∙ (rw g refl)
 
-    pub strict-as-plain : SameLeaves s t → solve q room ≡ solve (task plain (q .first) (q .second) (q .required)) room
+    pub strict-as-plain : SameLeaves (decoded s) (decoded t)
+        → solve q room ≡ solve (task plain (q .first) (q .second) (q .required)) room
     unfolding solve strayFor
     strict-as-plain h = solve-trees nowhere (shared-nowhere (q .options) s t (λ _. h)) ∙ (rw (e, f) refl)
 
-  pub solve-reads : (s t : Tree) (xs : List Label) → Reads q s t xs → solve q room ≡ solutionOf s xs room (answer s t xs)
+  pub solve-reads : (s t : Tree) (xs : List Token) → Reads q s t xs
+      → solve q room ≡ solutionOf s xs room (answer (decoded s) (decoded t) (map spelling xs))
   solve-reads s t xs r =
       solve-read s t (r .first-is) (r .second-is) (shared-nowhere (q .options) s t (r .shared)) xs (r .list-is)
 
@@ -241,71 +248,80 @@ turned-output x q out e = rw e refl
 
 -- number 6 or 7: the first label of the list that is not common
 
-module _ (s t : Tree) (xs : List Label) (first list : List ℕ) (tree1 : TreeArrays) (places : LabelPlaces) (n : ℕ)
+module _ (s t : Tree) (xs : List Token) (first list : List ℕ) (tree1 : TreeArrays) (places : LabelPlaces) (n : ℕ)
     (h : FirstMissing s t xs first list tree1 places n) where
-  abbrev x : Label
-  x = getD xs n []
+  abbrev L : List Label
+  L = map spelling xs
 
-  both : (k : ℕ) → k < n → (holds s (getD xs k []) ≡ true) × (holds t (getD xs k []) ≡ true)
-  both k l = in-common s t (getD xs k []) (h .earlier k l)
+  abbrev x : Label
+  x = getD (map spelling xs) n []
+
+  proper : Proper (decoded s)
+  proper = valid-decoded s (h .own .valid)
+
+  first-lacking : FirstLacking (decoded s) (decoded t) (map spelling xs) n
+  first-lacking = record {
+    inList = omega (arith, h .below, length-map xs spelling);
+    earlier = λ k l. in-common (decoded s) (decoded t) (getD L k []) (h .earlier k l);
+  }
 
   lack-place : getD (places .start) n 0 ≡ placeOfNumber xs n
   lack-place = ap (λ (l : List ℕ). getD l n 0) (h .own-list .start-is) ∙ place-number xs n (h .below)
 
-  lack-told : (reason : Reason) (a : Answer) (room : ℕ) → answer s t xs ≡ a
+  lack-told : (reason : Reason) (a : Answer) (room : ℕ) → answer (decoded s) (decoded t) L ≡ a
       → solutionOf s xs room a ≡ turned (record { reason = reason; body = K; place = placeOfNumber xs n })
       → resultFrom (Refused (record { reason = reason; body = K; place = getD (places .start) n 0 })) (placesOf [])
-      ≡ largestOf (solutionOf s xs room (answer s t xs))
+      ≡ largestOf (solutionOf s xs room (answer (decoded s) (decoded t) L))
   lack-told reason a room e is =
-      turned-result (solutionOf s xs room (answer s t xs)) _ _ (ap (solutionOf s xs room) e ∙ is)
+      turned-result (solutionOf s xs room (answer (decoded s) (decoded t) L)) _ _ (ap (solutionOf s xs room) e ∙ is)
       (ap (λ (p : ℕ). Refused (record { reason = reason; body = K; place = p })) lack-place)
 
-  pub lack-answered : (held : Bool) (room : ℕ) → held ≡ holds s x
+  pub lack-answered : (held : Bool) (room : ℕ) → held ≡ holds (decoded s) x
       → resultFrom (Refused (record { reason = cond held SecondLacks FirstLacks; body = K; place = getD (places .start) n 0 })) (placesOf [])
-      ≡ largestOf (solutionOf s xs room (answer s t xs))
+      ≡ largestOf (solutionOf s xs room (answer (decoded s) (decoded t) L))
   unfolding solutionOf
   lack-answered false room e =
       lack-told FirstLacks (firstLacks n) room
-      (six-promise s t xs (valid-proper s (h .own .valid)) (h .own-list .different) n .1
-      (record { found = record { inList = h .below; earlier = both }; lacked = sym e }))
+      (six-promise (decoded s) (decoded t) L proper (h .own-list .different) n .1
+      (record { found = first-lacking; lacked = sym e }))
       refl
   lack-answered true room e =
       lack-told SecondLacks (secondLacks n) room
-      (seven-promise s t xs (valid-proper s (h .own .valid)) (h .own-list .different) n .1
-      (record { found = record { inList = h .below; earlier = both }; held = sym e; lacked = lacked′ }))
+      (seven-promise (decoded s) (decoded t) L proper (h .own-list .different) n .1
+      (record { found = first-lacking; held = sym e; lacked = lacked′ }))
       refl
     where
-      lacked′ : holds t x ≡ false
-      lacked′ = refute (holds t x) (λ k. clash (common-in s t x (sym e) k) (h .missing))
+      lacked′ : holds (decoded t) x ≡ false
+      lacked′ = refute (holds (decoded t) x) (λ k. clash (common-in (decoded s) (decoded t) x (sym e) k) (h .missing))
 
-  pub lack-output : (room : ℕ) (out : List ℕ) → out ≡ outputOf (solutionOf s xs room (answer s t xs)) out
+  pub lack-output : (room : ℕ) (out : List ℕ) → out ≡ outputOf (solutionOf s xs room (answer (decoded s) (decoded t) L)) out
   unfolding solutionOf outputOf
-  lack-output room out = go (holds s x) refl
+  lack-output room out = go (holds (decoded s) x) refl
     where
-      go : (b : Bool) → holds s x ≡ b → out ≡ outputOf (solutionOf s xs room (answer s t xs)) out
+      go : (b : Bool) → holds (decoded s) x ≡ b → out ≡ outputOf (solutionOf s xs room (answer (decoded s) (decoded t) L)) out
       go false e =
-          rw (six-promise s t xs (valid-proper s (h .own .valid)) (h .own-list .different) n .1
-          (record { found = record { inList = h .below; earlier = both }; lacked = e })) refl
+          rw (six-promise (decoded s) (decoded t) L proper (h .own-list .different) n .1
+          (record { found = first-lacking; lacked = e })) refl
       go true e =
-          rw (seven-promise s t xs (valid-proper s (h .own .valid)) (h .own-list .different) n .1
+          rw (seven-promise (decoded s) (decoded t) L proper (h .own-list .different) n .1
           (record {
-            found = record { inList = h .below; earlier = both };
+            found = first-lacking;
             held = e;
-            lacked = refute (holds t x) (λ k. clash (common-in s t x e k) (h .missing));
+            lacked = refute (holds (decoded t) x) (λ k. clash (common-in (decoded s) (decoded t) x e k) (h .missing));
           })) refl
 
 -- number 8
 
-pub eight-result : (xs : List Label) (a b c : Label) (three : Three) → three ≡ placesOfThree xs a b c
+pub eight-result : (xs : List Token) (a b c : Label) (three : Three) → three ≡ placesOfThree xs a b c
     → resultFrom (Disagree (three .first) (three .second) (three .third)) (placesOf []) ≡ largestOf (clashed xs a b c)
 unfolding largestOf
 eight-result xs a b c three e = rw e refl
 
 -- the set or number 8, where every label of the list is common
 
-module _ (s t : Tree) (xs : List Label) (text : List ℕ) (tree1 tree2 : TreeArrays) (order1 order2 : List ℕ) (m : ℕ) (number : List ℕ)
+module _ (s t : Tree) (xs : List Token) (text : List ℕ) (tree1 tree2 : TreeArrays) (order1 order2 : List ℕ) (m : ℕ) (number : List ℕ)
     (places : LabelPlaces) (h : AskedOf s t xs text tree1 tree2 order1 order2 m number places) where
-  pub some-clash : (found : Bool) (chosen : List Bool) → Solved s t xs found chosen → found ≡ false
+  pub some-clash : (found : Bool) (chosen : List Bool) → Solved (decoded s) (decoded t) (map spelling xs) found chosen → found ≡ false
       → SomeClash tree1 tree2 order1 order2 m number places
   some-clash found chosen solved e =
       let k = solved .eight e in
@@ -319,13 +335,13 @@ module _ (s t : Tree) (xs : List Label) (text : List ℕ) (tree1 tree2 : TreeArr
         of = record { asked = h .asked; list-places = h .list-places; clash = k .3 };
       }
 
-  pub clash-is : (found : Bool) (chosen : List Bool) → Solved s t xs found chosen → found ≡ false
+  pub clash-is : (found : Bool) (chosen : List Bool) → Solved (decoded s) (decoded t) (map spelling xs) found chosen → found ≡ false
       → (a : Label) × (b : Label) × (c : Label) × Clashes s t xs a b c tree1 tree2 order1 order2 m number places
   clash-is found chosen solved e =
       let k = solved .eight e in
       (k .0, k .1, k .2, record { asked = h .asked; list-places = h .list-places; clash = k .3 })
 
-  pub by-rank : ByRank s (common s t) tree1 text order1 m
+  pub by-rank : ByRank s (common (decoded s) (decoded t)) tree1 text order1 m
   by-rank = record {
     valid = h .asked .one .valid;
     arrays-is = h .asked .one .arrays-is;
@@ -335,25 +351,29 @@ module _ (s t : Tree) (xs : List Label) (text : List ℕ) (tree1 tree2 : TreeArr
   }
 
   pub some-first : SomeTree tree1 order1 m
-  some-first = record { t = s; C = common s t; of = h .asked .one }
+  some-first = record { t = s; C = common (decoded s) (decoded t); of = h .asked .one }
 
   pub some-second : SomeTree tree2 order2 m
-  some-second = record { t = t; C = common s t; of = h .asked .two }
+  some-second = record { t = t; C = common (decoded s) (decoded t); of = h .asked .two }
 
   pub in-range : InRange order1 m
-  in-range r l = omega (arith, h .asked .one .numbered r (omega (arith, h .asked .one .count)) .below, few-nodes s (h .asked .one .valid))
+  in-range r l =
+      let one = h .asked .one in
+      omega (arith, one .numbered r (omega (arith, one .count)) .below, proper-nodes (decoded s) (valid-decoded s (one .valid)))
 
-  pub set-solution : (found : Bool) (chosen : List Bool) (room : ℕ) → Solved s t xs found chosen → found ≡ true
-      → fittedSet s (chosenFrom chosen 0 (common s t)) room ≡ solutionOf s xs room (answer s t xs)
+  pub set-solution : (found : Bool) (chosen : List Bool) (room : ℕ) → Solved (decoded s) (decoded t) (map spelling xs) found chosen
+      → found ≡ true
+      → fittedSet s (chosenFrom chosen 0 (common (decoded s) (decoded t))) room
+      ≡ solutionOf s xs room (answer (decoded s) (decoded t) (map spelling xs))
   unfolding solutionOf
   set-solution found chosen room solved e = rw (solved .set e) refl
 
   pub eight-solution : (a b c : Label) (room : ℕ) → Clashes s t xs a b c tree1 tree2 order1 order2 m number places
-      → solutionOf s xs room (answer s t xs) ≡ clashed xs a b c
+      → solutionOf s xs room (answer (decoded s) (decoded t) (map spelling xs)) ≡ clashed xs a b c
   unfolding solutionOf
   eight-solution a b c room k = rw (k .clash) refl
 
-pub clashed-output : (x : Solution) (xs : List Label) (a b c : Label) (out : List ℕ) → x ≡ clashed xs a b c → out ≡ outputOf x out
+pub clashed-output : (x : Solution) (xs : List Token) (a b c : Label) (out : List ℕ) → x ≡ clashed xs a b c → out ≡ outputOf x out
 unfolding outputOf
 clashed-output x xs a b c out e = rw e refl
 
@@ -368,10 +388,11 @@ module _ {first list : List ℕ} {tree1 tree2 : TreeArrays} {partner : List ℕ}
   list-few = omega (arith, b .own-list .count-is, b .own-list .few)
 
   pub most-few : most ≤ 80
-  most-few = omega (arith, b .bound, b .one .valid .few)
+  most-few = omega (arith, b .bound, own-proper (b .one) .few)
 
-  module _ {order1 order2 : List ℕ} {m : ℕ} (o : Ordered (b .s) (b .t) order1 order2 m) (few : m ≤ 80) (number : List ℕ) (n : ℕ)
-      (marked : MarkedTo n (places .count) (common (b .s) (b .t)) (b .K) number) where
+  module _ {order1 order2 : List ℕ} {m : ℕ} (o : Ordered (decoded (b .s)) (decoded (b .t)) order1 order2 m) (few : m ≤ 80)
+      (number : List ℕ) (n : ℕ)
+      (marked : MarkedTo n (places .count) (common (decoded (b .s)) (decoded (b .t))) (map spelling (b .K)) number) where
     pub first-missing : n < places .count → FirstMissing (b .s) (b .t) (b .K) first list tree1 places n
     first-missing l = record {
       own = b .one;
@@ -387,7 +408,7 @@ module _ {first list : List ℕ} {tree1 tree2 : TreeArrays} {partner : List ℕ}
         one = record {
           valid = b .one .valid;
           arrays-is = b .first-arrays;
-          ordered = common-inc (b .s) (b .t) (b .one .valid .different);
+          ordered = common-inc (decoded (b .s)) (decoded (b .t)) (own-proper (b .one) .different);
           count = o .count;
           few = few;
           numbered = o .first;
@@ -395,20 +416,22 @@ module _ {first list : List ℕ} {tree1 tree2 : TreeArrays} {partner : List ℕ}
         two = record {
           valid = b .valid2;
           arrays-is = b .second-arrays;
-          ordered = common-inc (b .s) (b .t) (b .one .valid .different);
+          ordered = common-inc (decoded (b .s)) (decoded (b .t)) (own-proper (b .one) .different);
           count = o .count;
           few = few;
           numbered = o .second;
         };
         different = b .own-list .different;
         few = b .own-list .few;
-        held = marked-common (b .s) (b .t) (b .K) number whole-list;
-        marked = marked-all (common (b .s) (b .t)) (b .K) number whole-list;
+        held = marked-common (decoded (b .s)) (decoded (b .t)) (map spelling (b .K)) number whole-list;
+        marked = marked-all (common (decoded (b .s)) (decoded (b .t))) (map spelling (b .K)) number whole-list;
         count-is = b .own-list .count-is;
       };
       text-is = b .one .text-is;
       list-places = b .list-places;
     }
       where
-        whole-list : Marks (length (b .K)) (common (b .s) (b .t)) (b .K) number
-        whole-list = let e : n ≡ length (b .K) = omega (arith, b .own-list .count-is) in rw e at (marked .marks)
+        whole-list : Marks (length (map spelling (b .K))) (common (decoded (b .s)) (decoded (b .t))) (map spelling (b .K)) number
+        whole-list =
+            let e : n ≡ length (map spelling (b .K)) = omega (arith, b .own-list .count-is, length-map (b .K) spelling) in
+            rw e at (marked .marks)

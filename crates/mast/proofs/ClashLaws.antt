@@ -2,15 +2,17 @@
 use Prim.Native.Nat.{ℕ, suc, _-_, _<_, _≤_}
 use mathlib.Core.Path.{_≡_, refl, sym, _∙_, ap}
 use mathlib.Core.Bool.{true}
-use mathlib.Core.List.{List, []}
+use mathlib.Core.List.{List, [], map}
 use mathlib.Core.Option.{Option, some, none}
 use native.Mathlib.Omega.{arith}
-use lib.ListN.{length, getD}
+use lib.ListN.{length, getD, length-map}
 use Rattle.trees.specs.declared.TreeArrays.{TreeArrays}
 use Rattle.trees.specs.Label.{Label, isIn, distinct}
-use Rattle.trees.specs.Tree.{Tree, leaves}
+use Rattle.trees.specs.Token.{Token, spelling}
+use Rattle.trees.specs.Tree.{Tree, leaves, decoded}
 use Rattle.trees.specs.Arrays.{arraysOf}
-use Rattle.trees.proofs.TreeLaws.{valid-proper}
+use Rattle.trees.proofs.DecodedLaws.{decoded-nodes, decoded-left}
+use Rattle.trees.proofs.TokenLaws.{valid-decoded}
 use Rattle.lists.specs.declared.LabelPlaces.{LabelPlaces}
 use Rattle.agreement.specs.Sets.{increasing, sorted, common}
 use Rattle.agreement.specs.Answer.{Three, firstClash}
@@ -40,66 +42,75 @@ first-clash-is s t K a b c dk d = go (firstClash s t (sorted K)) (required-clash
         rw (e .0, e .1, e .2) refl
 
 -- a required label by its rank among the required ones
-pub record PlacedAt (K : List Label) (x : Label) (starts number ranks : List ℕ) (i : ℕ) : Type 0 where
+pub record PlacedAt (K : List Token) (x : Label) (starts number ranks : List ℕ) (i : ℕ) : Type 0 where
   pub small : i < 80
   pub rank-small : getD ranks i 0 < 81
   pub some-number : 0 < getD number (getD ranks i 0) 0
   pub number-small : getD number (getD ranks i 0) 0 ≤ 80
   pub place : getD starts (getD number (getD ranks i 0) 0 - 1) 0 ≡ placeOfLabel K 0 x
 
-module _ (s t : Tree) (K : List Label) (a b c : Label) (tree1 tree2 : TreeArrays) (order1 order2 : List ℕ) (m : ℕ) (number : List ℕ)
+module _ (s t : Tree) (K : List Token) (a b c : Label) (tree1 tree2 : TreeArrays) (order1 order2 : List ℕ) (m : ℕ) (number : List ℕ)
     (places : LabelPlaces) (h : Clashes s t K a b c tree1 tree2 order1 order2 m number places) (ranks : List ℕ)
     (entries : Entries (ranksFrom number 0 m) ranks) where
   abbrev C : List Label
-  C = common s t
+  C = common (decoded s) (decoded t)
 
-  R-is : ranksFrom number 0 m ≡ ranksFrom number 0 (length (common s t))
+  abbrev L : List Label
+  L = map spelling K
+
+  count-map : length (map spelling K) ≡ length K
+  count-map = length-map K spelling
+
+  R-is : ranksFrom number 0 m ≡ ranksFrom number 0 (length (common (decoded s) (decoded t)))
   R-is = ap (ranksFrom number 0) (h .asked .one .count)
 
-  abbrev ds : distinct (leaves s) ≡ true
-  ds = h .asked .one .valid .different
+  abbrev ds : distinct (leaves (decoded s)) ≡ true
+  ds = valid-decoded s (h .asked .one .valid) .different
 
-  rank-count : length (ranksFrom number 0 m) ≡ length K
-  rank-count = ap (length {A = ℕ}) R-is ∙ ranks-count s t K number ds (h .asked .different) (h .asked .held) (h .asked .marked)
+  rank-count : length (ranksFrom number 0 m) ≡ length L
+  rank-count =
+      ap (length {A = ℕ}) R-is
+      ∙ ranks-count (decoded s) (decoded t) L number ds (h .asked .different) (h .asked .held) (h .asked .marked)
 
   -- the rank among the common labels of required label i
-  common-rank : (i : ℕ) → i < length K → (getD ranks i 0 < length C) × (getD C (getD ranks i 0) [] ≡ getD (sorted K) i [])
+  common-rank : (i : ℕ) → i < length L → (getD ranks i 0 < length C) × (getD C (getD ranks i 0) [] ≡ getD (sorted L) i [])
   common-rank i l =
       let e : getD ranks i 0 ≡ getD (ranksFrom number 0 (length C)) i 0 =
       entries .each i (omega (arith, rank-count)) ∙ ap (λ (xs : List ℕ). getD xs i 0) R-is in
       rw e (
-        rank-low s t K number ds (h .asked .different) (h .asked .held) (h .asked .marked) i l,
-        rank-label s t K number ds (h .asked .different) (h .asked .held) (h .asked .marked) i l,
+        rank-low (decoded s) (decoded t) L number ds (h .asked .different) (h .asked .held) (h .asked .marked) i l,
+        rank-label (decoded s) (decoded t) L number ds (h .asked .different) (h .asked .held) (h .asked .marked) i l,
       )
 
-  sorted-distinct : distinct (sorted K) ≡ true
-  sorted-distinct = inc-distinct (sorted K) (sorted-inc K (h .asked .different))
+  sorted-distinct : distinct (sorted L) ≡ true
+  sorted-distinct = inc-distinct (sorted L) (sorted-inc L (h .asked .different))
 
-  pub placed-at : (x : Label) → isIn x K ≡ true → PlacedAt K x (places .start) number ranks (rankOf (sorted K) x)
+  pub placed-at : (x : Label) → isIn x L ≡ true → PlacedAt K x (places .start) number ranks (rankOf (sorted L) x)
   placed-at x k =
-      let i = number-of (sorted K) x (in-sorted x K ∙ k) in
-      let n = number-of K x k in
-      let low : i .at < length K = omega (arith, i .below, length-sorted K) in
+      let i = number-of (sorted L) x (in-sorted x L ∙ k) in
+      let n = number-of L x k in
+      let low : i .at < length L = omega (arith, i .below, length-sorted L) in
       let r = common-rank (i .at) low in
-      let is : getD C (getD ranks (i .at) 0) [] ≡ getD K (n .at) [] = r .1 ∙ i .is ∙ sym (n .is) in
+      let is : getD C (getD ranks (i .at) 0) [] ≡ getD L (n .at) [] = r .1 ∙ i .is ∙ sym (n .is) in
       let mark = h .asked .marked .held (getD ranks (i .at) 0) (n .at) (r .0) (n .below) is in
-      let rank : rankOf (sorted K) x ≡ i .at = ap (rankOf (sorted K)) (sym (i .is)) ∙ rank-at (sorted K) (i .at) sorted-distinct (i .below) in
+      let rank : rankOf (sorted L) x ≡ i .at = ap (rankOf (sorted L)) (sym (i .is)) ∙ rank-at (sorted L) (i .at) sorted-distinct (i .below) in
       let few = h .asked .few in
       rw rank (record {
-        small = omega arith;
+        small = omega (arith, count-map);
         rank-small = omega (arith, r .0, h .asked .one .count, h .asked .one .few);
         some-number = omega (arith, mark);
-        number-small = omega (arith, mark, n .below);
-        place = rw mark (placed (n .at) x (n .below) (n .is));
+        number-small = omega (arith, mark, n .below, count-map);
+        place = rw mark (placed (n .at) x (omega (arith, n .below, count-map)) (n .is));
       })
     where
-      placed : (n : ℕ) (x : Label) → n < length K → getD K n [] ≡ x → getD (places .start) (suc n - 1) 0 ≡ placeOfLabel K 0 x
+      placed : (n : ℕ) (x : Label) → n < length K → getD L n [] ≡ x → getD (places .start) (suc n - 1) 0 ≡ placeOfLabel K 0 x
       placed n x l e =
           let z : suc n - 1 ≡ n = omega arith in
           rw (z, h .list-places) (place-of K n (h .asked .different) l ∙ ap (placeOfLabel K 0) e)
 
-  named : IsDisagreement s t K a b c
-  named = eight-names s t K (valid-proper s (h .asked .one .valid)) (h .asked .different) a b c (h .asked .held) .0 (h .clash)
+  named : IsDisagreement (decoded s) (decoded t) L a b c
+  named =
+      eight-names (decoded s) (decoded t) L (valid-decoded s (h .asked .one .valid)) (h .asked .different) a b c (h .asked .held) .0 (h .clash)
 
   module _ (leaf1 leaf2 : List ℕ) (three : Ranks.Three)
       (at1 : (i : ℕ) → i < places .count → getD leaf1 i 0 ≡ getD order1 (getD ranks i 0) 0)
@@ -108,25 +119,27 @@ module _ (s t : Tree) (K : List Label) (a b c : Label) (tree1 tree2 : TreeArrays
       → RankedTree s xs (tree1 .left) (tree1 .nodes) leaf1 → RankedTree t xs (tree2 .left) (tree2 .nodes) leaf2
       → three ≡ clashRanks xs (firstClash s t xs)) where
     ranked : (v : Tree) (tree : TreeArrays) (order leaf : List ℕ) → RankedArrays v C tree order m
-        → ((i : ℕ) → i < places .count → getD leaf i 0 ≡ getD order (getD ranks i 0) 0) → RankedTree v (sorted K) (tree .left) (tree .nodes) leaf
+        → ((i : ℕ) → i < places .count → getD leaf i 0 ≡ getD order (getD ranks i 0) 0)
+        → RankedTree (decoded v) (sorted L) (tree .left) (tree .nodes) leaf
     unfolding arraysOf
     ranked v tree order leaf r at = record {
-      valid = r .valid;
-      children = ap (λ q. q .left) (r .arrays-is);
-      size = ap (λ q. q .nodes) (r .arrays-is);
+      proper = valid-decoded v (r .valid);
+      children = ap (λ q. q .left) (r .arrays-is) ∙ sym (decoded-left v);
+      size = ap (λ q. q .nodes) (r .arrays-is) ∙ sym (decoded-nodes v);
       numbered = λ i l.
-          let low : i < length K = omega (arith, length-sorted K) in
+          let low : i < length L = omega (arith, length-sorted L) in
           let q = common-rank i low in
-          rw (at i (omega (arith, h .asked .count-is)), ← q .1) (r .numbered (getD ranks i 0) (q .0));
+          rw (at i (omega (arith, h .asked .count-is, count-map)), ← q .1) (r .numbered (getD ranks i 0) (q .0));
     }
 
-    pub three-is : three ≡ record { first = rankOf (sorted K) a; second = rankOf (sorted K) b; third = rankOf (sorted K) c }
+    pub three-is : three ≡ record { first = rankOf (sorted L) a; second = rankOf (sorted L) b; third = rankOf (sorted L) c }
     unfolding clashRanks
     three-is =
-        told s t (sorted K) (sorted-inc K (h .asked .different)) (h .asked .count-is ∙ sym (length-sorted K))
+        told (decoded s) (decoded t) (sorted L) (sorted-inc L (h .asked .different))
+        (omega (arith, h .asked .count-is, length-sorted L, count-map))
         (omega (arith, h .asked .count-is, h .asked .few)) (ranked s tree1 order1 leaf1 (h .asked .one) at1)
         (ranked t tree2 order2 leaf2 (h .asked .two) at2)
-        ∙ ap (clashRanks (sorted K)) (first-clash-is s t K a b c (h .asked .different) named)
+        ∙ ap (clashRanks (sorted L)) (first-clash-is (decoded s) (decoded t) L a b c (h .asked .different) named)
 
     pub first-placed : PlacedAt K a (places .start) number ranks (three .first)
     first-placed = rw three-is (placed-at a (named .clash .inOne))
@@ -137,6 +150,6 @@ module _ (s t : Tree) (K : List Label) (a b c : Label) (tree1 tree2 : TreeArrays
     pub third-placed : PlacedAt K c (places .start) number ranks (three .third)
     third-placed = rw three-is (placed-at c (named .clash .inThree))
 
-pub three-places : (K : List Label) (a b c : Label) (p q r : ℕ) → p ≡ placeOfLabel K 0 a → q ≡ placeOfLabel K 0 b → r ≡ placeOfLabel K 0 c
+pub three-places : (K : List Token) (a b c : Label) (p q r : ℕ) → p ≡ placeOfLabel K 0 a → q ≡ placeOfLabel K 0 b → r ≡ placeOfLabel K 0 c
     → _≡_ {A = Ranks.Three} (record { first = p; second = q; third = r }) (placesOfThree K a b c)
 three-places K a b c p q r e f g = rw (e, f, g) refl

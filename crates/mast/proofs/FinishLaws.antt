@@ -1,4 +1,4 @@
--- A leaf's start and size are its label's place and length; the chosen labels one rank further; places stored and leaves flagged
+-- A leaf's start and size are its token's place and length; the chosen labels one rank further; places stored and leaves flagged
 -- rank by rank are those of the chosen labels. Assumes nothing.
 use Prim.Native.Nat.{ℕ, zero, suc, _+_, _-_, _<_, _≤_}
 use mathlib.Core.Path.{_≡_, refl, sym, _∙_, ap}
@@ -12,89 +12,118 @@ use lib.ListN.{length, getD, set, take, drop, replicate, length-append, length-t
 use lib.Seq.{take-suc, take-all, length-take-le, getD-set-same, getD-set-other}
 use borrow.Author.Tests.{eqb-true, eqb-false, eq-eqb}
 use Rattle.trees.specs.Label.{Label, isIn, distinct}
-use Rattle.trees.specs.Tree.{Tree, leaf, node, leaves, Valid}
+use Rattle.trees.specs.Tree.{Tree, leaf, node, leaves, relabel, decoded, Valid, Proper}
 use Rattle.trees.specs.Text.{written, textOf}
 use Rattle.trees.specs.Arrays.{nodesOf, nodeLimit, starts, sizes, arraysOf, isLeaf}
 use Rattle.trees.specs.Postorder.{postorder, subtree}
 use Rattle.trees.proofs.Bools.{bool-cases, clash, refute}
 use Rattle.trees.proofs.ListLaws.{in-one, in-one-eq, in-append, in-right, distinct-left, distinct-right, distinct-apart}
-use Rattle.trees.proofs.ArrayLaws.{own-stands, good-at, label-inside, few-nodes, starts-length}
-use Rattle.trees.proofs.PostorderLaws.{Third, in-first, in-second, at-last, third, third-first, third-second, third-last}
-use Rattle.trees.proofs.PostorderLaws.{length-postorder, subtree-in, holds-leaf, node-leaf, leaf-once, label-shown, leaf-label}
+use Rattle.trees.proofs.ArrayLaws.{own-stands, good-at, label-inside, starts-length}
+use Rattle.trees.proofs.DecodedLaws.{decoded-nodes}
+use Rattle.trees.proofs.TokenLaws.{valid-decoded}
+use Rattle.trees.proofs.PostorderLaws.{Third, in-first, in-second, at-last, third, third-first, third-second, at-left, at-right, at-root}
+use Rattle.trees.proofs.PostorderLaws.{subtree-in, holds-leaf, node-leaf, leaf-once, label-shown, leaf-label}
 use Rattle.lists.specs.declared.LabelPlaces.{LabelPlaces}
 use Rattle.lists.specs.ReadList.{padded, listLimit}
 use Rattle.lists.proofs.ListPlaces.{store}
 use Rattle.agreement.specs.Closer.{holds}
-use Rattle.agreement.specs.Places.{placeIn}
+use Rattle.agreement.specs.Places.{placeIn, tokenIn}
 use Rattle.leaves.proofs.OwnLaws.{own-leaf}
 use Rattle.leaves.specs.Numbered.{LeafIs, Numbered}
 use Rattle.table.specs.Choice.{chosenFrom}
 use Rattle.mast.specs.Largest.{setPlaces}
 use Rattle.mast.specs.Finish.{placesFrom, Stored, Flagged}
+use Rattle.mast.proofs.RankLaws.{proper-nodes}
 
--- a leaf's start in the arrays of a tree whose text starts at p
+-- a leaf of the decoded tree: its token, and that one's start in the arrays of a tree whose text starts at p
 abbrev PlacedAt : Tree → ℕ → Type 0
-PlacedAt t p = (i : ℕ) → i < nodesOf t → (x : Label) → subtree (postorder t) i ≡ leaf x → getD (starts t p) i 0 ≡ placeIn t p x
+PlacedAt t p =
+    (i : ℕ) → i < nodesOf t → (x : Label) → subtree (postorder (decoded t)) i ≡ leaf x
+    → (getD (starts t p) i 0 ≡ placeIn t p x) × (subtree (postorder t) i ≡ leaf (tokenIn t x))
 
-module _ (a b : Tree) (p i : ℕ) (x : Label) where
-  place-first : holds a x ≡ true → placeIn (node a b) p x ≡ placeIn a (p + 1) x
-  unfolding placeIn
-  place-first h = rw h refl
+module _ (a b : Tree) (x : Label) where
+  module _ (h : holds (decoded a) x ≡ true) where
+    place-first : (p : ℕ) → placeIn (node a b) p x ≡ placeIn a (p + 1) x
+    unfolding placeIn
+    place-first p = rw h refl
 
-  place-second : holds a x ≡ false → placeIn (node a b) p x ≡ placeIn b (p + 1 + length (written a) + 1) x
-  unfolding placeIn
-  place-second h = rw h refl
+    token-first : tokenIn (node a b) x ≡ tokenIn a x
+    unfolding tokenIn
+    token-first = rw h refl
 
-  module _ (d : distinct (leaves (node a b)) ≡ true) (f : PlacedAt a (p + 1)) (g : PlacedAt b (p + 1 + length (written a) + 1))
-      (e : subtree (postorder (node a b)) i ≡ leaf x) where
-    placed-split : Third (nodesOf a) (nodesOf b) i → getD (starts (node a b) p) i 0 ≡ placeIn (node a b) p x
-    unfolding starts postorder leaves holds
-    placed-split (in-first h) =
-        let k : subtree (postorder a) i ≡ leaf x =
-        sym (third-first (postorder a) (postorder b) (node a b) (leaf []) i (omega (arith, length-postorder a))) ∙ e
-        in
+  module _ (h : holds (decoded a) x ≡ false) where
+    place-second : (p : ℕ) → placeIn (node a b) p x ≡ placeIn b (p + 1 + length (written a) + 1) x
+    unfolding placeIn
+    place-second p = rw h refl
+
+    token-second : tokenIn (node a b) x ≡ tokenIn b x
+    unfolding tokenIn
+    token-second = rw h refl
+
+pub leaf-held : (t : Tree) (v : ℕ) (x : Label) → LeafIs t v x → holds t x ≡ true
+unfolding holds
+leaf-held t v x l = subtree-in t v (l .below) x (holds-leaf (subtree (postorder t) v) x (l .is))
+
+module _ (a b : Tree) (p i : ℕ) (x : Label) (d : distinct (leaves (node (decoded a) (decoded b))) ≡ true) (f : PlacedAt a (p + 1))
+    (g : PlacedAt b (p + 1 + length (written a) + 1)) (e : subtree (postorder (node (decoded a) (decoded b))) i ≡ leaf x) where
+  placed-split : Third (nodesOf a) (nodesOf b) i
+      → (getD (starts (node a b) p) i 0 ≡ placeIn (node a b) p x) × (subtree (postorder (node a b)) i ≡ leaf (tokenIn (node a b) x))
+  unfolding starts leaves holds
+  placed-split (in-first h) =
+      let h′ : i < nodesOf (decoded a) = omega (arith, decoded-nodes a) in
+      let k = sym (at-left (decoded a) (decoded b) i h′) ∙ e in
+      let held : holds (decoded a) x ≡ true = leaf-held (decoded a) i x (record { below = h′; is = k }) in
+      let w = f i h x k in (
         third-first (starts a (p + 1)) (starts b (p + 1 + length (written a) + 1)) 0 0 i (omega (arith, starts-length a (p + 1)))
-        ∙ f i h x k ∙ sym (place-first (subtree-in a i h x (holds-leaf (subtree (postorder a) i) x k)))
-    placed-split (in-second j h m) =
-        let k : subtree (postorder b) j ≡ leaf x =
-        sym (third-second (postorder a) (postorder b) (node a b) (leaf []) (nodesOf a) i j (length-postorder a)
-        (omega (arith, length-postorder b)) m)
-        ∙ e
-        in
+            ∙ w .0 ∙ sym (place-first a b x held p),
+        at-left a b i h ∙ w .1 ∙ ap leaf (sym (token-first a b x held)),
+      )
+  placed-split (in-second j h m) =
+      let h′ : j < nodesOf (decoded b) = omega (arith, decoded-nodes b) in
+      let k = sym (at-right (decoded a) (decoded b) i j h′ (omega (arith, decoded-nodes a))) ∙ e in
+      let lacked : holds (decoded a) x ≡ false = refute (isIn x (leaves (decoded a))) (λ (q : isIn x (leaves (decoded a)) ≡ true).
+      clash (leaf-held (decoded b) j x (record { below = h′; is = k })) (distinct-apart (leaves (decoded a)) (leaves (decoded b)) d x q)) in
+      let w = g j h x k in (
         third-second (starts a (p + 1)) (starts b (p + 1 + length (written a) + 1)) 0 0 (nodesOf a) i j (starts-length a (p + 1))
-        (omega (arith, starts-length b (p + 1 + length (written a) + 1))) m
-        ∙ g j h x k
-        ∙ sym (place-second (refute (isIn x (leaves a)) (λ (q : isIn x (leaves a) ≡ true).
-        clash (subtree-in b j h x (holds-leaf (subtree (postorder b) j) x k)) (distinct-apart (leaves a) (leaves b) d x q))))
-    placed-split (at-last m) =
-        absurd
-        (node-leaf a b x
-        (sym (third-last (postorder a) (postorder b) (node a b) (leaf []) (nodesOf a) (nodesOf b) i (length-postorder a)
-        (length-postorder b) m)
-        ∙ e))
+            (omega (arith, starts-length b (p + 1 + length (written a) + 1))) m
+            ∙ w .0 ∙ sym (place-second a b x lacked p),
+        at-right a b i j h m ∙ w .1 ∙ ap leaf (sym (token-second a b x lacked)),
+      )
+  placed-split (at-last m) =
+      absurd
+      (node-leaf (decoded a) (decoded b) x
+      (sym (at-root (decoded a) (decoded b) i (omega (arith, decoded-nodes a, decoded-nodes b))) ∙ e))
 
-placed : (t : Tree) → distinct (leaves t) ≡ true → (p : ℕ) → PlacedAt t p
-unfolding starts placeIn nodesOf leaves
-placed (leaf y) d p zero h x e = refl
+placed : (t : Tree) → distinct (leaves (decoded t)) ≡ true → (p : ℕ) → PlacedAt t p
+unfolding starts placeIn tokenIn nodesOf leaves postorder decoded relabel
+placed (leaf y) d p zero h x e = (refl, refl)
 placed (leaf y) d p (suc i) h x e = absurd (omega arith)
 placed (node a b) d p i h x e =
-    placed-split a b p i x d (placed a (distinct-left (leaves a) (leaves b) d) (p + 1))
-    (placed b (distinct-right (leaves a) (leaves b) d) (p + 1 + length (written a) + 1)) e (third (nodesOf a) (nodesOf b) i h)
+    placed-split a b p i x d (placed a (distinct-left (leaves (decoded a)) (leaves (decoded b)) d) (p + 1))
+    (placed b (distinct-right (leaves (decoded a)) (leaves (decoded b)) d) (p + 1 + length (written a) + 1)) e
+    (third (nodesOf a) (nodesOf b) i h)
 
 -- in a valid tree's own arrays
-module _ (t : Tree) (v : Valid t) (u : ℕ) (x : Label) (l : LeafIs t u x) where
+module _ (t : Tree) (v : Valid t) (u : ℕ) (x : Label) (l : LeafIs (decoded t) u x) where
+  below : u < nodesOf t
+  below = omega (arith, l .below, decoded-nodes t)
+
+  own-place : (getD (starts t 0) u 0 ≡ placeIn t 0 x) × (subtree (postorder t) u ≡ leaf (tokenIn t x))
+  own-place = placed t (valid-decoded t v .different) 0 u below x (l .is)
+
   pub own-start : getD (arraysOf t .start) u 0 ≡ placeIn t 0 x
   unfolding arraysOf
   own-start =
-      List·getD-append (starts t 0) (replicate (nodeLimit - length (starts t 0)) 0) 0 u (omega (arith, starts-length t 0, l .below))
-      ∙ placed t (v .different) 0 u (l .below) x (l .is)
+      List·getD-append (starts t 0) (replicate (nodeLimit - length (starts t 0)) 0) 0 u (omega (arith, starts-length t 0, below))
+      ∙ own-place .0
 
-  pub own-size : getD (arraysOf t .size) u 0 ≡ length x
+  pub own-size : getD (arraysOf t .size) u 0 ≡ length (tokenIn t x)
   unfolding arraysOf isLeaf
   own-size =
-      let i = label-inside (arraysOf t) (textOf t) u (good-at (arraysOf t) (textOf t) (nodesOf t) (own-stands t v .good) u (l .below))
-      (eq-eqb (getD (arraysOf t .left) u 0) u (own-leaf t u x (l .below) (l .is))) in
-      let e = label-shown t (replicate (nodeLimit - length (starts t 0)) 0) (replicate (nodeLimit - length (sizes t)) 0) u (l .below) x (l .is) in
+      let i = label-inside (arraysOf t) (textOf t) u (good-at (arraysOf t) (textOf t) (nodesOf t) (own-stands t v .good) u below)
+      (eq-eqb (getD (arraysOf t .left) u 0) u (own-leaf t u (tokenIn t x) below (own-place .1))) in
+      let e = label-shown t (replicate (nodeLimit - length (starts t 0)) 0) (replicate (nodeLimit - length (sizes t)) 0) u below
+      (tokenIn t x) (own-place .1) in
       sym (length-take-le (getD (arraysOf t .size) u 0) (drop (getD (arraysOf t .start) u 0) (textOf t))
       (omega (arith, i .inside, length-drop (getD (arraysOf t .start) u 0) (textOf t))))
       ∙ ap length e
@@ -152,12 +181,12 @@ padded-map f X x h =
     store (map f X) (f x) (length X) (length-map X f) h ∙ ap padded (sym (map-append f X (x ∷ [])))
 
 module _ (s : Tree) (X : List Label) (x : Label) (h : length X < listLimit) where
-  places-more : (b : Bool) (new : LabelPlaces) → Stored b (placeIn s 0 x) (length x) (setPlaces s X) new
+  places-more : (b : Bool) (new : LabelPlaces) → Stored b (placeIn s 0 x) (length (tokenIn s x)) (setPlaces s X) new
       → new ≡ setPlaces s (X ++ cond b (x ∷ []) [])
   unfolding setPlaces
   places-more true new k =
       places-eq (k .count ∙ sym (length-append X (x ∷ []))) (k .start ∙ padded-map (placeIn s 0) X x h)
-      (k .size ∙ padded-map (length {A = ℕ}) X x h)
+      (k .size ∙ padded-map (λ (y : Label). length (tokenIn s y)) X x h)
   places-more false new k = places-eq (k .count) (k .start) (k .size) ∙ ap (setPlaces s) (sym (append-nil X))
 
 pub stored-count : (b : Bool) (at len : ℕ) (old new : LabelPlaces) → Stored b at len old new → new .count ≤ old .count + 1
@@ -169,7 +198,7 @@ pub places-none : (s : Tree) (w : List Bool) (C : List Label)
 unfolding setPlaces chosenFrom
 places-none s w C = refl
 
-module _ (s : Tree) (v : Valid s) (w : List Bool) (order : List ℕ) (C : List Label) (num : Numbered s C order) where
+module _ (s : Tree) (v : Valid s) (w : List Bool) (order : List ℕ) (C : List Label) (num : Numbered (decoded s) C order) where
   pub places-next : (r : ℕ) → r < length C → r < listLimit → (old new : LabelPlaces) → old ≡ setPlaces s (chosenTo w C r)
       → Stored (getD w r false) (getD (arraysOf s .start) (getD order r 0) 0) (getD (arraysOf s .size) (getD order r 0) 0)
       old new → new ≡ setPlaces s (chosenTo w C (r + 1))
@@ -179,7 +208,7 @@ module _ (s : Tree) (v : Valid s) (w : List Bool) (order : List ℕ) (C : List L
       ∙ ap (setPlaces s) (sym (chosen-next w C r h))
 
 -- flags with one leaf more
-module _ (s : Tree) (v : Valid s) (X : List Label) (x : Label) (p : ℕ) (l : LeafIs s p x) (kept : List Bool) (size : length kept ≡ nodeLimit)
+module _ (s : Tree) (v : Proper s) (X : List Label) (x : Label) (p : ℕ) (l : LeafIs s p x) (kept : List Bool) (size : length kept ≡ nodeLimit)
     (f : Flagged s X kept) where
   flag-one : Flagged s (X ++ (x ∷ [])) (set kept p true)
   flag-one u h y e = go (bool-cases (eqb u p))
@@ -190,7 +219,7 @@ module _ (s : Tree) (v : Valid s) (X : List Label) (x : Label) (p : ℕ) (l : Le
       go : (eqb u p ≡ true) ⊎ (eqb u p ≡ false) → getD (set kept p true) u false ≡ isIn y (X ++ (x ∷ []))
       go (inl q) =
           let d = eqb-true u p q in
-          rw (d, same d, getD-set-same kept p true false (omega (arith, l .below, few-nodes s v)))
+          rw (d, same d, getD-set-same kept p true false (omega (arith, l .below, proper-nodes s v)))
           (sym (in-right x X (x ∷ []) (in-one x)))
       go (inr q) =
           let d = eqb-false u p q in
@@ -205,11 +234,11 @@ module _ (s : Tree) (v : Valid s) (X : List Label) (x : Label) (p : ℕ) (l : Le
   flag-more true = flag-one
   flag-more false = rw (append-nil X) f
 
-pub flags-none : (s : Tree) (v : Valid s) (w : List Bool) (C : List Label) → Flagged s (chosenTo w C 0) (replicate nodeLimit false)
+pub flags-none : (s : Tree) (v : Proper s) (w : List Bool) (C : List Label) → Flagged s (chosenTo w C 0) (replicate nodeLimit false)
 unfolding chosenFrom isIn
-flags-none s v w C u h x e = getD-replicate nodeLimit u false false (omega (arith, few-nodes s v))
+flags-none s v w C u h x e = getD-replicate nodeLimit u false false (omega (arith, proper-nodes s v))
 
-module _ (s : Tree) (v : Valid s) (w : List Bool) (order : List ℕ) (C : List Label) (num : Numbered s C order) where
+module _ (s : Tree) (v : Proper s) (w : List Bool) (order : List ℕ) (C : List Label) (num : Numbered s C order) where
   pub flags-next : (r : ℕ) → r < length C → (kept new : List Bool) → length kept ≡ nodeLimit → Flagged s (chosenTo w C r) kept
       → new ≡ cond (getD w r false) (set kept (getD order r 0) true) kept → Flagged s (chosenTo w C (r + 1)) new
   flags-next r h kept new size f e =

@@ -1,18 +1,20 @@
 -- Demand 3 of the engine's answer to three texts and an output of `room` bytes, in the scope paper's order; the contract of `largest`
--- says that `solve` is what comes back. Assumes nothing.
+-- says that `solve` is what comes back. Trees and lists are as they are read; agreement is asked of the labels that their tokens stand
+-- for. Assumes nothing.
 use Prim.Native.Nat.{ℕ, _<_}
 use mathlib.Core.Path.{_≡_, refl, _∙_}
 use mathlib.Core.Logic.{_↔_}
 use mathlib.Core.Bool.{true}
-use mathlib.Core.List.{List, [], _++_}
+use mathlib.Core.List.{List, [], _++_, map}
 use lib.ListN.{length, getD, drop}
 use Rattle.trees.specs.declared.Body.the-variants.{K, S, T}
 use Rattle.trees.specs.declared.Refusal.{Refusal}
 use Rattle.trees.specs.Label.{Label, isIn}
-use Rattle.trees.specs.Tree.{Tree}
+use Rattle.trees.specs.Token.{Token, spelling}
+use Rattle.trees.specs.Tree.{Tree, decoded}
 use Rattle.agreement.specs.Sets.{setOf}
 use Rattle.agreement.specs.Restrict.{restrict}
-use Rattle.agreement.specs.Places.{placeIn, placeOfNumber, placeOfLabel, keptText}
+use Rattle.agreement.specs.Places.{placeIn, tokenIn, placeOfNumber, placeOfLabel, tokenOfLabel, keptText, LeafShown, Listed}
 use Rattle.agreement.specs.Answer.{Answer, answer}
 use Rattle.mast.specs.Largest.{Solution, solved, clashed, turned, tooShort, solutionOf, Task, task, plain, solveShared, solve, outputOf, largestOf, setPlaces}
 use Rattle.trees.specs.declared.Reason.{Reason}
@@ -29,8 +31,7 @@ use Rattle.mast.proofs.OutcomeLaws.{outcome-decides, eight-exactly, set
 use Rattle.mast.specs.declared.LargestAnswer.the-variants.{Found}
 use Rattle.mast.specs.Rows.{saidOfLargest, saidOfSolution}
 use Rattle.trees.specs.Text.{textOf}
-use Rattle.trees.specs.Words.{Within}
-use Rattle.agreement.proofs.PlaceLaws.{tree-shown, list-shown, number-shown}
+use Rattle.agreement.proofs.PlaceLaws.{leaf-shown, token-spelled, list-listed, listed-spelled, number-listed}
 use Rattle.mast.proofs.BodyLaws.{solve-trees, strict-as-plain}
 use Rattle.mast.proofs.SaidLaws.{said-exactly}
 use Rattle.mast.proofs.StrayLaws.{shared-nowhere, stray-told}
@@ -46,7 +47,8 @@ module _ (q : Task) (room : ℕ) (r : Reason) (i : ℕ) where
   unfolding solve
   second-body s e f = rw (e, f) refl
 
-  pub third-body : (s t : Tree) → readTree (q .first) ≡ good s → readTree (q .second) ≡ good t → (q .options .strict ≡ true → SameLeaves s t)
+  pub third-body : (s t : Tree) → readTree (q .first) ≡ good s → readTree (q .second) ≡ good t
+      → (q .options .strict ≡ true → SameLeaves (decoded s) (decoded t))
       → readList (q .required) ≡ refused r i → solve q room ≡ turned (record { reason = r; body = K; place = i })
   unfolding solveShared
   third-body s t e f h g = solve-trees q room s t e f nowhere (shared-nowhere (q .options) s t h) ∙ (rw g refl)
@@ -54,28 +56,29 @@ module _ (q : Task) (room : ℕ) (r : Reason) (i : ℕ) where
 -- request C-11, "after both trees are read and before K": a strict job gets number 12 at the first leaf of the first tree that the
 -- second lacks or, if there is none, at the first of the second that the first lacks
 module _ (q : Task) (room : ℕ) (s t : Tree) (e : readTree (q .first) ≡ good s) (f : readTree (q .second) ≡ good t) where
-  pub stray-in-first : q .options .strict ≡ true → (x : Label) → IsStray s t x
+  pub stray-in-first : q .options .strict ≡ true → (x : Label) → IsStray (decoded s) (decoded t) x
       → solve q room ≡ turned (record { reason = NotShared; body = S; place = placeIn s 0 x })
   unfolding solveShared
   stray-in-first h x k = solve-trees q room s t e f (inFirst x) (stray-told (q .options) s t h (inFirst x) k)
 
-  pub stray-in-second : q .options .strict ≡ true → (x : Label) → ((y : Label) → holds s y ≡ true → holds t y ≡ true) → IsStray t s x
+  pub stray-in-second : q .options .strict ≡ true → (x : Label)
+      → ((y : Label) → holds (decoded s) y ≡ true → holds (decoded t) y ≡ true) → IsStray (decoded t) (decoded s) x
       → solve q room ≡ turned (record { reason = NotShared; body = T; place = placeIn t 0 x })
   unfolding solveShared
   stray-in-second h x a k = solve-trees q room s t e f (inSecond x) (stray-told (q .options) s t h (inSecond x) (a, k))
 
   -- where both hold the same leaves it answers as a job that is not strict: "a larger set is still impossible in both sorts"
-  pub strict-promise : SameLeaves s t → solve q room ≡ solve (task plain (q .first) (q .second) (q .required)) room
+  pub strict-promise : SameLeaves (decoded s) (decoded t) → solve q room ≡ solve (task plain (q .first) (q .second) (q .required)) room
   strict-promise = strict-as-plain q room s t e f
 
-module _ (q : Task) (room : ℕ) (s t : Tree) (xs : List Label) (reads : Reads q s t xs) where
+module _ (q : Task) (room : ℕ) (s t : Tree) (xs : List Token) (reads : Reads q s t xs) where
   -- 6 or 7, then 8, then the set: whatever meets the paper's sentences on two trees and a list decides
-  pub outcome-promise : (A : Answer) → Outcome s t xs A → solve q room ≡ solutionOf s xs room A
+  pub outcome-promise : (A : Answer) → Outcome (decoded s) (decoded t) (map spelling xs) A → solve q room ≡ solutionOf s xs room A
   outcome-promise = outcome-decides q room s t xs reads
 
   -- 8 exactly if three required labels clash
-  pub eight-promise : Common s t (setOf xs)
-      → ((a : Label) × (b : Label) × (c : Label) × Clash s t xs a b c)
+  pub eight-promise : Common (decoded s) (decoded t) (setOf (map spelling xs))
+      → ((a : Label) × (b : Label) × (c : Label) × Clash (decoded s) (decoded t) (map spelling xs) a b c)
       ↔ ((a : Label) × (b : Label) × (c : Label) × (solve q room ≡ clashed xs a b c))
   eight-promise = eight-exactly q room s t xs reads
 
@@ -85,7 +88,8 @@ module _ (q : Task) (room : ℕ) (s t : Tree) (xs : List Label) (reads : Reads q
 
   -- 9 last, and "only for a real lack"
   pub nine-promise : (solve q room ≡ turned tooShort)
-      ↔ ((X : List Label) × IsAnswer s t xs X × (room < length (keptText (restrict (setOf X) s))))
+      ↔ ((X : List Label) × IsAnswer (decoded s) (decoded t) (map spelling xs) X
+      × (room < length (keptText (restrict (setOf X) (decoded s)))))
   nine-promise = nine-exactly q room s t xs reads
 
 -- "an output keeps every byte"; "On success the output holds the normal text and its further bytes are unchanged"
@@ -93,7 +97,7 @@ pub kept-on-refusal : (q : Refusal) (out : List ℕ) → outputOf (turned q) out
 unfolding outputOf
 kept-on-refusal q out = refl
 
-pub kept-on-eight : (xs : List Label) (a b c : Label) (out : List ℕ) → outputOf (clashed xs a b c) out ≡ out
+pub kept-on-eight : (xs : List Token) (a b c : Label) (out : List ℕ) → outputOf (clashed xs a b c) out ≡ out
 unfolding outputOf
 kept-on-eight xs a b c out = refl
 
@@ -111,12 +115,15 @@ size-promise s X text = (refl, refl)
 pub rows-promise : (x : Solution) → saidOfLargest (largestOf x .answer) ≡ saidOfSolution x
 rows-promise = said-exactly
 
--- the places in the set name its labels in the first tree's text, those of number 8 its labels in the list, and so do those of 6 and 7
-pub set-places-promise : (t : Tree) (x : Label) → holds t x ≡ true → Within (textOf t) (placeIn t 0 x) x
-set-places-promise = tree-shown
+-- "the part of the text shown for it has both quotes": at the place in the set stands in the first tree's text, as a whole, a token
+-- that stands for the label; so it is with the places of number 8 in the list, and with those of 6 and 7
+pub set-places-promise : (t : Tree) (x : Label) → holds (decoded t) x ≡ true
+    → LeafShown (textOf t) (placeIn t 0 x) (tokenIn t x) × (spelling (tokenIn t x) ≡ x)
+set-places-promise t x h = (leaf-shown t x h, token-spelled t x h)
 
-pub eight-places-promise : (xs : List Label) (x : Label) → isIn x xs ≡ true → Within (joined xs) (placeOfLabel xs 0 x) x
-eight-places-promise = list-shown
+pub eight-places-promise : (xs : List Token) (x : Label) → isIn x (map spelling xs) ≡ true
+    → Listed (joined xs) (placeOfLabel xs 0 x) (tokenOfLabel xs x) × (spelling (tokenOfLabel xs x) ≡ x)
+eight-places-promise xs x h = (list-listed xs x h, listed-spelled xs x h)
 
-pub lacking-places-promise : (xs : List Label) (n : ℕ) → n < length xs → Within (joined xs) (placeOfNumber xs n) (getD xs n [])
-lacking-places-promise = number-shown
+pub lacking-places-promise : (xs : List Token) (n : ℕ) → n < length xs → Listed (joined xs) (placeOfNumber xs n) (getD xs n [])
+lacking-places-promise = number-listed

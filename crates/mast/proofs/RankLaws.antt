@@ -1,4 +1,5 @@
--- Common leaves in label order, one leaf put in at a time, and their ranks. Assumes nothing.
+-- What a tree's arrays tell of its leaves and the labels that they stand for; common leaves in label order, one leaf put in at a time,
+-- and their ranks. Assumes nothing.
 use Prim.Native.Nat.{ℕ, zero, suc, _+_, _-_, _<_, _≤_}
 use mathlib.Core.Path.{_≡_, refl, sym, _∙_, ap, subst}
 use mathlib.Core.Bool.{Bool, true, false, cond}
@@ -11,24 +12,27 @@ use lib.Dec.{eqb}
 use lib.ListN.{length, getD, set, drop, replicate, length-set, length-replicate, getD-replicate, drop-of-length-le}
 use lib.Seq.{drop-cons, getD-set-same, getD-set-other}
 use borrow.Author.Tests.{eq-eqb, ne-eqb, eqb-true, eqb-false}
-use Rattle.trees.specs.Label.{Label, labelLess, isIn, distinct, goodLabel, goodLabels}
-use Rattle.trees.specs.Tree.{Tree, leaf, node, leaves, Valid}
-use Rattle.trees.specs.Arrays.{nodesOf}
+use Rattle.trees.specs.Label.{Label, labelLimit, labelLess, isIn, distinct}
+use Rattle.trees.specs.Token.{spelling, goodLabel, goodLabels}
+use Rattle.trees.specs.Tree.{Tree, leaf, node, leaves, decoded, Valid, Proper}
+use Rattle.trees.specs.Arrays.{nodesOf, nodeLimit, arraysOf}
 use Rattle.trees.specs.Stored.{partOf, storedBytes, storedOf}
 use Rattle.trees.specs.Postorder.{postorder, subtree, leafLabels}
 use Rattle.trees.proofs.EntryLaws.{below-next, store-next}
 use Rattle.trees.proofs.Bools.{bool-cases, clash, refute}
-use Rattle.trees.proofs.ArrayLaws.{few-nodes}
+use Rattle.trees.proofs.ArrayLaws.{nodes-leaves}
+use Rattle.trees.proofs.DecodedLaws.{decoded-nodes, decoded-left, token-of-leaf}
+use Rattle.trees.proofs.TokenLaws.{valid-decoded, good-spelling}
 use Rattle.trees.proofs.LabelLaws.{less-ne, less-trans}
-use Rattle.trees.proofs.ListLaws.{at-in, good-head, good-parts, distinct-tail}
+use Rattle.trees.proofs.ListLaws.{at-in, good-head, distinct-tail}
 use Rattle.trees.proofs.StoredLaws.{stored-back}
-use Rattle.trees.proofs.PostorderLaws.{length-postorder, leaf-labels, leaf-once, leaf-label, subtree-in, holds-leaf}
+use Rattle.trees.proofs.PostorderLaws.{length-postorder, leaf-labels, leaf-at, leaf-once, leaf-label, subtree-in, holds-leaf}
 use Rattle.agreement.specs.Closer.{holds}
 use Rattle.agreement.specs.Sets.{increasing, insert, sorted, keep, common}
 use Rattle.agreement.proofs.SetLaws.{in-nil, in-cases, inc-head, inc-tail, length-sorted, length-insert, sorted-inc, common-inc, in-common, within-few, common-short}
 use Rattle.agreement.proofs.KeepLaws.{distinct-keep}
 use Rattle.leaves.specs.Find.{foundLeaf}
-use Rattle.leaves.proofs.OwnLaws.{own-leaf, own-inner, own-label, ownFound, found, missing}
+use Rattle.leaves.proofs.OwnLaws.{own-leaf, own-inner, own-spelling, ownFound, found, missing}
 use Rattle.leaves.specs.Numbered.{LeafIs, Numbered}
 use Rattle.mast.specs.Engine.{OwnLeaves, Ordered}
 use Rattle.table.specs.Choice.{Ranked}
@@ -36,27 +40,39 @@ use Rattle.mast.specs.Ranks.{PartnerIs, Partners, NodePartner, storedLab
 
 -- what the arrays of a tree tell of a leaf
 
-module _ {t : Tree} {text left start size : List ℕ} {nodes : ℕ} (o : OwnLeaves t text left start size nodes) where
-  pub own-part : (u : ℕ) (x : Label) → LeafIs t u x → partOf (getD start u 0) (getD size u 0) text ≡ x
-  own-part u x l = rw (o .text-is, o .start-is, o .size-is) (own-label t (o .valid) u x (l .below) (l .is))
+pub proper-nodes : (t : Tree) → Proper t → nodesOf t ≤ nodeLimit
+proper-nodes t p = omega (arith, nodes-leaves t, p .few)
 
-  pub own-leaf-at : (u : ℕ) (x : Label) → u < nodes → subtree (postorder t) u ≡ leaf x → LeafIs t u x
-  own-leaf-at u x h e = record { below = rw (← o .nodes-is) h; is = e }
+module _ {t : Tree} {text left start size : List ℕ} {nodes : ℕ} (o : OwnLeaves t text left start size nodes) where
+  pub own-proper : Proper (decoded t)
+  own-proper = valid-decoded t (o .valid)
+
+  pub own-nodes : nodes ≡ nodesOf (decoded t)
+  own-nodes = o .nodes-is ∙ sym (decoded-nodes t)
+
+  pub own-left : left ≡ arraysOf (decoded t) .left
+  own-left = o .left-is ∙ sym (decoded-left t)
+
+  -- the part of the text that shows a leaf stands for its label
+  pub own-part : (u : ℕ) (x : Label) → LeafIs (decoded t) u x → spelling (partOf (getD start u 0) (getD size u 0) text) ≡ x
+  own-part u x l =
+      rw (o .text-is, o .start-is, o .size-is) (own-spelling t (o .valid) u x (omega (arith, l .below, decoded-nodes t)) (l .is))
+
+  pub own-leaf-at : (u : ℕ) (x : Label) → u < nodes → subtree (postorder (decoded t)) u ≡ leaf x → LeafIs (decoded t) u x
+  own-leaf-at u x h e = record { below = rw (← own-nodes) h; is = e }
 
   pub own-found : (x : Label) → foundLeaf text left start size x nodes ≡ ownFound t x
   own-found x = rw (o .text-is, o .left-is, o .start-is, o .size-is, o .nodes-is) refl
 
   -- the search finds a label's leaf exactly if the tree holds it
-  pub search-found : (x : Label) → holds t x ≡ true → LeafIs t (foundLeaf text left start size x nodes) x
+  pub search-found : (x : Label) → holds (decoded t) x ≡ true → LeafIs (decoded t) (foundLeaf text left start size x nodes) x
   unfolding holds
   search-found x h =
       rw (own-found x) (let f = found t x (o .valid) h in record { below = f .below; is = f .is })
 
-  pub search-missing : (x : Label) → holds t x ≡ false → foundLeaf text left start size x nodes ≡ nodes
+  pub search-missing : (x : Label) → holds (decoded t) x ≡ false → foundLeaf text left start size x nodes ≡ nodes
   unfolding holds
   search-missing x h = own-found x ∙ missing t x (o .valid) h ∙ sym (o .nodes-is)
-
--- an order that is not `Less`
 
 -- a label put in before the first that is greater
 
@@ -148,29 +164,39 @@ good-in x (y ∷ ys) m g = go (in-cases x y ys m) (good-head y ys g) (λ k. good
     go (inl e) h ih = rw e (h .0)
     go (inr k) h ih = ih k (h .1)
 
+-- a decoded label has 1 to 16 bytes
+leaf-short : (t : Tree) → Valid t → (u : ℕ) (x : Label) → LeafIs (decoded t) u x → (1 ≤ length x) × (length x ≤ labelLimit)
+leaf-short t v u x l =
+    let below : u < nodesOf t = omega (arith, l .below, decoded-nodes t) in
+    let f = token-of-leaf t u x below (l .is) in
+    let held = subtree-in t u below (f .token) (holds-leaf (subtree (postorder t) u) (f .token) (f .is)) in
+    subst (λ (y : Label). (1 ≤ length y) × (length y ≤ labelLimit)) (f .label)
+    (good-spelling (f .token) (good-in (f .token) (leaves t) held (v .labels)))
+
 -- the label that is compared with
-pub stored-at : {t : Tree} {text left start size : List ℕ} {nodes : ℕ} → OwnLeaves t text left start size nodes → (u : ℕ) (x : Label) → LeafIs t u x
-    → storedLabel text start size u ≡ x
-stored-at {t} {text} {left} {start} {size} o u x l =
-    ap (λ (y : Label). storedBytes (storedOf y)) (own-part o u x l) ∙ stored-back x (good-parts x (good-in x (leaves t) held (o .valid .labels)) .1)
-  where
-    held : isIn x (leaves t) ≡ true
-    held = subtree-in t u (l .below) x (holds-leaf (subtree (postorder t) u) x (l .is))
+pub stored-at : {t : Tree} {text left start size : List ℕ} {nodes : ℕ} → OwnLeaves t text left start size nodes → (u : ℕ) (x : Label)
+    → LeafIs (decoded t) u x → storedLabel text start size u ≡ x
+stored-at {t} o u x l =
+    ap (λ (y : Label). storedBytes (storedOf y)) (own-part o u x l) ∙ stored-back x (leaf-short t (o .valid) u x l .1)
 
 -- the leaf of the other tree
 
-no-empty : (t : Tree) → Valid t → holds t [] ≡ false
+no-empty : (t : Tree) → Valid t → holds (decoded t) [] ≡ false
 unfolding holds
-no-empty t v = refute (isIn [] (leaves t)) (λ m. omega (arith, good-parts [] (good-in [] (leaves t) m (v .labels)) .0))
+no-empty t v =
+    refute (isIn [] (leaves (decoded t)))
+    (λ m.
+    let a = leaf-at (decoded t) [] m in
+    omega (arith, leaf-short t v (a .at) [] (record { below = a .below; is = a .is }) .0))
 
 module _ {t : Tree} {text left start size : List ℕ} {nodes : ℕ} (o : OwnLeaves t text left start size nodes) (x : Label) (v : ℕ) where
-  pub partner-empty : x ≡ [] → PartnerIs t x 159
+  pub partner-empty : x ≡ [] → PartnerIs (decoded t) x 159
   partner-empty e = record { held = λ h. clash (rw e at h) (no-empty t (o .valid)); lacked = λ h. refl }
 
-  pub partner-missing : v ≡ foundLeaf text left start size x nodes → v ≡ nodes → PartnerIs t x 159
-  partner-missing e n = record { held = λ h. absurd (omega (arith, search-found o x h .below, o .nodes-is)); lacked = λ h. refl }
+  pub partner-missing : v ≡ foundLeaf text left start size x nodes → v ≡ nodes → PartnerIs (decoded t) x 159
+  partner-missing e n = record { held = λ h. absurd (omega (arith, search-found o x h .below, own-nodes o)); lacked = λ h. refl }
 
-  pub partner-found : v ≡ foundLeaf text left start size x nodes → (v ≡ nodes → ⊥) → PartnerIs t x v
+  pub partner-found : v ≡ foundLeaf text left start size x nodes → (v ≡ nodes → ⊥) → PartnerIs (decoded t) x v
   partner-found e n = record { held = λ h. rw e (search-found o x h); lacked = λ h. absurd (n (e ∙ search-missing o x h)) }
 
 pub partners-none : (s t : Tree) (partner : List ℕ) → Partners 0 s t partner
@@ -183,21 +209,21 @@ partners-next n s t partner v small size here p = record {
       store-next (λ u y. (x : Label) → subtree (postorder s) u ≡ leaf x → PartnerIs t x y) partner n v (omega arith) (p .each) here;
 }
 
-pub node-partner : {s : Tree} {text left start size : List ℕ} {nodes : ℕ} → OwnLeaves s text left start size nodes → (t : Tree) (partner : List ℕ)
+pub node-partner : {s : Tree} {left : List ℕ} {nodes : ℕ} → left ≡ arraysOf s .left → nodes ≡ nodesOf s → (t : Tree) (partner : List ℕ)
     → Partners nodes s t partner → (u v : ℕ) → u < nodes → v ≡ cond (eqb (getD left u 0) u) (getD partner u 0) 159 → NodePartner s t u v
-node-partner {s} {text} {left} {start} {size} {nodes} o t partner p u v h e = record { at-leaf = at-leaf′; at-node = at-node′ }
+node-partner {s} {left} {nodes} left-is nodes-is t partner p u v h e = record { at-leaf = at-leaf′; at-node = at-node′ }
   where
     below : u < nodesOf s
-    below = rw (← o .nodes-is) h
+    below = rw (← nodes-is) h
 
     at-leaf′ : (x : Label) → subtree (postorder s) u ≡ leaf x → PartnerIs t x v
     at-leaf′ x k =
-        let l : getD left u 0 ≡ u = rw (o .left-is) (own-leaf s u x below k) in
+        let l : getD left u 0 ≡ u = rw (left-is) (own-leaf s u x below k) in
         rw (e, eq-eqb (getD left u 0) u l) (p .each u h x k)
 
     at-node′ : (a b : Tree) → subtree (postorder s) u ≡ node a b → v ≡ 159
     at-node′ a b k =
-        let l : getD left u 0 < u = rw (o .left-is) (own-inner s u a b below k) in
+        let l : getD left u 0 < u = rw (left-is) (own-inner s u a b below k) in
         e ∙ (rw (ne-eqb (getD left u 0) u (omega arith)) refl)
 
 -- the leaf put in at the same place
@@ -302,7 +328,7 @@ keep-drop X (leaf x ∷ ts) (suc u) = go (X x) (keep-drop X ts u)
     go false h = h
 keep-drop X (node a b ∷ ts) (suc u) = keep-drop X ts u
 
-from-few : (s t : Tree) (u : ℕ) → Valid s → Valid t → length (commonFrom s t u) ≤ mostCommon s t
+from-few : (s t : Tree) (u : ℕ) → Proper s → Proper t → length (commonFrom s t u) ≤ mostCommon s t
 unfolding commonFrom holds
 from-few s t u v w =
     let xs = leafLabels (drop u (postorder s)) in
@@ -321,11 +347,8 @@ from-few s t u v w =
 
 -- the next node of the first tree, from the last
 
-module _ {s t : Tree} {text1 left1 start1 size1 : List ℕ} {nodes1 : ℕ} (o1 : OwnLeaves s text1 left1 start1 size1 nodes1) (vt : Valid t)
-    {order1 : List ℕ} {m u v : ℕ} (h : u < nodes1) (p : NodePartner s t u v) (c : Collected s t (u + 1) order1 m) where
-  below : u < nodesOf s
-  below = rw (← o1 .nodes-is) h
-
+module _ {s t : Tree} (ps : Proper s) (pt : Proper t) {order1 : List ℕ} {m u v : ℕ} (below : u < nodesOf s) (p : NodePartner s t u v)
+    (c : Collected s t (u + 1) order1 m) where
   same : commonFrom s t u ≡ commonFrom s t (u + 1) → Collected s t u order1 m
   same e = record {
     size1 = c .size1;
@@ -342,7 +365,7 @@ module _ {s t : Tree} {text1 left1 start1 size1 : List ℕ} {nodes1 : ℕ} (o1 :
           absurd (omega (
             arith,
             c .count,
-            from-few s t u (o1 .valid) vt,
+            from-few s t u ps pt,
             length-insert x (commonFrom s t (u + 1)),
             ap (length {A = Label}) (from-held s t u below x k held),
           ))
@@ -357,7 +380,7 @@ module _ {s t : Tree} {text1 left1 start1 size1 : List ℕ} {nodes1 : ℕ} (o1 :
   collected-none l = go (subtree (postorder s) u) refl
     where
       held-or : (x : Label) → subtree (postorder s) u ≡ leaf x → (holds t x ≡ true) ⊎ (holds t x ≡ false) → Collected s t u order1 m
-      held-or x k (inl q) = absurd (omega (arith, p .at-leaf x k .held q .below, few-nodes t vt))
+      held-or x k (inl q) = absurd (omega (arith, p .at-leaf x k .held q .below, proper-nodes t pt))
       held-or x k (inr q) = same (from-lacked s t u below x k q)
 
       go : (r : Tree) → subtree (postorder s) u ≡ r → Collected s t u order1 m
@@ -365,20 +388,17 @@ module _ {s t : Tree} {text1 left1 start1 size1 : List ℕ} {nodes1 : ℕ} (o1 :
       go (node a b) k = same (from-node s t u below a b k)
 
   -- one has
-  pub collected-add : (v < 159) → (new1 : List ℕ)
-      → Placed u m (commonFrom s t (u + 1)) (storedLabel text1 start1 size1 u) order1 new1 → Collected s t u new1 (m + 1)
-  collected-add l new1 a = go (subtree (postorder s) u) refl
+  pub collected-add : (v < 159) → (label : Label) → ((x : Label) → LeafIs s u x → label ≡ x) → (new1 : List ℕ)
+      → Placed u m (commonFrom s t (u + 1)) label order1 new1 → Collected s t u new1 (m + 1)
+  collected-add l label is new1 a = go (subtree (postorder s) u) refl
     where
-      C : List Label
-      C = commonFrom s t (u + 1)
-
       held-or : (x : Label) → subtree (postorder s) u ≡ leaf x → (holds t x ≡ true) ⊎ (holds t x ≡ false) → Collected s t u new1 (m + 1)
       held-or x k (inr q) = absurd (omega (arith, p .at-leaf x k .lacked q))
       held-or x k (inl q) =
           let e = from-held s t u below x k q in
           let leaf-is : LeafIs s u x = record { below = below; is = k } in
           let place : Place x (commonFrom s t (u + 1)) (a .place) =
-          subst (λ (y : Label). Place y (commonFrom s t (u + 1)) (a .place)) (stored-at o1 u x leaf-is) (a .is) in
+          subst (λ (y : Label). Place y (commonFrom s t (u + 1)) (a .place)) (is x leaf-is) (a .is) in
           record {
             size1 = a .opened .size ∙ c .size1;
             count = rw e (omega (arith, c .count, length-insert x (commonFrom s t (u + 1))));
@@ -480,7 +500,7 @@ module _ (order : List ℕ) where
       go (inr e) ih =
           ranks-other order r (getD order j 0) (f r (omega arith) (eqb-false j r e)) ∙ ih (omega (arith, eqb-false j r e))
 
-pub ranked : (t : Tree) (C : List Label) (order : List ℕ) (m : ℕ) → Valid t → increasing C ≡ true → m ≡ length C → Numbered t C order
+pub ranked : (t : Tree) (C : List Label) (order : List ℕ) (m : ℕ) → Proper t → increasing C ≡ true → m ≡ length C → Numbered t C order
     → Ranked t C (ranksOf order m)
 ranked t C order m v inc e n = record {
   held = λ u r l is. held u r (is .below) l (is .is);
@@ -488,7 +508,7 @@ ranked t C order m v inc e n = record {
 }
   where
     low : (u : ℕ) → u < nodesOf t → u < 159
-    low u h = omega (arith, few-nodes t v)
+    low u h = omega (arith, proper-nodes t v)
 
     held : (u r : ℕ) → u < nodesOf t → r < length C → subtree (postorder t) u ≡ leaf (getD C r [])
         → getD (ranksOf order m) u 0 ≡ r

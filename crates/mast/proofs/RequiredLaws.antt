@@ -1,6 +1,6 @@
 -- The required list by rank: the search for a label's rank, labels marked one after the other, and the ranks that are marked are
 -- those of the required labels in label order. Assumes nothing.
-use Prim.Native.Nat.{ℕ, zero, suc, _+_, _-_, _%_, _<_, _≤_}
+use Prim.Native.Nat.{ℕ, zero, suc, _+_, _%_, _<_, _≤_}
 use mathlib.Core.Path.{_≡_, refl, sym, _∙_, ap}
 use mathlib.Core.Bool.{Bool, true, false, cond, not}
 use mathlib.Core.Logic.{_⊎_, inl, inr}
@@ -12,7 +12,8 @@ use lib.ListN.{length, getD, set, replicate, length-append, length-set, length-r
 use lib.Seq.{getD-set-same, getD-set-other, getD-at}
 use borrow.Author.Tests.{ne-eqb, eqb-true, eqb-false, lt-ltb, le-ltb}
 use Rattle.trees.specs.Label.{Label, sameLabel, isIn, distinct}
-use Rattle.trees.specs.Tree.{Tree, leaves}
+use Rattle.trees.specs.Token.{Token, spelling}
+use Rattle.trees.specs.Tree.{Tree, leaves, decoded}
 use Rattle.trees.specs.Stored.{partOf, leafLabel}
 use Rattle.trees.proofs.EntryLaws.{below-next, store-next, filled-at}
 use Rattle.trees.proofs.Bools.{bool-cases, clash, refute}
@@ -31,39 +32,40 @@ use Rattle.leaves.specs.Numbered.{Numbered}
 use Rattle.mast.specs.Engine.{OwnLeaves, OwnList}
 use Rattle.mast.specs.Required.{FoundRank, Marks, ranksFrom, Entries, Added}
 use Rattle.table.specs.Choice.{Marked}
-use Rattle.mast.proofs.RankLaws.{own-part, search-found, search-missing, inc-differ}
+use Rattle.mast.proofs.RankLaws.{own-nodes, own-part, search-found, search-missing, inc-differ}
 
 -- the search tells whether the tree holds a label
 pub search-holds : {t : Tree} {text left start size : List ℕ} {nodes : ℕ} → OwnLeaves t text left start size nodes → (x : Label)
-    → ltb (foundLeaf text left start size x nodes) nodes ≡ holds t x
-search-holds {t} {text} {left} {start} {size} {nodes} o x = go (bool-cases (holds t x))
+    → ltb (foundLeaf text left start size x nodes) nodes ≡ holds (decoded t) x
+search-holds {t} {text} {left} {start} {size} {nodes} o x = go (bool-cases (holds (decoded t) x))
   where
-    go : (holds t x ≡ true) ⊎ (holds t x ≡ false) → ltb (foundLeaf text left start size x nodes) nodes ≡ holds t x
-    go (inl k) = lt-ltb (foundLeaf text left start size x nodes) nodes (omega (arith, search-found o x k .below, o .nodes-is)) ∙ sym k
+    go : (holds (decoded t) x ≡ true) ⊎ (holds (decoded t) x ≡ false)
+        → ltb (foundLeaf text left start size x nodes) nodes ≡ holds (decoded t) x
+    go (inl k) = lt-ltb (foundLeaf text left start size x nodes) nodes (omega (arith, search-found o x k .below, own-nodes o)) ∙ sym k
     go (inr k) = le-ltb (foundLeaf text left start size x nodes) nodes (omega (arith, search-missing o x k)) ∙ sym k
 
--- label k of the list
-pub list-part : {K : List Label} {text start size : List ℕ} {count : ℕ} → OwnList K text start size count → (k : ℕ) → k < count
-    → partOf (getD start k 0) (getD size k 0) text ≡ getD K k []
+-- token k of the list stands for its label k
+pub list-part : {K : List Token} {text start size : List ℕ} {count : ℕ} → OwnList K text start size count → (k : ℕ) → k < count
+    → spelling (partOf (getD start k 0) (getD size k 0) text) ≡ getD (map spelling K) k []
 unfolding labelIn
 list-part {K} o k h = rw (o .text-is, o .start-is, o .size-is) (label-at K k (omega (arith, o .count-is)))
 
 -- the search for a rank
 
 module _ {s : Tree} {text left start size : List ℕ} {nodes : ℕ} (o : OwnLeaves s text left start size nodes) (C : List Label) (order : List ℕ)
-    (numbered : Numbered s C order) (x : Label) (r : ℕ) (h : r < length C) where
-  label-is : leafLabel text start size (getD order r 0) ≡ getD C r []
+    (numbered : Numbered (decoded s) C order) (x : Label) (r : ℕ) (h : r < length C) where
+  label-is : spelling (leafLabel text start size (getD order r 0)) ≡ getD C r []
   label-is = own-part o (getD order r 0) (getD C r []) (numbered r h)
 
-  pub rank-here : sameLabel (leafLabel text start size (getD order r 0)) x ≡ true → FoundRank C x r
+  pub rank-here : sameLabel (spelling (leafLabel text start size (getD order r 0))) x ≡ true → FoundRank C x r
   rank-here e = record {
-    at = λ l. sym label-is ∙ same-eq (leafLabel text start size (getD order r 0)) x e;
+    at = λ l. sym label-is ∙ same-eq (spelling (leafLabel text start size (getD order r 0))) x e;
     missing = λ l. absurd (omega arith);
   }
 
-  pub not-here : sameLabel (leafLabel text start size (getD order r 0)) x ≡ false → getD C r [] ≡ x → ⊥
-  not-here e d = clash {b = sameLabel (leafLabel text start size (getD order r 0)) x}
-      (eq-same (leafLabel text start size (getD order r 0)) x (label-is ∙ d)) e
+  pub not-here : sameLabel (spelling (leafLabel text start size (getD order r 0))) x ≡ false → getD C r [] ≡ x → ⊥
+  not-here e d = clash {b = sameLabel (spelling (leafLabel text start size (getD order r 0))) x}
+      (eq-same (spelling (leafLabel text start size (getD order r 0))) x (label-is ∙ d)) e
 
 pub rank-missing : (C : List Label) (x : Label) (r : ℕ) → length C ≤ r → ((q : ℕ) → q < length C → getD C q [] ≡ x → ⊥) → FoundRank C x r
 rank-missing C x r l none = record {

@@ -14,7 +14,7 @@ use Rattle.trees.specs.declared.TreeArrays.{TreeArrays}
 use Rattle.trees.specs.declared.Reason.the-variants.{TooShort}
 use Rattle.trees.specs.declared.Body.the-variants.{O}
 use Rattle.trees.specs.Label.{Label}
-use Rattle.trees.specs.Tree.{Tree}
+use Rattle.trees.specs.Tree.{Tree, decoded}
 use Rattle.trees.specs.Arrays.{treeOf, Standing, oneTree}
 use Rattle.trees.proofs.Bools.{bool-cases}
 use Rattle.trees.proofs.ArrayLaws.{stands}
@@ -28,27 +28,30 @@ use Rattle.writer.specs.Write.{standingText, outputTooShort, textAnswer, textOu
 use Rattle.agreement.specs.Sets.{setOf}
 use Rattle.agreement.specs.Restrict.{restrict}
 use Rattle.agreement.specs.Places.{keptText}
-use Rattle.restriction.specs.Kept.{standingOf, keptStanding}
+use Rattle.restriction.specs.Kept.{standingOf, keptStanding, decodedKept, StandsFor}
 use Rattle.restriction.proofs.RestrictionLaws.{own-kept}
 use Rattle.mast.specs.declared.LargestAnswer.the-variants.{Found, Refused as NotFound}
 use Rattle.mast.specs.Largest.{fitted, setPlaces, largestOf, outputOf}
 use Rattle.mast.specs.Finish.{Flagged, ByRank, fittedSet, resultFrom}
 
-kept-standing-text : (o : Option Tree) → standingText (standingOf o) ≡ some (keptText o)
-unfolding standingText standingOf keptText
+kept-standing-text : (o : Option Tree) → standingText (standingOf o) ≡ some (keptText (decodedKept o))
+unfolding standingText standingOf keptText decodedKept
 kept-standing-text none = refl
 kept-standing-text (some t) = refl
 
+-- arrays have the text of what they stand for
+stands-for-text : {a : Standing} {o : Option Tree} → StandsFor a o → standingText a ≡ some (keptText o)
+stands-for-text k =
+    ap standingText (k .stands) ∙ kept-standing-text (k .tokens) ∙ ap (λ (o : Option Tree). some (keptText o)) (k .decodes)
+
 -- the restricted arrays over the first tree's text have the text of the restriction
 pub restricted-text : (s : Tree) (C : List Label) (tree : TreeArrays) (text order : List ℕ) (m : ℕ) → ByRank s C tree text order m
-    → (X : List Label) (kept : List Bool) → Flagged s X kept → (r : TreeArrays)
+    → (X : List Label) (kept : List Bool) → Flagged (decoded s) X kept → (r : TreeArrays)
     → ((text : List ℕ) (t : Tree) → treeOf tree text ≡ oneTree t → treeOf r text ≡ keptStanding tree text kept)
-    → standingText (treeOf r text) ≡ some (keptText (restrict (setOf X) s))
+    → standingText (treeOf r text) ≡ some (keptText (restrict (setOf X) (decoded s)))
 restricted-text s C tree text order m k X kept f r cut =
-    ap standingText
-    (cut text s (rw (k .arrays-is, k .text-is) (stands s (k .valid)))
-    ∙ (rw (k .arrays-is, k .text-is) (own-kept s (k .valid) kept (setOf X) f)))
-    ∙ kept-standing-text (restrict (setOf X) s)
+    ap standingText (cut text s (rw (k .arrays-is, k .text-is) (stands s (k .valid))))
+    ∙ stands-for-text (rw (k .arrays-is, k .text-is) (own-kept s (k .valid) kept (setOf X) f))
 
 pub not-written : (w : WriteAnswer) → OneOf (1 ∷ 2 ∷ []) (tagOf the-type w) → (n : ℕ) → w ≡ Written n → ⊥
 not-written (Written m) h n e = left-over (1 ∷ 2 ∷ []) 0 refl h
@@ -91,22 +94,23 @@ fitted-output s X text out = go (bool-cases (leb (length text) (length out)))
     go (inl h) = rw h refl
     go (inr h) = rw h refl
 
-module _ (s : Tree) (X : List Label) (a : Standing) (out : List ℕ) (e : standingText a ≡ some (keptText (restrict (setOf X) s))) where
+module _ (s : Tree) (X : List Label) (a : Standing) (out : List ℕ)
+    (e : standingText a ≡ some (keptText (restrict (setOf X) (decoded s)))) where
   pub set-written : (n : ℕ) → writeAnswer a (length out) ≡ Written n
       → resultFrom (Found (length X) n) (setPlaces s X) ≡ largestOf (fittedSet s X (length out))
   unfolding writeAnswer
-  set-written n h = written-solved s X (keptText (restrict (setOf X) s)) (length out) n (rw e at h)
+  set-written n h = written-solved s X (keptText (restrict (setOf X) (decoded s))) (length out) n (rw e at h)
 
   pub set-refused : ((n : ℕ) → writeAnswer a (length out) ≡ Written n → ⊥)
       → resultFrom (NotFound (record { reason = TooShort; body = O; place = 0 })) (placesOf []) ≡ largestOf (fittedSet s X (length out))
   unfolding writeAnswer
   set-refused h =
-      other-short s X (keptText (restrict (setOf X) s)) (length out)
+      other-short s X (keptText (restrict (setOf X) (decoded s))) (length out)
       (λ n k. h n (rw e k))
 
   pub set-output : outputAfter a out ≡ outputOf (fittedSet s X (length out)) out
   unfolding outputAfter
-  set-output = ap (λ o. textOutput o out) e ∙ fitted-output s X (keptText (restrict (setOf X) s)) out
+  set-output = ap (λ o. textOutput o out) e ∙ fitted-output s X (keptText (restrict (setOf X) (decoded s))) out
 
 pub placed-result : (p : LabelPlaces) (s : Tree) (X : List Label) (n : ℕ) → p ≡ setPlaces s X
     → resultFrom (Found (p .count) n) p ≡ resultFrom (Found (length X) n) (setPlaces s X)

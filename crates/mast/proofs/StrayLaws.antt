@@ -13,16 +13,14 @@ use lib.Seq.{drop-cons, getD-set-same, getD-set-other}
 use borrow.Author.Tests.{eqb-true, eqb-false, eq-eqb, leb-true, leb-false}
 use Rattle.trees.specs.declared.Body.the-variants.{S, T}
 use Rattle.trees.specs.Label.{Label}
-use Rattle.trees.specs.Tree.{Tree, leaf, node, leaves, Valid}
-use Rattle.trees.specs.Arrays.{nodesOf}
+use Rattle.trees.specs.Tree.{Tree, leaf, node, leaves, decoded, Proper}
+use Rattle.trees.specs.Arrays.{nodesOf, arraysOf}
 use Rattle.trees.specs.Postorder.{postorder, subtree, leafLabels}
 use Rattle.trees.proofs.Bools.{bool-cases, clash, and-left, and-right}
-use Rattle.trees.proofs.ArrayLaws.{few-nodes}
-use Rattle.trees.proofs.PostorderLaws.{length-postorder, leaf-labels, subtree-in, holds-leaf, leaf-at, leaf-once, leaf-label}
+use Rattle.trees.proofs.PostorderLaws.{length-postorder, leaf-labels, leaf-at, leaf-once, leaf-label}
 use Rattle.leaves.specs.Numbered.{LeafIs}
 use Rattle.leaves.proofs.OwnLaws.{own-leaf, own-inner}
 use Rattle.agreement.specs.Closer.{holds}
-use Rattle.agreement.specs.Places.{placeIn}
 use Rattle.agreement.specs.Strict.{SameLeaves, Told, Stray, nowhere, firstOutside, inEither, strayOf}
 use Rattle.agreement.proofs.StrictLaws.{stray-exactly}
 use Rattle.mast.specs.declared.Options.{Options}
@@ -31,20 +29,18 @@ use Rattle.mast.specs.Engine.{OwnLeaves}
 use Rattle.mast.specs.Ranks.{Partners, PartnerIs, NodePartner}
 use Rattle.mast.specs.Largest.{strayFor}
 use Rattle.mast.specs.Strays.{Lone, strayAt, sharedOf}
-use Rattle.mast.proofs.FinishLaws.{own-start}
+use Rattle.mast.proofs.RankLaws.{proper-nodes, own-nodes}
+use Rattle.mast.proofs.FinishLaws.{own-start, leaf-held}
 
 -- a node that is its own left child is a leaf
-own-is-leaf : {t : Tree} {text left start size : List ℕ} {nodes : ℕ} → OwnLeaves t text left start size nodes → (u : ℕ) → u < nodes
-    → getD left u 0 ≡ u → ((x : Label) × LeafIs t u x)
-own-is-leaf {t} {text} {left} o u h e = go (subtree (postorder t) u) refl
+own-is-leaf : {t : Tree} {left : List ℕ} → left ≡ arraysOf t .left → (u : ℕ) → u < nodesOf t → getD left u 0 ≡ u
+    → ((x : Label) × LeafIs t u x)
+own-is-leaf {t} {left} left-is u below e = go (subtree (postorder t) u) refl
   where
-    below : u < nodesOf t
-    below = rw (← o .nodes-is) h
-
     go : (s : Tree) → subtree (postorder t) u ≡ s → ((x : Label) × LeafIs t u x)
     go (leaf x) k = (x, record { below = below; is = k })
     go (node a b) k =
-        let z : getD left u 0 < u = rw (o .left-is) (own-inner t u a b below k) in
+        let z : getD left u 0 < u = rw left-is (own-inner t u a b below k) in
         absurd (omega arith)
 
 -- the search from left to right: what is left to look through tells the same as all leaves
@@ -60,17 +56,17 @@ lone child u v = eqb child u && leb 159 v
 pub lone-start : (s t : Tree) → LoneFrom s t 0
 lone-start s t = ap (firstOutside (holds t)) (leaf-labels s)
 
-module _ {s t : Tree} {text left start size partner : List ℕ} {nodes : ℕ} (o : OwnLeaves s text left start size nodes) (v : Valid t)
+module _ {s t : Tree} {left partner : List ℕ} {nodes : ℕ} (left-is : left ≡ arraysOf s .left) (nodes-is : nodes ≡ nodesOf s) (v : Proper t)
     (p : Partners nodes s t partner) (u : ℕ) (from : LoneFrom s t u) where
   module _ (h : u < nodes) where
     below : u < nodesOf s
-    below = rw (← o .nodes-is) h
+    below = rw (← nodes-is) h
 
     here : drop u (postorder s) ≡ subtree (postorder s) u ∷ drop (suc u) (postorder s)
     here = drop-cons (postorder s) u (leaf []) (omega (arith, length-postorder s))
 
     lacked : (x : Label) → PartnerIs t x (getD partner u 0) → 159 ≤ getD partner u 0 → (holds t x ≡ true) ⊎ (holds t x ≡ false) → holds t x ≡ false
-    lacked x q n (inl e) = absurd (omega (arith, q .held e .below, few-nodes t v))
+    lacked x q n (inl e) = absurd (omega (arith, q .held e .below, proper-nodes t v))
     lacked x q n (inr e) = e
 
     pub lone-found : lone (getD left u 0) u (getD partner u 0) ≡ true → (x : Label) × LeafIs s u x × (firstOutside (holds t) (leaves s) ≡ some x)
@@ -78,7 +74,7 @@ module _ {s t : Tree} {text left start size partner : List ℕ} {nodes : ℕ} (o
     lone-found k =
         let child : eqb (getD left u 0) u ≡ true = and-left _ (leb 159 (getD partner u 0)) k in
         let alone : leb 159 (getD partner u 0) ≡ true = and-right (eqb (getD left u 0) u) _ k in
-        let l = own-is-leaf o u h (eqb-true (getD left u 0) u child) in
+        let l = own-is-leaf left-is u below (eqb-true (getD left u 0) u child) in
         let n = lacked (l .0) (p .each u h (l .0) (l .1 .is)) (leb-true 159 (getD partner u 0) alone) (bool-cases (holds t (l .0))) in
         (l .0, l .1, sym from ∙ (rw (here, l .1 .is, n) refl))
 
@@ -86,7 +82,7 @@ module _ {s t : Tree} {text left start size partner : List ℕ} {nodes : ℕ} (o
         → (holds t x ≡ true) ⊎ (holds t x ≡ false) → holds t x ≡ true
     held x e k (inl q) = q
     held x e k (inr q) =
-        let l : getD left u 0 ≡ u = rw (o .left-is) (own-leaf s u x below e) in
+        let l : getD left u 0 ≡ u = rw left-is (own-leaf s u x below e) in
         let f : leb 159 (getD partner u 0) ≡ false = rw (eq-eqb (getD left u 0) u l) at k in
         absurd (omega (arith, leb-false 159 (getD partner u 0) f, p .each u h x e .lacked q))
 
@@ -102,35 +98,37 @@ module _ {s t : Tree} {text left start size partner : List ℕ} {nodes : ℕ} (o
   pub lone-none : u ≡ nodes → firstOutside (holds t) (leaves s) ≡ none
   unfolding firstOutside leafLabels
   lone-none e =
-      let k : length (postorder s) ≤ u = omega (arith, length-postorder s, o .nodes-is) in
+      let k : length (postorder s) ≤ u = omega (arith, length-postorder s, nodes-is) in
       sym from ∙ (rw (drop-of-length-le (postorder s) k) refl)
 
 -- a strict job is not stopped exactly if both trees hold the same leaves, and any other never is
 
-pub shared-nowhere : (o : Options) (s t : Tree) → (o .strict ≡ true → SameLeaves s t) → strayFor o s t ≡ nowhere
+pub shared-nowhere : (o : Options) (s t : Tree) → (o .strict ≡ true → SameLeaves (decoded s) (decoded t)) → strayFor o s t ≡ nowhere
 unfolding strayFor
 shared-nowhere o s t h = go (o .strict) refl
   where
-    go : (b : Bool) → o .strict ≡ b → cond b (strayOf s t) nowhere ≡ nowhere
-    go true e = stray-exactly s t nowhere .1 (h e)
+    go : (b : Bool) → o .strict ≡ b → cond b (strayOf (decoded s) (decoded t)) nowhere ≡ nowhere
+    go true e = stray-exactly (decoded s) (decoded t) nowhere .1 (h e)
     go false e = refl
 
-pub nowhere-shared : (o : Options) (s t : Tree) → strayFor o s t ≡ nowhere → o .strict ≡ true → SameLeaves s t
+pub nowhere-shared : (o : Options) (s t : Tree) → strayFor o s t ≡ nowhere → o .strict ≡ true → SameLeaves (decoded s) (decoded t)
 unfolding strayFor
-nowhere-shared o s t e k = stray-exactly s t nowhere .0 (rw k at e)
+nowhere-shared o s t e k = stray-exactly (decoded s) (decoded t) nowhere .0 (rw k at e)
 
 -- what is told of a job that is stopped
-pub stray-strict : (o : Options) (s t : Tree) (r : Stray) → strayFor o s t ≡ r → (r ≡ nowhere → ⊥) → (o .strict ≡ true) × Told s t r
+pub stray-strict : (o : Options) (s t : Tree) (r : Stray) → strayFor o s t ≡ r → (r ≡ nowhere → ⊥)
+    → (o .strict ≡ true) × Told (decoded s) (decoded t) r
 unfolding strayFor
 stray-strict o s t r e n = go (o .strict) refl e
   where
-    go : (b : Bool) → o .strict ≡ b → cond b (strayOf s t) nowhere ≡ r → (o .strict ≡ true) × Told s t r
-    go true k h = (k, stray-exactly s t r .0 h)
+    go : (b : Bool) → o .strict ≡ b → cond b (strayOf (decoded s) (decoded t)) nowhere ≡ r
+        → (o .strict ≡ true) × Told (decoded s) (decoded t) r
+    go true k h = (k, stray-exactly (decoded s) (decoded t) r .0 h)
     go false k h = absurd (n (sym h))
 
-pub stray-told : (o : Options) (s t : Tree) → o .strict ≡ true → (r : Stray) → Told s t r → strayFor o s t ≡ r
+pub stray-told : (o : Options) (s t : Tree) → o .strict ≡ true → (r : Stray) → Told (decoded s) (decoded t) r → strayFor o s t ≡ r
 unfolding strayFor
-stray-told o s t e r h = rw e (stray-exactly s t r .1 h)
+stray-told o s t e r h = rw e (stray-exactly (decoded s) (decoded t) r .1 h)
 
 -- the partners turned round, after u nodes of the first tree: each leaf of the second has its leaf among them, if there is one
 abbrev Back : Tree → Tree → ℕ → List ℕ → ℕ → Label → Type 0
@@ -141,24 +139,20 @@ pub record Turned (s t : Tree) (u : ℕ) (back : List ℕ) : Type 0 where
   pub size : length back ≡ 159
   pub each : (v : ℕ) (x : Label) → LeafIs t v x → Back s t u back v x
 
-pub turned-start : (s t : Tree) → Valid t → Turned s t 0 (replicate 159 159)
+pub turned-start : (s t : Tree) → Proper t → Turned s t 0 (replicate 159 159)
 turned-start s t valid = record {
   size = length-replicate {A = ℕ} 159 159;
   each = λ v x l.
-      inr (λ k h. absurd (omega arith), getD-replicate 159 v 159 0 (omega (arith, l .below, few-nodes t valid)));
+      inr (λ k h. absurd (omega arith), getD-replicate 159 v 159 0 (omega (arith, l .below, proper-nodes t valid)));
 }
 
-leaf-held : (t : Tree) (v : ℕ) (x : Label) → LeafIs t v x → holds t x ≡ true
-unfolding holds
-leaf-held t v x l = subtree-in t v (l .below) x (holds-leaf (subtree (postorder t) v) x (l .is))
-
-module _ {s t : Tree} (valid : Valid t) {u w : ℕ} {back : List ℕ} (h : u < nodesOf s) (p : NodePartner s t u w) (old : Turned s t u back) where
+module _ {s t : Tree} (valid : Proper t) {u w : ℕ} {back : List ℕ} (h : u < nodesOf s) (p : NodePartner s t u w) (old : Turned s t u back) where
   -- the leaf that u is the partner of
   new-back : (x : Label) → LeafIs t w x → Back s t (u + 1) (set back w u) w x
   new-back x l = go (subtree (postorder s) u) refl
     where
       low : w < 159
-      low = omega (arith, l .below, few-nodes t valid)
+      low = omega (arith, l .below, proper-nodes t valid)
 
       partner : (y : Label) → subtree (postorder s) u ≡ leaf y → (holds t y ≡ true) ⊎ (holds t y ≡ false) → Back s t (u + 1) (set back w u) w x
       partner y e (inl k) =
@@ -205,40 +199,41 @@ turned-all {s} {t} {u} {back} n r = record { each = λ v h x e. go v x (r .each 
       lacked = λ _. k .1;
     }
 
-pub partners-of : {s t : Tree} {text left start size back : List ℕ} {nodes : ℕ} → OwnLeaves t text left start size nodes
-    → Partners (nodesOf t) t s back → Partners nodes t s back
-partners-of o p = rw (o .nodes-is) p
+pub partners-of : {s t : Tree} {back : List ℕ} {nodes : ℕ} → nodes ≡ nodesOf t → Partners (nodesOf t) t s back → Partners nodes t s back
+partners-of e p = rw e p
 
 -- number 12 or none, from the searches through both trees
 module _ {s t : Tree} {text1 left1 start1 size1 text2 left2 start2 size2 : List ℕ} {nodes1 nodes2 : ℕ}
-    (one : OwnLeaves s text1 left1 start1 size1 nodes1) (two : OwnLeaves t text2 left2 start2 size2 nodes2) {u : ℕ} (l : Lone s t u) where
-  pub shared-first : u < nodes1 → strayAt S (getD start1 u 0) ≡ sharedOf s t (strayOf s t)
+    (one : OwnLeaves s text1 left1 start1 size1 nodes1) (two : OwnLeaves t text2 left2 start2 size2 nodes2) {u : ℕ}
+    (l : Lone (decoded s) (decoded t) u) where
+  pub shared-first : u < nodes1 → strayAt S (getD start1 u 0) ≡ sharedOf s t (strayOf (decoded s) (decoded t))
   unfolding strayOf inEither sharedOf
   shared-first h =
-      let k = l .found (omega (arith, one .nodes-is)) in
-      let at : getD start1 u 0 ≡ placeIn s 0 (k .0) = rw (one .start-is) (own-start s (one .valid) u (k .0) (k .1)) in
+      let k = l .found (omega (arith, own-nodes one)) in
+      let at = ap (λ (l : List ℕ). getD l u 0) (one .start-is) ∙ own-start s (one .valid) u (k .0) (k .1) in
       ap (strayAt S) at ∙ (rw (k .2) refl)
 
   module _ (h : u ≡ nodes1) where
-    none1 : firstOutside (holds t) (leaves s) ≡ none
-    none1 = l .missing (omega (arith, one .nodes-is))
+    none1 : firstOutside (holds (decoded t)) (leaves (decoded s)) ≡ none
+    none1 = l .missing (omega (arith, own-nodes one))
 
-    module _ {v : ℕ} (m : Lone t s v) where
-      pub shared-second : v < nodes2 → strayAt T (getD start2 v 0) ≡ sharedOf s t (strayOf s t)
+    module _ {v : ℕ} (m : Lone (decoded t) (decoded s) v) where
+      pub shared-second : v < nodes2 → strayAt T (getD start2 v 0) ≡ sharedOf s t (strayOf (decoded s) (decoded t))
       unfolding strayOf inEither sharedOf
       shared-second b =
-          let k = m .found (omega (arith, two .nodes-is)) in
-          let at : getD start2 v 0 ≡ placeIn t 0 (k .0) = rw (two .start-is) (own-start t (two .valid) v (k .0) (k .1)) in
+          let k = m .found (omega (arith, own-nodes two)) in
+          let at = ap (λ (l : List ℕ). getD l v 0) (two .start-is) ∙ own-start t (two .valid) v (k .0) (k .1) in
           ap (strayAt T) at ∙ (rw (none1, k .2) refl)
 
-      pub shared-all : v ≡ nodes2 → shared.All ≡ sharedOf s t (strayOf s t)
+      pub shared-all : v ≡ nodes2 → shared.All ≡ sharedOf s t (strayOf (decoded s) (decoded t))
       unfolding strayOf inEither sharedOf
-      shared-all b = rw (none1, m .missing (omega (arith, two .nodes-is))) refl
+      shared-all b = rw (none1, m .missing (omega (arith, own-nodes two))) refl
 
 pub paired-plain : (o : Options) (s t : Tree) → o .strict ≡ false → shared.All ≡ sharedOf s t (strayFor o s t)
 unfolding strayFor sharedOf
 paired-plain o s t e = rw e refl
 
-pub paired-strict : (o : Options) (s t : Tree) → o .strict ≡ true → sharedOf s t (strayOf s t) ≡ sharedOf s t (strayFor o s t)
+pub paired-strict : (o : Options) (s t : Tree) → o .strict ≡ true
+    → sharedOf s t (strayOf (decoded s) (decoded t)) ≡ sharedOf s t (strayFor o s t)
 unfolding strayFor
 paired-strict o s t e = rw e refl

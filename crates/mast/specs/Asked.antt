@@ -3,11 +3,12 @@
 use Prim.Native.Nat.{ℕ, _<_, _≤_}
 use mathlib.Core.Path.{_≡_}
 use mathlib.Core.Bool.{true, false}
-use mathlib.Core.List.{List, []}
+use mathlib.Core.List.{List, [], map}
 use lib.ListN.{length, getD}
 use Rattle.trees.specs.declared.TreeArrays.{TreeArrays}
 use Rattle.trees.specs.Label.{Label, isIn, distinct}
-use Rattle.trees.specs.Tree.{Tree, Valid}
+use Rattle.trees.specs.Token.{Token, spelling}
+use Rattle.trees.specs.Tree.{Tree, decoded, Valid}
 use Rattle.trees.specs.Text.{textOf}
 use Rattle.trees.specs.Arrays.{arraysOf}
 use Rattle.lists.specs.declared.LabelPlaces.{LabelPlaces}
@@ -21,31 +22,31 @@ use Rattle.triples.specs.declared.Three.{Three}
 use Rattle.table.specs.Choice.{Marked}
 use Rattle.mast.specs.Engine.{OwnLeaves, OwnList}
 
--- a tree by its arrays, with its leaves by the rank of their labels in C
+-- a tree by its arrays, with its leaves by the rank in C of the labels that they stand for
 pub record RankedArrays (t : Tree) (C : List Label) (tree : TreeArrays) (order : List ℕ) (m : ℕ) : Type 0 where
   pub valid : Valid t
   pub arrays-is : tree ≡ arraysOf t
   pub ordered : increasing C ≡ true
   pub count : m ≡ length C
   pub few : m ≤ 80
-  pub numbered : Numbered t C order
+  pub numbered : Numbered (decoded t) C order
 
-pub record Asked (s t : Tree) (K : List Label) (tree1 tree2 : TreeArrays) (order1 order2 : List ℕ) (m : ℕ) (number : List ℕ) (count : ℕ)
+pub record Asked (s t : Tree) (K : List Token) (tree1 tree2 : TreeArrays) (order1 order2 : List ℕ) (m : ℕ) (number : List ℕ) (count : ℕ)
     : Type 0 where
-  pub one : RankedArrays s (common s t) tree1 order1 m
-  pub two : RankedArrays t (common s t) tree2 order2 m
-  pub different : distinct K ≡ true
+  pub one : RankedArrays s (common (decoded s) (decoded t)) tree1 order1 m
+  pub two : RankedArrays t (common (decoded s) (decoded t)) tree2 order2 m
+  pub different : distinct (map spelling K) ≡ true
   pub few : length K ≤ listLimit
-  pub held : Common s t (setOf K)
-  pub marked : Marked (common s t) K number
+  pub held : Common (decoded s) (decoded t) (setOf (map spelling K))
+  pub marked : Marked (common (decoded s) (decoded t)) (map spelling K) number
   pub count-is : count ≡ length K
 
 -- three required labels clash
-pub record Clashes (s t : Tree) (K : List Label) (a b c : Label) (tree1 tree2 : TreeArrays) (order1 order2 : List ℕ) (m : ℕ)
+pub record Clashes (s t : Tree) (K : List Token) (a b c : Label) (tree1 tree2 : TreeArrays) (order1 order2 : List ℕ) (m : ℕ)
     (number : List ℕ) (places : LabelPlaces) : Type 0 where
   pub asked : Asked s t K tree1 tree2 order1 order2 m number (places .count)
   pub list-places : places ≡ placesOf K
-  pub clash : answer s t K ≡ disagree a b c
+  pub clash : answer (decoded s) (decoded t) (map spelling K) ≡ disagree a b c
 
 -- there are such trees and lists: what keeps indices in range
 pub record SomeTree (tree : TreeArrays) (order : List ℕ) (m : ℕ) : Type 0 where
@@ -56,26 +57,27 @@ pub record SomeTree (tree : TreeArrays) (order : List ℕ) (m : ℕ) : Type 0 wh
 pub record SomeClash (tree1 tree2 : TreeArrays) (order1 order2 : List ℕ) (m : ℕ) (number : List ℕ) (places : LabelPlaces) : Type 0 where
   pub s : Tree
   pub t : Tree
-  pub K : List Label
+  pub K : List Token
   pub a : Label
   pub b : Label
   pub c : Label
   pub of : Clashes s t K a b c tree1 tree2 order1 order2 m number places
 
 -- where three labels of the list stand in it
-abbrev pub placesOfThree : List Label → Label → Label → Label → Three
+abbrev pub placesOfThree : List Token → Label → Label → Label → Three
 placesOfThree K a b c = record { first = placeOfLabel K 0 a; second = placeOfLabel K 0 b; third = placeOfLabel K 0 c }
 
 -- label n of the list is the first that is not common
-pub record FirstMissing (s t : Tree) (K : List Label) (text1 list : List ℕ) (tree1 : TreeArrays) (places : LabelPlaces) (n : ℕ) : Type 0 where
+pub record FirstMissing (s t : Tree) (K : List Token) (text1 list : List ℕ) (tree1 : TreeArrays) (places : LabelPlaces) (n : ℕ)
+    : Type 0 where
   pub own : OwnLeaves s text1 (tree1 .left) (tree1 .start) (tree1 .size) (tree1 .nodes)
   pub own-list : OwnList K list (places .start) (places .size) (places .count)
   pub below : n < length K
-  pub earlier : (k : ℕ) → k < n → isIn (getD K k []) (common s t) ≡ true
-  pub missing : isIn (getD K n []) (common s t) ≡ false
+  pub earlier : (k : ℕ) → k < n → isIn (getD (map spelling K) k []) (common (decoded s) (decoded t)) ≡ true
+  pub missing : isIn (getD (map spelling K) n []) (common (decoded s) (decoded t)) ≡ false
 
 -- with the first tree's text and the places of the list
-pub record AskedOf (s t : Tree) (K : List Label) (text1 : List ℕ) (tree1 tree2 : TreeArrays) (order1 order2 : List ℕ) (m : ℕ)
+pub record AskedOf (s t : Tree) (K : List Token) (text1 : List ℕ) (tree1 tree2 : TreeArrays) (order1 order2 : List ℕ) (m : ℕ)
     (number : List ℕ) (places : LabelPlaces) : Type 0 where
   pub asked : Asked s t K tree1 tree2 order1 order2 m number (places .count)
   pub text-is : text1 ≡ textOf s

@@ -1,14 +1,14 @@
 -- Three bodies, turned down or read, as the engine hands them on. Intermediate: nothing public rests on this text.
 use Prim.Native.Nat.{ℕ}
 use mathlib.Core.Path.{_≡_}
-use mathlib.Core.List.{List}
+use mathlib.Core.List.{List, map}
 use lib.ListN.{length}
 use Rattle.trees.specs.declared.Body.{Body}
 use Rattle.trees.specs.declared.Body.the-variants.{K as listBody}
 use Rattle.trees.specs.declared.Reason.the-variants.{EndsTooSoon}
 use Rattle.trees.specs.declared.TreeArrays.{TreeArrays}
-use Rattle.trees.specs.Label.{Label}
-use Rattle.trees.specs.Tree.{Tree, Valid}
+use Rattle.trees.specs.Token.{Token, spelling}
+use Rattle.trees.specs.Tree.{Tree, decoded, Valid}
 use Rattle.trees.specs.Arrays.{arraysOf}
 use Rattle.newick.specs.declared.TreeAnswer.{TreeAnswer}
 use Rattle.newick.specs.declared.TreeAnswer.the-variants.{Leaves, Refused as TreeRefused}
@@ -43,17 +43,17 @@ unreadList (ListRefused q) = Refused q
 pub record Bodies (first list : List ℕ) (tree1 tree2 : TreeArrays) (partner : List ℕ) (places : LabelPlaces) (most : ℕ) : Type 0 where
   pub s : Tree
   pub t : Tree
-  pub K : List Label
+  pub K : List Token
   pub one : OwnLeaves s first (tree1 .left) (tree1 .start) (tree1 .size) (tree1 .nodes)
   pub valid2 : Valid t
   pub first-arrays : tree1 ≡ arraysOf s
   pub second-arrays : tree2 ≡ arraysOf t
   pub own-list : OwnList K list (places .start) (places .size) (places .count)
   pub list-places : places ≡ placesOf K
-  pub partners : Partners (tree1 .nodes) s t partner
-  pub bound : most ≡ mostCommon s t
+  pub partners : Partners (tree1 .nodes) (decoded s) (decoded t) partner
+  pub bound : most ≡ mostCommon (decoded s) (decoded t)
 
 -- the answer to them: what comes back, and what the output then holds
-pub record Settled (s t : Tree) (K : List Label) (out new : List ℕ) (r : LargestResult) : Type 0 where
-  pub result : r ≡ largestOf (solutionOf s K (length out) (answer s t K))
-  pub output : new ≡ outputOf (solutionOf s K (length out) (answer s t K)) out
+pub record Settled (s t : Tree) (K : List Token) (out new : List ℕ) (r : LargestResult) : Type 0 where
+  pub result : r ≡ largestOf (solutionOf s K (length out) (answer (decoded s) (decoded t) (map spelling K)))
+  pub output : new ≡ outputOf (solutionOf s K (length out) (answer (decoded s) (decoded t) (map spelling K))) out

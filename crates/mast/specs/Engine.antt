@@ -1,11 +1,13 @@
--- What the parts of the engine hand to each other: arrays lent apart, and common labels by rank.
+-- What the parts of the engine hand to each other: arrays lent apart, and common labels by rank. Trees and lists that have a text are
+-- as they are read, of tokens; what is told of labels is told of the decoded ones.
 -- Intermediate: nothing public rests on this text.
 use Prim.Native.Nat.{ℕ, _≤_}
 use mathlib.Core.Path.{_≡_}
 use mathlib.Core.Bool.{true}
-use mathlib.Core.List.{List}
+use mathlib.Core.List.{List, map}
 use lib.ListN.{length}
-use Rattle.trees.specs.Label.{Label, distinct, goodLabels}
+use Rattle.trees.specs.Label.{distinct}
+use Rattle.trees.specs.Token.{Token, spelling, goodLabels}
 use Rattle.trees.specs.Tree.{Tree, Valid}
 use Rattle.trees.specs.Text.{textOf}
 use Rattle.trees.specs.Arrays.{arraysOf, nodesOf}
@@ -22,10 +24,10 @@ pub record OwnLeaves (t : Tree) (text left start size : List ℕ) (nodes : ℕ) 
   pub size-is : size ≡ arraysOf t .size
   pub nodes-is : nodes ≡ nodesOf t
 
--- the text of the list K and where its labels stand
-pub record OwnList (K : List Label) (text start size : List ℕ) (count : ℕ) : Type 0 where
+-- the text of the list K and where its tokens stand
+pub record OwnList (K : List Token) (text start size : List ℕ) (count : ℕ) : Type 0 where
   pub good : goodLabels K ≡ true
-  pub different : distinct K ≡ true
+  pub different : distinct (map spelling K) ≡ true
   pub few : length K ≤ listLimit
   pub text-is : text ≡ joined K
   pub start-is : start ≡ placesOf K .start

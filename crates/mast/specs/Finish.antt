@@ -7,7 +7,7 @@ use mathlib.Core.List.{List}
 use lib.ListN.{length, getD, set}
 use Rattle.trees.specs.declared.TreeArrays.{TreeArrays}
 use Rattle.trees.specs.Label.{Label, isIn}
-use Rattle.trees.specs.Tree.{Tree, leaf, Valid}
+use Rattle.trees.specs.Tree.{Tree, leaf, decoded, Valid}
 use Rattle.trees.specs.Text.{textOf}
 use Rattle.trees.specs.Arrays.{nodesOf, nodeLimit, arraysOf}
 use Rattle.trees.specs.Postorder.{postorder, subtree}
@@ -37,17 +37,17 @@ pub record Stored (forced : Bool) (at len : ℕ) (old new : LabelPlaces) : Type 
 abbrev pub Flagged : Tree → List Label → List Bool → Type 0
 Flagged t X kept = (u : ℕ) → u < nodesOf t → (x : Label) → subtree (postorder t) u ≡ leaf x → getD kept u false ≡ isIn x X
 
--- the arrays and the text of tree t, and its leaves by the rank of their labels in C
+-- the arrays and the text of tree t, and its leaves by the rank in C of the labels that they stand for
 pub record ByRank (t : Tree) (C : List Label) (tree : TreeArrays) (text order : List ℕ) (m : ℕ) : Type 0 where
   pub valid : Valid t
   pub arrays-is : tree ≡ arraysOf t
   pub text-is : text ≡ textOf t
   pub count : m ≡ length C
-  pub numbered : Numbered t C order
+  pub numbered : Numbered (decoded t) C order
 
 -- what a set comes to in an output of `room` bytes
 abbrev pub fittedSet : Tree → List Label → ℕ → Solution
-fittedSet s X room = fitted s X (keptText (restrict (setOf X) s)) room
+fittedSet s X room = fitted s X (keptText (restrict (setOf X) (decoded s))) room
 
 abbrev pub resultFrom : LargestAnswer → LabelPlaces → LargestResult
 resultFrom a p = record { answer = a; set = p }

@@ -1,4 +1,5 @@
--- The engine's answer to three texts and an output. Scope paper: "Job and printed result", "Why a job is turned down".
+-- The engine's answer to three texts and an output. Scope paper: "Job and printed result", "Why a job is turned down". Trees and lists
+-- are as they are read, of tokens; what is asked of them is asked of the labels that the tokens stand for (request C-12).
 use Prim.Native.Nat.{ℕ}
 use mathlib.Core.Bool.{false, cond}
 use mathlib.Core.List.{List, [], _++_, map}
@@ -8,7 +9,8 @@ use Rattle.trees.specs.declared.Reason.the-variants.{FirstLacks, SecondLacks, T
 use Rattle.trees.specs.declared.Body.the-variants.{S, T, K, O}
 use Rattle.trees.specs.declared.Refusal.{Refusal}
 use Rattle.trees.specs.Label.{Label}
-use Rattle.trees.specs.Tree.{Tree}
+use Rattle.trees.specs.Token.{Token, spelling}
+use Rattle.trees.specs.Tree.{Tree, decoded}
 use Rattle.trees.specs.Reading.{Reading, good, refused}
 use Rattle.newick.specs.ReadTree.{readTree}
 use Rattle.lists.specs.declared.LabelPlaces.{LabelPlaces}
@@ -16,7 +18,7 @@ use Rattle.lists.specs.ReadList.{readList, padded, placesOf}
 use Rattle.agreement.specs.Sets.{setOf}
 use Rattle.agreement.specs.Restrict.{restrict}
 use Rattle.agreement.specs.Answer.{Answer, firstLacks, secondLacks, disagree, largest, answer}
-use Rattle.agreement.specs.Places.{placeIn, placeOfNumber, placeOfLabel, keptText}
+use Rattle.agreement.specs.Places.{tokenIn, placeIn, placeOfNumber, placeOfLabel, keptText}
 use Rattle.agreement.specs.Strict.{Stray, inFirst, inSecond, nowhere, strayOf}
 use Rattle.mast.specs.declared.LargestAnswer.the-variants.{Found, Disagree, Refused}
 use Rattle.mast.specs.declared.LargestResult.{LargestResult}
@@ -27,7 +29,7 @@ pub data Solution : Type 0 where
   -- the first tree, the set in label order and the normal text of its common restriction
   solved : Tree → List Label → List ℕ → Solution
   -- number 8: the list and three of its labels
-  clashed : List Label → Label → Label → Label → Solution
+  clashed : List Token → Label → Label → Label → Solution
   turned : Refusal → Solution
 
 -- number 9, O 0
@@ -39,38 +41,38 @@ unfoldable pub fitted : Tree → List Label → List ℕ → ℕ → Solution
 fitted s X text room =
     cond (leb (length text) room) (solved s X text) (turned tooShort)
 
-unfoldable pub solutionOf : Tree → List Label → ℕ → Answer → Solution
+unfoldable pub solutionOf : Tree → List Token → ℕ → Answer → Solution
 unfolding fitted
 solutionOf s xs room (firstLacks n) = turned (record { reason = FirstLacks; body = K; place = placeOfNumber xs n })
 solutionOf s xs room (secondLacks n) = turned (record { reason = SecondLacks; body = K; place = placeOfNumber xs n })
 solutionOf s xs room (disagree a b c) = clashed xs a b c
-solutionOf s xs room (largest X) = fitted s X (keptText (restrict (setOf X) s)) room
+solutionOf s xs room (largest X) = fitted s X (keptText (restrict (setOf X) (decoded s))) room
 
-unfoldable pub solveList : Tree → Tree → ℕ → Reading (List Label) → Solution
+unfoldable pub solveList : Tree → Tree → ℕ → Reading (List Token) → Solution
 unfolding solutionOf
-solveList s t room (good xs) = solutionOf s xs room (answer s t xs)
+solveList s t room (good xs) = solutionOf s xs room (answer (decoded s) (decoded t) (map spelling xs))
 solveList s t room (refused r i) = turned (record { reason = r; body = K; place = i })
 
 -- request C-11: "a leaf that stands in only one tree stops the job", where the job is strict
 unfoldable pub strayFor : Options → Tree → Tree → Stray
 unfolding strayOf
-strayFor o s t = cond (o .strict) (strayOf s t) nowhere
+strayFor o s t = cond (o .strict) (strayOf (decoded s) (decoded t)) nowhere
 
 -- it gets number 12, "with the letter and place of the first such leaf in S or, if S has none, in T"
-unfoldable pub solveShared : Tree → Tree → ℕ → Reading (List Label) → Stray → Solution
+unfoldable pub solveShared : Tree → Tree → ℕ → Reading (List Token) → Stray → Solution
 unfolding solveList placeIn
 solveShared s t room list (inFirst x) = turned (record { reason = NotShared; body = S; place = placeIn s 0 x })
 solveShared s t room list (inSecond x) = turned (record { reason = NotShared; body = T; place = placeIn t 0 x })
 solveShared s t room list nowhere = solveList s t room list
 
 -- 12 is told "after both trees are read and before K"
-unfoldable pub solveSecond : Options → Tree → ℕ → Reading Tree → Reading (List Label) → Solution
+unfoldable pub solveSecond : Options → Tree → ℕ → Reading Tree → Reading (List Token) → Solution
 unfolding solveShared strayFor
 solveSecond o s room (good t) list = solveShared s t room list (strayFor o s t)
 solveSecond o s room (refused r i) list = turned (record { reason = r; body = T; place = i })
 
 -- "Order: .. S, T, K, then 6 or 7, then 8, then 9 for the output. A body that fails to read ends the job there."
-unfoldable pub solveFirst : Options → ℕ → Reading Tree → Reading Tree → Reading (List Label) → Solution
+unfoldable pub solveFirst : Options → ℕ → Reading Tree → Reading Tree → Reading (List Token) → Solution
 unfolding solveSecond
 solveFirst o room (good s) second list = solveSecond o s room second list
 solveFirst o room (refused r i) second list = turned (record { reason = r; body = S; place = i })
@@ -93,10 +95,10 @@ unfoldable pub solve : Task → ℕ → Solution
 unfolding solveFirst
 solve q room = solveFirst (q .options) room (readTree (q .first)) (readTree (q .second)) (readList (q .required))
 
--- where the labels of a set stand in the first tree's text, in label order
+-- where the labels of a set stand in the first tree's text, in label order: "the part of the text shown for it has both quotes"
 unfoldable pub setPlaces : Tree → List Label → LabelPlaces
 setPlaces s X =
-    record { count = length X; start = padded (map (placeIn s 0) X); size = padded (map (length {A = ℕ}) X) }
+    record { count = length X; start = padded (map (placeIn s 0) X); size = padded (map (λ (x : Label). length (tokenIn s x)) X) }
 
 -- what comes back: size and text's length, with the set's places; the three labels' places in the list; or the refusal
 unfoldable pub largestOf : Solution → LargestResult

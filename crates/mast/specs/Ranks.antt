@@ -6,6 +6,7 @@ use mathlib.Core.Bool.{true, false}
 use mathlib.Core.List.{List, []}
 use lib.ListN.{length, getD, set, drop, replicate}
 use Rattle.trees.specs.Label.{Label, labelLess}
+use Rattle.trees.specs.Token.{spelling}
 use Rattle.trees.specs.Tree.{Tree, leaf, node, leaves}
 use Rattle.trees.specs.Postorder.{postorder, subtree, leafLabels}
 use Rattle.trees.specs.Stored.{storedBytes, storedOf, leafLabel}
@@ -56,7 +57,7 @@ pub record NodePartner (s t : Tree) (u v : ℕ) : Type 0 where
 
 -- the label of leaf u as it is kept
 abbrev pub storedLabel : List ℕ → List ℕ → List ℕ → ℕ → Label
-storedLabel text start size u = storedBytes (storedOf (leafLabel text start size u))
+storedLabel text start size u = storedBytes (storedOf (spelling (leafLabel text start size u)))
 
 -- leaf u is put in at the place of its label x
 pub record Placed (u m : ℕ) (C : List Label) (x : Label) (old new : List ℕ) : Type 0 where

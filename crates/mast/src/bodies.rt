@@ -3,10 +3,11 @@
 // Names that end in 1 are of the first tree, in 2 of the second.
 ghost use mathlib.Core.Path.{_≡_};
 ghost use mathlib.Core.Bool.{cond};
-ghost use mathlib.Core.List.{List};
+ghost use mathlib.Core.List.{List, map};
 ghost use Prim.Native.Nat.{ℕ, _<_, _≤_};
 ghost use Rattle.trees.specs.Label.{Label};
-ghost use Rattle.trees.specs.Tree.{Tree, Valid};
+ghost use Rattle.trees.specs.Token.{Token, spelling};
+ghost use Rattle.trees.specs.Tree.{Tree, decoded, Valid};
 ghost use Rattle.trees.specs.declared.Reason.the-variants.{FirstLacks, SecondLacks};
 ghost use Rattle.agreement.specs.Answer.{answer};
 ghost use Rattle.mast.specs.Largest.{clashed, solutionOf, largestOf};
@@ -49,8 +50,8 @@ fn order_in(
     ensures { λ r. ⌜ r ≤ 80 ⌝ }
     ensures { λ r. ⌜ ((s t : Tree)
         → OwnLeaves s (now (first .entry)) (tree1 .left) (tree1 .start) (tree1 .size) (tree1 .nodes) → Valid t
-        → most ≡ mostCommon s t → Partners (tree1 .nodes) s t (now (partner .entry))
-        → Ordered s t (now (order1 .exit)) (now (order2 .exit)) r) ⌝ }
+        → most ≡ mostCommon (decoded s) (decoded t) → Partners (tree1 .nodes) (decoded s) (decoded t) (now (partner .entry))
+        → Ordered (decoded s) (decoded t) (now (order1 .exit)) (now (order2 .exit)) r) ⌝ }
 {
     let m = common_order(first, tree1, partner, order1, most);
     *order2 = entries_at(order1, partner, m);
@@ -69,9 +70,9 @@ fn find_set(
     chosen: &mut [bool; LEAF_LIMIT],
 ) -> bool
     requires { ⌜ SomeTree tree1 (now order1) m × SomeTree tree2 (now order2) m ⌝ }
-    ensures { λ found. ⌜ ((s t : Tree) (xs : List Label)
+    ensures { λ found. ⌜ ((s t : Tree) (xs : List Token)
         → Asked s t xs tree1 tree2 (now (order1 .entry)) (now (order2 .entry)) m (now (number .entry)) count
-        → Solved s t xs found (now (chosen .exit))) ⌝ }
+        → Solved (decoded s) (decoded t) (map spelling xs) found (now (chosen .exit))) ⌝ }
 {
     let mut rank1 = [NO_RANK; NODE_LIMIT];
     let mut rank2 = [NO_RANK; NODE_LIMIT];
@@ -91,7 +92,7 @@ fn eight(
     places: LabelPlaces,
 ) -> LargestResult
     requires { ⌜ SomeClash tree1 tree2 (now order1) (now order2) m (now number) places ⌝ }
-    ensures { λ r. ⌜ ((s t : Tree) (xs : List Label) (a b c : Label)
+    ensures { λ r. ⌜ ((s t : Tree) (xs : List Token) (a b c : Label)
         → Clashes s t xs a b c tree1 tree2 (now (order1 .entry)) (now (order2 .entry)) m (now (number .entry)) places
         → r ≡ largestOf (clashed xs a b c)) ⌝ }
 {
@@ -119,9 +120,9 @@ fn lacks(
     n: usize,
 ) -> LargestResult
     requires { ⌜ n < 80 ⌝ }
-    ensures { λ r. ⌜ ((s t : Tree) (xs : List Label) (room : ℕ)
+    ensures { λ r. ⌜ ((s t : Tree) (xs : List Token) (room : ℕ)
         → FirstMissing s t xs (now (first .entry)) (now (list .entry)) tree1 places n
-        → r ≡ largestOf (solutionOf s xs room (answer s t xs))) ⌝ }
+        → r ≡ largestOf (solutionOf s xs room (answer (decoded s) (decoded t) (map spelling xs)))) ⌝ }
 {
     let starts = places.start;
     let sizes = places.size;

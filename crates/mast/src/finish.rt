@@ -8,7 +8,7 @@ ghost use mathlib.Core.List.{List, []};
 ghost use Prim.Native.Nat.{_<_, _≤_};
 ghost use lib.ListN.{length, set};
 ghost use Rattle.trees.specs.Label.{Label};
-ghost use Rattle.trees.specs.Tree.{Tree, Valid};
+ghost use Rattle.trees.specs.Tree.{Tree, decoded, Valid, Proper};
 ghost use Rattle.trees.specs.Arrays.{arraysOf};
 ghost use Rattle.leaves.specs.Numbered.{Numbered};
 ghost use Rattle.table.specs.Choice.{chosenFrom};
@@ -57,7 +57,7 @@ fn set_places(
 ) -> LabelPlaces
     requires { ⌜ (m ≤ 80) × InRange (now order1) m ⌝ }
     ensures { λ r. ⌜ ((s : Tree) (C : List Label) → Valid s → now (start1 .entry) ≡ arraysOf s .start
-        → now (size1 .entry) ≡ arraysOf s .size → m ≡ length C → Numbered s C (now (order1 .entry))
+        → now (size1 .entry) ≡ arraysOf s .size → m ≡ length C → Numbered (decoded s) C (now (order1 .entry))
         → r ≡ setPlaces s (chosenFrom (now (chosen .entry)) 0 C)) ⌝ }
 {
     let mut start = [0usize; LEAF_LIMIT];
@@ -89,7 +89,7 @@ fn kept_leaves(
     chosen: &[bool; LEAF_LIMIT],
 ) -> [bool; NODE_LIMIT]
     requires { ⌜ (m ≤ 80) × InRange (now order1) m ⌝ }
-    ensures { λ r. ⌜ ((s : Tree) (C : List Label) → Valid s → m ≡ length C → Numbered s C (now (order1 .entry))
+    ensures { λ r. ⌜ ((s : Tree) (C : List Label) → Proper s → m ≡ length C → Numbered s C (now (order1 .entry))
         → Flagged s (chosenFrom (now (chosen .entry)) 0 C) r) ⌝ }
 {
     let mut kept = [false; NODE_LIMIT];

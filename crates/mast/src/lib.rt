@@ -41,7 +41,8 @@ pub enum LargestAnswer {
     Refused(Refusal),
 }
 
-// The answer with the set beside it: where its labels stand in the first tree's text, in label order. A refusal has no label.
+// The answer with the set beside it: where its labels stand in the first tree's text, as they are written there, in label order. A
+// refusal has no label.
 pub struct LargestResult {
     pub answer: LargestAnswer,
     pub set: LabelPlaces,

@@ -6,10 +6,11 @@ ghost use mathlib.Core.List.{List};
 ghost use mathlib.Core.Bool.{true, cond};
 ghost use Prim.Native.Nat.{ℕ, _+_, _<_, _≤_};
 ghost use lib.Dec.{eqb};
-ghost use lib.ListN.{length, set, getD};
+ghost use lib.ListN.{length, set};
 ghost use Rattle.trees.specs.Label.{Label, labelLess};
-ghost use Rattle.trees.specs.Tree.{Tree, Valid};
-ghost use Rattle.trees.specs.Stored.{storedBytes, leafLabel};
+ghost use Rattle.trees.specs.Token.{spelling};
+ghost use Rattle.trees.specs.Tree.{Tree, decoded, Valid, Proper};
+ghost use Rattle.trees.specs.Stored.{storedBytes};
 ghost use Rattle.agreement.specs.Sets.{increasing};
 ghost use Rattle.leaves.specs.Numbered.{Numbered};
 ghost use Rattle.table.specs.Choice.{Ranked};
@@ -27,22 +28,22 @@ pub(crate) const NO_RANK: usize = LEAF_LIMIT;
 // No node has this number.
 pub(crate) const NONE: usize = NODE_LIMIT;
 
-// The number of the leaf with this label, or NONE; an inner node's label has no bytes and is not looked for.
+// The number of the leaf with the label that a token stands for, or NONE; an inner node's token has no bytes and is not looked for.
 fn look_up(
     text: &[u8],
     left: &[usize; NODE_LIMIT],
     start: &[usize; NODE_LIMIT],
     size: &[usize; NODE_LIMIT],
     nodes: usize,
-    label: &[u8],
+    token: &[u8],
 ) -> usize
     ensures { λ r. ⌜ ((t : Tree) → OwnLeaves t (now (text .entry)) (now (left .entry)) (now (start .entry)) (now (size .entry)) nodes
-        → PartnerIs t (now (label .entry)) r) ⌝ }
+        → PartnerIs (decoded t) (spelling (now (token .entry))) r) ⌝ }
 {
-    if label.len() == 0 {
+    if trees::spelled_size(token) == 0 {
         return NONE;
     }
-    let v = leaves::find_leaf(text, left, start, size, nodes, label);
+    let v = leaves::find_leaf(text, left, start, size, nodes, token);
     if v == nodes { NONE } else { v }
 }
 
@@ -57,7 +58,7 @@ pub(crate) fn partners(
     ensures { λ r. ⌜ ((s t : Tree)
         → OwnLeaves s (now (first .entry)) (tree1 .left) (tree1 .start) (tree1 .size) (tree1 .nodes)
         → OwnLeaves t (now (second .entry)) (tree2 .left) (tree2 .start) (tree2 .size) (tree2 .nodes)
-        → Partners (tree1 .nodes) s t r) ⌝ }
+        → Partners (tree1 .nodes) (decoded s) (decoded t) r) ⌝ }
 {
     let start1 = tree1.start;
     let size1 = tree1.size;
@@ -67,8 +68,8 @@ pub(crate) fn partners(
     let mut partner = [NONE; NODE_LIMIT];
     let mut u: usize = 0;
     while u < tree1.nodes {
-        let label = trees::leaf_label(first, &start1, &size1, u);
-        partner[u] = look_up(second, &left2, &start2, &size2, tree2.nodes, label);
+        let token = trees::leaf_label(first, &start1, &size1, u);
+        partner[u] = look_up(second, &left2, &start2, &size2, tree2.nodes, token);
         u += 1;
     }
     partner
@@ -98,7 +99,7 @@ fn place_of(
     ensures { λ r. ⌜ r ≤ m ⌝ }
     ensures { λ r. ⌜ ((t : Tree) (left : List ℕ) (nodes : ℕ) (C : List Label)
         → OwnLeaves t (now (text .entry)) left (now (start .entry)) (now (size .entry)) nodes → increasing C ≡ true
-        → m ≡ length C → Numbered t C (now (order .entry)) → Place (storedBytes label) C r) ⌝ }
+        → m ≡ length C → Numbered (decoded t) C (now (order .entry)) → Place (storedBytes label) C r) ⌝ }
 {
     let mut low: usize = 0;
     let mut high = m;
@@ -138,7 +139,7 @@ fn insert_leaf(
     requires { ⌜ m < 80 ⌝ }
     ensures { λ _. ⌜ ((t : Tree) (left : List ℕ) (nodes : ℕ) (C : List Label)
         → OwnLeaves t (now (text .entry)) left (now (start .entry)) (now (size .entry)) nodes → increasing C ≡ true
-        → m ≡ length C → Numbered t C (now (order .entry)) → length (now (order .entry)) ≡ 80
+        → m ≡ length C → Numbered (decoded t) C (now (order .entry)) → length (now (order .entry)) ≡ 80
         → Placed u m C (storedLabel (now (text .entry)) (now (start .entry)) (now (size .entry)) u) (now (order .entry)) (now (order .exit))) ⌝ }
 {
     let label = trees::stored_leaf(text, start, size, u);
@@ -169,8 +170,9 @@ fn add_common(
     ensures { λ r. ⌜ r ≤ most ⌝ }
     ensures { λ r. ⌜ ((s t : Tree) (left1 : List ℕ) (nodes1 : ℕ)
         → OwnLeaves s (now (text1 .entry)) left1 (now (start1 .entry)) (now (size1 .entry)) nodes1 → Valid t
-        → most ≡ mostCommon s t → u < nodes1 → NodePartner s t u v → Collected s t (u + 1) (now (order1 .entry)) m
-        → Collected s t u (now (order1 .exit)) r) ⌝ }
+        → most ≡ mostCommon (decoded s) (decoded t) → u < nodes1 → NodePartner (decoded s) (decoded t) u v
+        → Collected (decoded s) (decoded t) (u + 1) (now (order1 .entry)) m
+        → Collected (decoded s) (decoded t) u (now (order1 .exit)) r) ⌝ }
 {
     if m == most {
         return m;
@@ -195,7 +197,8 @@ pub(crate) fn common_order(
     ensures { λ r. ⌜ r ≤ 80 ⌝ }
     ensures { λ r. ⌜ ((s t : Tree)
         → OwnLeaves s (now (text1 .entry)) (tree1 .left) (tree1 .start) (tree1 .size) (tree1 .nodes) → Valid t
-        → most ≡ mostCommon s t → Partners (tree1 .nodes) s t (now (partner .entry)) → Collected s t 0 (now (order1 .exit)) r) ⌝ }
+        → most ≡ mostCommon (decoded s) (decoded t) → Partners (tree1 .nodes) (decoded s) (decoded t) (now (partner .entry))
+        → Collected (decoded s) (decoded t) 0 (now (order1 .exit)) r) ⌝ }
 {
     let left1 = tree1.left;
     let start1 = tree1.start;
@@ -223,7 +226,7 @@ pub(crate) fn put_at(column: &mut [usize; NODE_LIMIT], u: usize, n: usize)
 // The rank of each leaf whose label is one of the m in `order`, and 80 for every other node.
 pub(crate) fn rank_leaves(order: &[usize; LEAF_LIMIT], m: usize, rank: &mut [usize; NODE_LIMIT])
     requires { ⌜ m ≤ 80 ⌝ }
-    ensures { λ _. ⌜ ((t : Tree) (C : List Label) → Valid t → increasing C ≡ true → m ≡ length C
+    ensures { λ _. ⌜ ((t : Tree) (C : List Label) → Proper t → increasing C ≡ true → m ≡ length C
         → Numbered t C (now (order .entry)) → Ranked t C (now (rank .exit))) ⌝ }
 {
     *rank = [NO_RANK; NODE_LIMIT];

@@ -4,11 +4,12 @@
 // Names that end in 1 are of the first tree, in 2 of the second.
 ghost use mathlib.Core.Path.{_≡_};
 ghost use mathlib.Core.Bool.{true};
-ghost use mathlib.Core.List.{List};
+ghost use mathlib.Core.List.{List, map};
 ghost use Prim.Native.Nat.{ℕ, _-_, _<_, _≤_};
 ghost use lib.ListN.{length, getD};
 ghost use Rattle.trees.specs.Label.{Label};
-ghost use Rattle.trees.specs.Tree.{Tree};
+ghost use Rattle.trees.specs.Token.{Token, spelling};
+ghost use Rattle.trees.specs.Tree.{Tree, decoded};
 ghost use Rattle.agreement.specs.Closer.{holds};
 ghost use Rattle.agreement.specs.Sets.{increasing};
 ghost use Rattle.leaves.specs.Numbered.{Numbered};
@@ -24,24 +25,24 @@ use trees::narrow;
 use trees::wide;
 use triples::Three;
 
-// The rank of a label among the m common ones, or m.
+// The rank among the m common labels of the one that a token stands for, or m.
 fn rank_in(
     text1: &[u8],
     start1: &[usize; NODE_LIMIT],
     size1: &[usize; NODE_LIMIT],
     order1: &[usize; LEAF_LIMIT],
     m: usize,
-    label: &[u8],
+    token: &[u8],
 ) -> usize
     requires { ⌜ m ≤ 80 ⌝ }
     ensures { λ r. ⌜ r ≤ m ⌝ }
     ensures { λ r. ⌜ ((s : Tree) (left : List ℕ) (nodes : ℕ) (C : List Label)
         → OwnLeaves s (now (text1 .entry)) left (now (start1 .entry)) (now (size1 .entry)) nodes
-        → m ≡ length C → Numbered s C (now (order1 .entry)) → FoundRank C (now (label .entry)) r) ⌝ }
+        → m ≡ length C → Numbered (decoded s) C (now (order1 .entry)) → FoundRank C (spelling (now (token .entry))) r) ⌝ }
 {
     let mut r: usize = 0;
     while r < m {
-        if trees::same_label(trees::leaf_label(text1, start1, size1, order1[r]), label) {
+        if trees::same_label(trees::leaf_label(text1, start1, size1, order1[r]), token) {
             return r;
         }
         r += 1;
@@ -62,10 +63,11 @@ pub(crate) fn mark_required(
 ) -> usize
     requires { ⌜ (m ≤ 80) × (places .count ≤ 80) ⌝ }
     ensures { λ n. ⌜ n ≤ places .count ⌝ }
-    ensures { λ n. ⌜ ((s : Tree) (C K : List Label)
+    ensures { λ n. ⌜ ((s : Tree) (C : List Label) (K : List Token)
         → OwnLeaves s (now (text1 .entry)) (tree1 .left) (tree1 .start) (tree1 .size) (tree1 .nodes)
         → OwnList K (now (list .entry)) (places .start) (places .size) (places .count)
-        → increasing C ≡ true → m ≡ length C → Numbered s C (now (order1 .entry)) → MarkedTo n (places .count) C K (now (number .exit))) ⌝ }
+        → increasing C ≡ true → m ≡ length C → Numbered (decoded s) C (now (order1 .entry))
+        → MarkedTo n (places .count) C (map spelling K) (now (number .exit))) ⌝ }
 {
     let start1 = tree1.start;
     let size1 = tree1.size;
@@ -91,16 +93,16 @@ pub(crate) fn mark_required(
     k
 }
 
-// The tree has a leaf with this label.
-pub(crate) fn holds_label(text: &[u8], tree: TreeArrays, label: &[u8]) -> bool
+// The tree has a leaf with the label that a token stands for.
+pub(crate) fn holds_label(text: &[u8], tree: TreeArrays, token: &[u8]) -> bool
     ensures { λ r. ⌜ ((t : Tree) → OwnLeaves t (now (text .entry)) (tree .left) (tree .start) (tree .size) (tree .nodes)
-        → r ≡ holds t (now (label .entry))) ⌝ }
+        → r ≡ holds (decoded t) (spelling (now (token .entry)))) ⌝ }
 {
     let left = tree.left;
     let start = tree.start;
     let size = tree.size;
     let nodes = tree.nodes;
-    leaves::find_leaf(text, &left, &start, &size, nodes, label) < nodes
+    leaves::find_leaf(text, &left, &start, &size, nodes, token) < nodes
 }
 
 // Stores rank r behind n others if it is that of a required label, and says how many there are then.
@@ -175,7 +177,7 @@ pub(crate) fn clash_places(
     places: LabelPlaces,
 ) -> Three
     requires { ⌜ SomeClash tree1 tree2 (now order1) (now order2) m (now number) places ⌝ }
-    ensures { λ r. ⌜ ((s t : Tree) (K : List Label) (a b c : Label)
+    ensures { λ r. ⌜ ((s t : Tree) (K : List Token) (a b c : Label)
         → Clashes s t K a b c tree1 tree2 (now (order1 .entry)) (now (order2 .entry)) m (now (number .entry)) places
         → r ≡ placesOfThree K a b c) ⌝ }
 {

@@ -6,8 +6,8 @@ ghost use mathlib.Core.Bool.{_&&_};
 ghost use mathlib.Core.List.{List};
 ghost use Prim.Native.Nat.{ℕ, _≤_};
 ghost use lib.Dec.{eqb, leb};
-ghost use Rattle.trees.specs.Tree.{Tree, Valid};
-ghost use Rattle.trees.specs.Arrays.{nodesOf};
+ghost use Rattle.trees.specs.Tree.{Tree, decoded, Proper};
+ghost use Rattle.trees.specs.Arrays.{nodesOf, arraysOf};
 ghost use Rattle.agreement.specs.Strict.{strayOf};
 ghost use Rattle.mast.specs.Engine.{OwnLeaves};
 ghost use Rattle.mast.specs.Ranks.{Partners};
@@ -41,8 +41,8 @@ fn is_lone(child: usize, u: usize, v: usize) -> bool
 fn lone_leaf(left: &[usize; NODE_LIMIT], nodes: usize, partner: &[usize; NODE_LIMIT]) -> usize
     requires { ⌜ nodes ≤ 159 ⌝ }
     ensures { λ r. ⌜ r ≤ nodes ⌝ }
-    ensures { λ r. ⌜ ((s t : Tree) (text start size : List ℕ) → OwnLeaves s text (now (left .entry)) start size nodes
-        → Valid t → Partners nodes s t (now (partner .entry)) → Lone s t r) ⌝ }
+    ensures { λ r. ⌜ ((s t : Tree) → now (left .entry) ≡ arraysOf s .left → nodes ≡ nodesOf s → Proper t
+        → Partners nodes s t (now (partner .entry)) → Lone s t r) ⌝ }
 {
     let mut u: usize = 0;
     while u < nodes {
@@ -72,8 +72,8 @@ fn turned_round(
     partner: &[usize; NODE_LIMIT],
 ) -> [usize; NODE_LIMIT]
     requires { ⌜ nodes1 ≤ 159 ⌝ }
-    ensures { λ r. ⌜ ((s t : Tree) (text start size : List ℕ) → OwnLeaves s text (now (left1 .entry)) start size nodes1
-        → Valid t → Partners nodes1 s t (now (partner .entry)) → Partners (nodesOf t) t s r) ⌝ }
+    ensures { λ r. ⌜ ((s t : Tree) → now (left1 .entry) ≡ arraysOf s .left → nodes1 ≡ nodesOf s → Proper t
+        → Partners nodes1 s t (now (partner .entry)) → Partners (nodesOf t) t s r) ⌝ }
 {
     let mut back = [NONE; NODE_LIMIT];
     let mut u: usize = 0;
@@ -91,7 +91,8 @@ fn stray_leaf(tree1: TreeArrays, tree2: TreeArrays, partner: &[usize; NODE_LIMIT
     ensures { λ r. ⌜ ((s t : Tree) (first second : List ℕ)
         → OwnLeaves s first (tree1 .left) (tree1 .start) (tree1 .size) (tree1 .nodes)
         → OwnLeaves t second (tree2 .left) (tree2 .start) (tree2 .size) (tree2 .nodes)
-        → Partners (tree1 .nodes) s t (now (partner .entry)) → r ≡ sharedOf s t (strayOf s t)) ⌝ }
+        → Partners (tree1 .nodes) (decoded s) (decoded t) (now (partner .entry))
+        → r ≡ sharedOf s t (strayOf (decoded s) (decoded t))) ⌝ }
 {
     let left1 = tree1.left;
     let start1 = tree1.start;

@@ -2,24 +2,29 @@
 -- continued to one of the grammar. Assumes nothing.
 use Prim.Native.Nat.{ℕ, _≤_}
 use mathlib.Core.Path.{_≡_, refl, _∙_, ap, subst}
-use mathlib.Core.Bool.{true, false}
+use mathlib.Core.Bool.{Bool, true, false, cond}
+use mathlib.Core.Logic.{_⊎_, inl, inr}
 use mathlib.Core.List.{List, [], _∷_, _++_, append-assoc}
 use native.Mathlib.Omega.{arith}
-use lib.ListN.{length}
+use lib.Dec.{eqb}
+use lib.ListN.{length, length-append}
+use borrow.Author.Tests.{ne-eqb}
 use Rattle.trees.specs.declared.Kind.{Kind}
-use Rattle.trees.specs.declared.Kind.the-variants.{Label as LabelByte, Open, Close, Comma, Semicolon, Other}
-use Rattle.trees.specs.Bytes.{isLabelByte, kindOf, openByte, closeByte, commaByte, semicolonByte}
-use Rattle.trees.specs.Label.{Label, looseLabels, allLabelBytes}
+use Rattle.trees.specs.declared.Kind.the-variants.{Label as LabelByte, Open, Close, Comma, Semicolon, Quote, Blank, Other}
+use Rattle.trees.specs.Bytes.{isLabelByte, isInnerByte, kindOf, openByte, closeByte, commaByte, semicolonByte, quoteByte}
+use Rattle.trees.specs.Token.{Token, allOf, looseLabel, looseLabels, quotedToken}
 use Rattle.trees.specs.Tree.{Tree, leaf, node, leaves}
 use Rattle.trees.specs.Text.{written, textOf}
 use Rattle.trees.specs.Faults.{Continues}
-use Rattle.newick.specs.ReadTree.{Opened, first, second, Phase, nodeDue, inLabel, afterNode, ended}
+use Rattle.newick.specs.ReadTree.{Opened, first, second, Phase, nodeDue, inLabel, inQuotes, afterNode, ended}
 use Rattle.newick.specs.Grammar.{TreeText}
 use Rattle.trees.proofs.Bools.{clash}
-use Rattle.trees.proofs.ListLaws.{loose-head, loose-cons, loose-none, loose-join, loose-split}
-use Rattle.trees.proofs.RawRuns.{Raw, on, halt, rawRun, raw-nil, raw-cons, raw-same, raw-label, stopped}
-use Rattle.trees.proofs.ReadingLaws.{KindView, is-label, is-open, is-close, is-comma, is-semicolon, is-other, kind-view, kind-label}
-use Rattle.trees.proofs.ReadingLaws.{close-plain, comma-plain, semicolon-plain}
+use Rattle.trees.proofs.ListLaws.{TokenView, bare, quoted, loose-view, loose-bare, loose-quoted, bytes-snoc, loose-head, loose-cons, loose-none}
+use Rattle.trees.proofs.ListLaws.{loose-join, loose-split}
+use Rattle.trees.proofs.TokenForms.{innerOf, soFar}
+use Rattle.trees.proofs.RawRuns.{Raw, on, halt, rawRun, raw-nil, raw-cons, raw-same, raw-bare, raw-quoted, stopped}
+use Rattle.trees.proofs.ReadingLaws.{KindView, is-label, kind-view, kind-label, kind-inner, Begun, plain-label, close-plain, comma-plain}
+use Rattle.trees.proofs.ReadingLaws.{semicolon-plain}
 use Rattle.trees.proofs.WrittenLaws.{written-node}
 
 -- a place in the text: the phase and the open `(`
@@ -38,22 +43,40 @@ rawAfter t (first ∷ stack) Comma = on (nodeDue, second t ∷ stack)
 rawAfter t (second a ∷ stack) Comma = halt
 rawAfter t [] Semicolon = on (ended t, [])
 rawAfter t (o ∷ stack) Semicolon = halt
+rawAfter t stack Quote = halt
+rawAfter t stack Blank = halt
 rawAfter t stack Other = halt
 
+-- a quote after an opening quote and the bytes x
+unfoldable pub rawClosing : List ℕ → List Opened → Raw Spot
+rawClosing x stack = cond (eqb (length x) 0) halt (on (afterNode (leaf (quotedToken x)), stack))
+
 unfoldable pub rawStep : Phase → List Opened → ℕ → Kind → Raw Spot
-unfolding rawAfter
+unfolding rawAfter rawClosing
 rawStep nodeDue stack b LabelByte = on (inLabel (b ∷ []), stack)
 rawStep nodeDue stack b Open = on (nodeDue, first ∷ stack)
 rawStep nodeDue stack b Close = halt
 rawStep nodeDue stack b Comma = halt
 rawStep nodeDue stack b Semicolon = halt
+rawStep nodeDue stack b Quote = on (inQuotes [], stack)
+rawStep nodeDue stack b Blank = halt
 rawStep nodeDue stack b Other = halt
 rawStep (inLabel x) stack b LabelByte = on (inLabel (x ++ (b ∷ [])), stack)
 rawStep (inLabel x) stack b Open = halt
 rawStep (inLabel x) stack b Close = rawAfter (leaf x) stack Close
 rawStep (inLabel x) stack b Comma = rawAfter (leaf x) stack Comma
 rawStep (inLabel x) stack b Semicolon = rawAfter (leaf x) stack Semicolon
+rawStep (inLabel x) stack b Quote = halt
+rawStep (inLabel x) stack b Blank = halt
 rawStep (inLabel x) stack b Other = halt
+rawStep (inQuotes x) stack b LabelByte = on (inQuotes (x ++ (b ∷ [])), stack)
+rawStep (inQuotes x) stack b Open = halt
+rawStep (inQuotes x) stack b Close = halt
+rawStep (inQuotes x) stack b Comma = halt
+rawStep (inQuotes x) stack b Semicolon = halt
+rawStep (inQuotes x) stack b Quote = rawClosing x stack
+rawStep (inQuotes x) stack b Blank = on (inQuotes (x ++ (b ∷ [])), stack)
+rawStep (inQuotes x) stack b Other = halt
 rawStep (afterNode t) stack b k = rawAfter t stack k
 rawStep (ended t) stack b k = halt
 
@@ -67,24 +90,47 @@ run p stack text = rawRun rawByte (p, stack) text
 abbrev pub rawText : List ℕ → Raw Spot
 rawText text = run nodeDue [] text
 
--- a label's text, from where a node is due, ends with a byte that is no label byte
-raw-leaf : (stack : List Opened) (x : Label) (c : ℕ) (rest : List ℕ) → 1 ≤ length x → allLabelBytes x ≡ true → isLabelByte c ≡ false
+-- a bare label's text, from where a node is due, ends with a byte that is no label byte
+bare-leaf : (stack : List Opened) (x : Token) (c : ℕ) (rest : List ℕ) → 1 ≤ length x → allOf isLabelByte x ≡ true → isLabelByte c ≡ false
     → run nodeDue stack (x ++ (c ∷ rest)) ≡ run (afterNode (leaf x)) stack (c ∷ rest)
 unfolding rawStep
-raw-leaf stack x c rest l h n =
-    raw-label rawByte (λ y. (inLabel y, stack)) (λ y b k. ap (rawStep (inLabel y) stack b) (kind-label b k)) (nodeDue, stack)
+bare-leaf stack x c rest l h n =
+    raw-bare rawByte (λ y. (inLabel y, stack)) (λ y b k. ap (rawStep (inLabel y) stack b) (kind-label b k)) (nodeDue, stack)
     (λ b k. ap (rawStep nodeDue stack b) (kind-label b k)) x (c ∷ rest) l h
     ∙ raw-same rawByte (inLabel x, stack) (afterNode (leaf x), stack) c rest (same (kindOf c) (kind-view c))
   where
     same : (k : Kind) → KindView c k → rawStep (inLabel x) stack c k ≡ rawStep (afterNode (leaf x)) stack c k
     same LabelByte (is-label l) = clash l n
-    same Open (is-open e l) = refl
-    same Close (is-close e l) = refl
-    same Comma (is-comma e l) = refl
-    same Semicolon (is-semicolon e l) = refl
-    same Other (is-other l) = refl
+    same Open v = refl
+    same Close v = refl
+    same Comma v = refl
+    same Semicolon v = refl
+    same Quote v = refl
+    same Blank v = refl
+    same Other v = refl
 
-pub written-leaf : (x : Label) → written (leaf x) ≡ x
+-- a label between quotes is read with its closing quote
+quoted-leaf : (stack : List Opened) (x rest : List ℕ) → 1 ≤ length x → allOf isInnerByte x ≡ true
+    → run nodeDue stack (quotedToken x ++ rest) ≡ run (afterNode (leaf (quotedToken x))) stack rest
+unfolding rawStep rawClosing kindOf
+quoted-leaf stack x rest l h =
+    raw-quoted rawByte (λ y. (inQuotes y, stack)) (λ y b k. grows y b (kind-inner b k)) (nodeDue, stack)
+    (afterNode (leaf (quotedToken x)), stack) x rest refl (rw (ne-eqb (length x) 0 (λ (e : length x ≡ 0). omega arith)) refl) h
+  where
+    grows : (y : List ℕ) (b : ℕ) → (kindOf b ≡ LabelByte) ⊎ (kindOf b ≡ Blank)
+        → rawStep (inQuotes y) stack b (kindOf b) ≡ on (inQuotes (y ++ (b ∷ [])), stack)
+    grows y b (inl e) = ap (rawStep (inQuotes y) stack b) e
+    grows y b (inr e) = ap (rawStep (inQuotes y) stack b) e
+
+raw-leaf : (stack : List Opened) (x : Token) (c : ℕ) (rest : List ℕ) → looseLabel x ≡ true → isLabelByte c ≡ false
+    → run nodeDue stack (x ++ (c ∷ rest)) ≡ run (afterNode (leaf x)) stack (c ∷ rest)
+raw-leaf stack x c rest h n = go x (loose-view x h)
+  where
+    go : (y : Token) → TokenView y → run nodeDue stack (y ++ (c ∷ rest)) ≡ run (afterNode (leaf y)) stack (c ∷ rest)
+    go y (bare y′ l k) = bare-leaf stack y c rest l k n
+    go y (quoted z l k) = quoted-leaf stack z (c ∷ rest) l k
+
+pub written-leaf : (x : Token) → written (leaf x) ≡ x
 unfolding written
 written-leaf x = refl
 
@@ -94,20 +140,22 @@ raw-node : (t : Tree) (stack : List Opened) (c : ℕ) (rest : List ℕ) → loos
 unfolding leaves rawStep kindOf
 raw-node (leaf x) stack c rest h n =
     ap (λ (w : List ℕ). run nodeDue stack (w ++ (c ∷ rest))) (written-leaf x)
-    ∙ raw-leaf stack x c rest (loose-head x [] h .0) (loose-head x [] h .1) n
+    ∙ raw-leaf stack x c rest (loose-head x [] h .0) n
 raw-node (node a b) stack c rest h n =
     ap (run nodeDue stack) (written-node a b (c ∷ rest))
     ∙ raw-cons rawByte (nodeDue, stack) (nodeDue, first ∷ stack) openByte (written a ++ (commaByte ∷ (written b ++ (closeByte ∷ (c ∷ rest))))) refl
-    ∙ raw-node a (first ∷ stack) commaByte (written b ++ (closeByte ∷ (c ∷ rest))) (loose-split (leaves a) (leaves b) h .0) comma-plain
+    ∙ raw-node a (first ∷ stack) commaByte (written b ++ (closeByte ∷ (c ∷ rest))) (loose-split (leaves a) (leaves b) h .0)
+    (plain-label commaByte comma-plain)
     ∙ raw-cons rawByte (afterNode a, first ∷ stack) (nodeDue, second a ∷ stack) commaByte (written b ++ (closeByte ∷ (c ∷ rest))) refl
-    ∙ raw-node b (second a ∷ stack) closeByte (c ∷ rest) (loose-split (leaves a) (leaves b) h .1) close-plain
+    ∙ raw-node b (second a ∷ stack) closeByte (c ∷ rest) (loose-split (leaves a) (leaves b) h .1) (plain-label closeByte close-plain)
     ∙ raw-cons rawByte (afterNode b, second a ∷ stack) (afterNode (node a b), stack) closeByte (c ∷ rest) refl
 
 -- a text of the grammar is read to its end
 pub raw-text : (t : Tree) → looseLabels (leaves t) ≡ true → rawText (textOf t) ≡ on (ended t, [])
 unfolding textOf rawStep kindOf
 raw-text t h =
-    raw-node t [] semicolonByte [] h semicolon-plain ∙ raw-cons rawByte (afterNode t, []) (ended t, []) semicolonByte [] refl
+    raw-node t [] semicolonByte [] h (plain-label semicolonByte semicolon-plain)
+    ∙ raw-cons rawByte (afterNode t, []) (ended t, []) semicolonByte [] refl
     ∙ raw-nil rawByte (ended t, [])
 
 -- and where the reading stopped, no text of the grammar goes on
@@ -120,7 +168,7 @@ stackText [] = []
 stackText (first ∷ stack) = stackText stack ++ (openByte ∷ [])
 stackText (second a ∷ stack) = stackText stack ++ (openByte ∷ (written a ++ (commaByte ∷ [])))
 
-abbrev pub stackLabels : List Opened → List Label
+abbrev pub stackLabels : List Opened → List Token
 stackLabels [] = []
 stackLabels (first ∷ stack) = stackLabels stack
 stackLabels (second a ∷ stack) = stackLabels stack ++ leaves a
@@ -144,7 +192,7 @@ closed-text (second a ∷ stack) t = simp append-assoc (simp append-assoc at (cl
 
 closed-loose : (stack : List Opened) (t : Tree) → looseLabels (stackLabels stack) ≡ true → looseLabels (leaves t) ≡ true
     → looseLabels (leaves (closed t stack)) ≡ true
-unfolding closed leaves looseLabels allLabelBytes isLabelByte
+unfolding closed leaves looseLabels looseLabel allOf isLabelByte
 closed-loose [] t h k = k
 closed-loose (first ∷ stack) t h k =
     closed-loose stack (node t (leaf (97 ∷ []))) h (loose-join (leaves t) ((97 ∷ []) ∷ []) k refl)
@@ -156,12 +204,34 @@ pub after-continues : (stack : List Opened) (t : Tree) → looseLabels (stackLab
     → Continues TreeText (stackText stack ++ written t)
 after-continues stack t h k = (closing stack, (closed t stack, closed-loose stack t h k, closed-text stack t))
 
-pub label-continues : (stack : List Opened) (x : Label) → looseLabels (stackLabels stack) ≡ true → 1 ≤ length x → allLabelBytes x ≡ true
+pub label-continues : (stack : List Opened) (x : Token) → looseLabels (stackLabels stack) ≡ true → looseLabel x ≡ true
     → Continues TreeText (stackText stack ++ x)
 unfolding written leaves
-label-continues stack x h l k = after-continues stack (leaf x) h (loose-cons x [] l k loose-none)
+label-continues stack x h k = after-continues stack (leaf x) h (loose-cons x [] k loose-none)
+
+-- a text with something after it can be continued
+less-continues : (p q : List ℕ) → Continues TreeText (p ++ q) → Continues TreeText p
+less-continues p q c = (q ++ c .0, subst TreeText (append-assoc p q (c .0)) (c .1))
 
 pub due-continues : (stack : List Opened) → looseLabels (stackLabels stack) ≡ true → Continues TreeText (stackText stack)
-unfolding allLabelBytes isLabelByte
-due-continues stack h =
-    let c = label-continues stack (97 ∷ []) h (omega arith) refl in ((97 ∷ []) ++ c .0, subst TreeText (append-assoc (stackText stack) (97 ∷ []) (c .0)) (c .1))
+unfolding looseLabel allOf isLabelByte
+due-continues stack h = less-continues (stackText stack) (97 ∷ []) (label-continues stack (97 ∷ []) h refl)
+
+-- after an opening quote one byte more, if there is none, and a quote
+pub quotes-continues : (stack : List Opened) (x : List ℕ) → looseLabels (stackLabels stack) ≡ true → allOf isInnerByte x ≡ true
+    → Continues TreeText (stackText stack ++ (quoteByte ∷ x))
+unfolding isInnerByte isLabelByte
+quotes-continues stack x h k =
+    less-continues (stackText stack ++ (quoteByte ∷ x)) (97 ∷ (quoteByte ∷ []))
+    (subst (Continues TreeText) longer
+    (label-continues stack (quotedToken (x ++ (97 ∷ []))) h
+    (loose-quoted (x ++ (97 ∷ [])) (omega (arith, length-append x (97 ∷ []))) (bytes-snoc isInnerByte x 97 k refl))))
+  where
+    longer : stackText stack ++ quotedToken (x ++ (97 ∷ [])) ≡ (stackText stack ++ (quoteByte ∷ x)) ++ (97 ∷ (quoteByte ∷ []))
+    longer = simp append-assoc
+
+-- so with a token of either form that is not complete
+pub inside-continues : (q : Bool) (stack : List Opened) (x : List ℕ) → looseLabels (stackLabels stack) ≡ true → Begun q x
+    → allOf (innerOf q) x ≡ true → Continues TreeText (stackText stack ++ soFar q x)
+inside-continues true stack x h s k = quotes-continues stack x h k
+inside-continues false stack x h s k = label-continues stack x h (loose-bare x s k)

@@ -10,7 +10,7 @@ use Rattle.trees.specs.Label.{Label}
 use Rattle.trees.specs.Tree.{Tree, leaf, node}
 use Rattle.trees.specs.Text.{written}
 use Rattle.trees.specs.Arrays.{nodesOf, lefts, rights, starts, sizes, padded, nodeLimit}
-use Rattle.newick.specs.ReadTree.{Opened, first, second, Phase, nodeDue, inLabel, afterNode, ended}
+use Rattle.newick.specs.ReadTree.{Opened, first, second, Phase, nodeDue, inLabel, inQuotes, afterNode, ended}
 use Rattle.newick.proofs.OpenNodes.{textIn, nodesIn, second-place}
 use Rattle.newick.proofs.Entries.{stored, kept}
 
@@ -64,6 +64,7 @@ unfoldable pub filled : Column → List Opened → Phase → List ℕ
 unfolding columnIn
 filled f s nodeDue = columnIn f s
 filled f s (inLabel x) = columnIn f s
+filled f s (inQuotes x) = columnIn f s
 filled f s (afterNode t) = columnIn f s ++ f t (nodesIn s) (length (textIn s))
 filled f s (ended t) = columnIn f s ++ f t (nodesIn s) (length (textIn s))
 
@@ -150,7 +151,7 @@ refilled h C =
     }
 
 module _ {s : List Opened} {l r p z : List ℕ} where
-  pub leaf-columns : {x : Label} (n : ℕ) → Columns s (inLabel x) l r p z → n ≡ nodesIn s → n < nodeLimit
+  pub leaf-columns : {x : Label} (n : ℕ) → Columns s nodeDue l r p z → n ≡ nodesIn s → n < nodeLimit
       → Columns s (afterNode (leaf x)) (set l n n) (set r n n) (set p n (length (textIn s))) (set z n (length x))
   unfolding filled
   leaf-columns {x = x} n C e h =

@@ -3,21 +3,22 @@
 use Prim.Native.Nat.{ℕ, _+_, _-_, _≤_, _<_}
 use mathlib.Core.Path.{_≡_, refl, ap, sym, _∙_}
 use mathlib.Core.Bool.{true}
-use mathlib.Core.List.{List, [], _∷_, _++_, append-assoc}
+use mathlib.Core.List.{List, [], _∷_, _++_, map, append-assoc, map-append}
 use native.Mathlib.Omega.{arith}
 use lib.ListN.{length, getD, set, length-append, length-set}
 use lib.Seq.{getD-set-same, getD-set-other}
-use Rattle.trees.specs.Bytes.{isLabelByte, openByte, closeByte, commaByte, semicolonByte}
-use Rattle.trees.specs.Label.{Label, labelLimit, allLabelBytes}
+use Rattle.trees.specs.Bytes.{isLabelByte, isInnerByte, openByte, closeByte, commaByte, semicolonByte, quoteByte}
+use Rattle.trees.specs.Label.{Label, labelLimit}
+use Rattle.trees.specs.Token.{Token, spelling, allOf, allLabelBytes, allInnerBytes, quotedToken}
 use Rattle.trees.specs.Tree.{Tree, leaf, node, leaves}
 use Rattle.trees.specs.Text.{written, textOf}
 use Rattle.trees.specs.Arrays.{nodesOf, nodeLimit}
-use Rattle.trees.proofs.ListLaws.{bytes-snoc}
+use Rattle.trees.proofs.ListLaws.{bytes-one, bytes-snoc}
 use Rattle.trees.proofs.ArrayLaws.{nodes-pos, node-length}
 use Rattle.newick.specs.declared.Mode.{Mode}
-use Rattle.newick.specs.declared.Mode.the-variants.{Due, Inside, After, Done}
+use Rattle.newick.specs.declared.Mode.the-variants.{Due, Inside, Quoted, After, Done}
 use Rattle.newick.specs.declared.Scan.{Scan}
-use Rattle.newick.specs.ReadTree.{Opened, first, second, Phase, nodeDue, inLabel, afterNode, ended}
+use Rattle.newick.specs.ReadTree.{Opened, first, second, Phase, nodeDue, inLabel, inQuotes, afterNode, ended}
 use Rattle.newick.specs.Machine.{openLimit, Arrays, arrays, scan, leafScan, leafArrays}
 use Rattle.newick.proofs.OpenNodes.{inner, nodes-inner, textIn, nodesIn, leavesIn, opensIn, second-place, nodes-bound}
 use Rattle.newick.proofs.OpenNodes.{depth-bound, heading, opensHere, nodesHere, labelsBy}
@@ -53,6 +54,7 @@ abbrev pub ModeIs : Phase → List Opened → Mode → Type 0
 ModeIs nodeDue s m = m ≡ Due
 ModeIs (inLabel x) s m =
     (m ≡ Inside (length (textIn s)) (length x)) × (allLabelBytes x ≡ true) × (1 ≤ length x) × (length x ≤ labelLimit)
+ModeIs (inQuotes x) s m = (m ≡ Quoted (length (textIn s)) (length x)) × (allInnerBytes x ≡ true) × (length x ≤ labelLimit)
 ModeIs (afterNode t) s m = m ≡ After (nodesIn s + nodesOf t - 1)
 ModeIs (ended t) s m = (m ≡ Done) × (s ≡ [])
 
@@ -62,17 +64,37 @@ pub record Follows (text : List ℕ) (ph : Phase) (s : List Opened) (seen : List
   pub parted : text ≡ textIn s ++ (heading ph ++ rest)
   pub place : i ≡ length (textIn s) + length (heading ph)
   pub counts : Counts s (opensHere ph) (nodesHere ph) (st .depth) (st .opens) (st .nodes)
-  pub labels : seen ≡ labelsBy s ph
+  pub labels : seen ≡ map spelling (labelsBy s ph)
   pub columns : Columns s ph (a .left) (a .right) (a .start) (a .size)
   pub stack : Stacked s (a .stack)
   pub mode : ModeIs ph s (st .mode)
 
+-- a label that is complete at place j, with `post` to come, is a leaf
+leaf-at : (text : List ℕ) (s : List Opened) (seen : List Label) (st : Scan) (a : Arrays) (x : Token) (j : ℕ) (post : List ℕ)
+    → text ≡ textIn s ++ (x ++ post) → j ≡ length (textIn s) + length x
+    → Counts s 0 0 (st .depth) (st .opens) (st .nodes) → seen ≡ map spelling (leavesIn s)
+    → Columns s nodeDue (a .left) (a .right) (a .start) (a .size) → Stacked s (a .stack)
+    → Follows text (afterNode (leaf x)) s (seen ++ (spelling x ∷ [])) (leafScan st) (leafArrays st a (length (textIn s)) (length x)) j post
+unfolding written nodesOf leaves inner
+leaf-at text s seen st a x j post ep ej C el ec es =
+    let e : st .nodes ≡ nodesIn s = omega (arith, C .nodes) in
+    let room : st .nodes < nodeLimit = omega (arith, C .nodes, C .opens, C .few, nodes-bound s) in
+    record {
+      parted = ep;
+      place = ej;
+      counts = record { depth = C .depth; opens = C .opens; few = C .few; nodes = omega (arith, C .nodes) };
+      labels = ap (λ (l : List Label). l ++ (spelling x ∷ [])) el ∙ sym (map-append spelling (leavesIn s) (x ∷ []));
+      columns = leaf-columns (st .nodes) ec e room;
+      stack = es;
+      mode = ap After (omega (arith, e));
+    }
+
 module _ {text : List ℕ} {s : List Opened} {seen : List Label} {st : Scan} {a : Arrays} {i : ℕ} {rest : List ℕ} where
-  -- a label begins
+  -- a bare label begins
   pub begin-follows : {b : ℕ} → isLabelByte b ≡ true → Follows text nodeDue s seen st a i (b ∷ rest)
       → Follows text (inLabel (b ∷ [])) s seen (scan (Inside i 1) (st .depth) (st .opens) (st .nodes)) a (i + 1) rest
-  unfolding filled allLabelBytes
-  begin-follows h F =
+  unfolding filled
+  begin-follows {b = b} h F =
       record {
         parted = F .parted;
         place = omega (arith, F .place);
@@ -80,7 +102,22 @@ module _ {text : List ℕ} {s : List Opened} {seen : List Label} {st : Scan} {a 
         labels = F .labels;
         columns = refilled (λ (f : Column). refl) (F .columns);
         stack = F .stack;
-        mode = (ap (λ (p : ℕ). Inside p 1) (omega (arith, F .place)), rw h refl, omega arith, omega arith);
+        mode = (ap (λ (p : ℕ). Inside p 1) (omega (arith, F .place)), bytes-one isLabelByte b h, omega arith, omega arith);
+      }
+
+  -- a label between quotes begins
+  pub quote-follows : {b : ℕ} → b ≡ quoteByte → Follows text nodeDue s seen st a i (b ∷ rest)
+      → Follows text (inQuotes []) s seen (scan (Quoted i 0) (st .depth) (st .opens) (st .nodes)) a (i + 1) rest
+  unfolding filled allOf
+  quote-follows e F =
+      record {
+        parted = F .parted ∙ ap (λ (c : ℕ). textIn s ++ (c ∷ rest)) e;
+        place = omega (arith, F .place);
+        counts = F .counts;
+        labels = F .labels;
+        columns = refilled (λ (f : Column). refl) (F .columns);
+        stack = F .stack;
+        mode = (ap (λ (p : ℕ). Quoted p 0) (omega (arith, F .place)), refl, omega arith);
       }
 
   -- a label goes on
@@ -97,26 +134,45 @@ module _ {text : List ℕ} {s : List Opened} {seen : List Label} {st : Scan} {a 
         labels = F .labels;
         columns = refilled (λ (f : Column). refl) (F .columns);
         stack = F .stack;
-        mode = (ap (Inside (length (textIn s))) (sym more), bytes-snoc x b (F .mode .1) h, omega (arith, more), omega (arith, more, l));
+        mode = (ap (Inside (length (textIn s))) (sym more), bytes-snoc isLabelByte x b (F .mode .1) h, omega (arith, more), omega (arith, more, l));
       }
 
-  -- a label that ends is a leaf
-  pub leaf-follows : {x : Label} → Follows text (inLabel x) s seen st a i rest
-      → Follows text (afterNode (leaf x)) s (seen ++ (x ∷ [])) (leafScan st) (leafArrays st a (length (textIn s)) (length x)) i rest
-  unfolding written nodesOf leaves inner
-  leaf-follows {x = x} F =
-      let C = F .counts in
-      let e : st .nodes ≡ nodesIn s = omega (arith, C .nodes) in
-      let room : st .nodes < nodeLimit = omega (arith, C .nodes, C .opens, C .few, nodes-bound s) in
+  -- so does one between quotes
+  pub inner-follows : {x : List ℕ} {b : ℕ} → isInnerByte b ≡ true → length x < labelLimit → Follows text (inQuotes x) s seen st a i (b ∷ rest)
+      → Follows text (inQuotes (x ++ (b ∷ []))) s seen
+      (scan (Quoted (length (textIn s)) (length x + 1)) (st .depth) (st .opens) (st .nodes)) a (i + 1) rest
+  unfolding filled
+  inner-follows {x = x} {b = b} h l F =
+      let more : length (x ++ (b ∷ [])) ≡ length x + 1 = length-append x (b ∷ []) in
       record {
-        parted = F .parted;
-        place = F .place;
-        counts = record { depth = C .depth; opens = C .opens; few = C .few; nodes = omega (arith, C .nodes) };
-        labels = ap (λ (l : List Label). l ++ (x ∷ [])) (F .labels);
-        columns = leaf-columns (st .nodes) (F .columns) e room;
+        parted = F .parted ∙ ap (λ (r : List ℕ). textIn s ++ (quoteByte ∷ r)) (sym (append-assoc x (b ∷ []) rest));
+        place = omega (arith, F .place, more);
+        counts = F .counts;
+        labels = F .labels;
+        columns = refilled (λ (f : Column). refl) (F .columns);
         stack = F .stack;
-        mode = ap After (omega (arith, e));
+        mode = (ap (Quoted (length (textIn s))) (sym more), bytes-snoc isInnerByte x b (F .mode .1) h, omega (arith, more, l));
       }
+
+  -- a bare label ends before the byte at i
+  pub leaf-follows : {x : Token} → Follows text (inLabel x) s seen st a i rest
+      → Follows text (afterNode (leaf x)) s (seen ++ (spelling x ∷ [])) (leafScan st) (leafArrays st a (length (textIn s)) (length x)) i rest
+  unfolding filled
+  leaf-follows F =
+      leaf-at text s seen st a _ i rest (F .parted) (F .place) (F .counts) (F .labels) (refilled (λ (f : Column). refl) (F .columns)) (F .stack)
+
+  -- one between quotes with the quote at i
+  pub closing-follows : {x : List ℕ} {b : ℕ} → b ≡ quoteByte → Follows text (inQuotes x) s seen st a i (b ∷ rest)
+      → Follows text (afterNode (leaf (quotedToken x))) s (seen ++ (spelling (quotedToken x) ∷ [])) (leafScan st)
+      (leafArrays st a (length (textIn s)) (length x + 2)) (i + 1) rest
+  unfolding filled
+  closing-follows {x = x} {b = b} e F =
+      let size : length (quotedToken x) ≡ length x + 2 = omega (arith, length-append x (quoteByte ∷ [])) in
+      rw (← size)
+      (leaf-at text s seen st a (quotedToken x) (i + 1) rest
+      (F .parted ∙ ap (λ (c : ℕ). textIn s ++ (quoteByte ∷ (x ++ (c ∷ rest)))) e
+      ∙ ap (λ (r : List ℕ). textIn s ++ (quoteByte ∷ r)) (sym (append-assoc x (quoteByte ∷ []) rest)))
+      (omega (arith, F .place, size)) (F .counts) (F .labels) (refilled (λ (f : Column). refl) (F .columns)) (F .stack))
 
   -- `(` begins a node
   pub open-follows : {b : ℕ} → b ≡ openByte → st .opens < openLimit → Follows text nodeDue s seen st a i (b ∷ rest)
@@ -182,7 +238,7 @@ module _ {text : List ℕ} {s : List Opened} {seen : List Label} {st : Scan} {a 
         parted = F .parted ∙ rw eb (simp append-assoc);
         place = omega (arith, F .place, second-place c s, node-length c t);
         counts = record { depth = d; opens = omega (arith, C .opens); few = C .few; nodes = omega (arith, C .nodes) };
-        labels = F .labels ∙ append-assoc (leavesIn s) (leaves c) (leaves t);
+        labels = F .labels ∙ ap (map spelling) (append-assoc (leavesIn s) (leaves c) (leaves t));
         columns = node-columns (st .nodes) (getD (a .stack) (st .depth - 1) 0) (F .columns) (C .nodes) room (rw d (F .stack .holds .0));
         stack = record { wide = F .stack .wide; holds = F .stack .holds .1 };
         mode = ap After (omega (arith, C .nodes, nodes-pos t));

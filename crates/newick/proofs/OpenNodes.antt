@@ -5,12 +5,12 @@ use mathlib.Core.Path.{_≡_, refl}
 use mathlib.Core.List.{List, [], _∷_, _++_}
 use native.Mathlib.Omega.{arith}
 use lib.ListN.{length, length-append}
-use Rattle.trees.specs.Bytes.{openByte, commaByte}
+use Rattle.trees.specs.Bytes.{openByte, commaByte, quoteByte}
 use Rattle.trees.specs.Label.{Label}
 use Rattle.trees.specs.Tree.{Tree, leaf, node, leaves}
 use Rattle.trees.specs.Text.{written, textOf}
 use Rattle.trees.specs.Arrays.{nodesOf}
-use Rattle.newick.specs.ReadTree.{Opened, first, second, Phase, nodeDue, inLabel, afterNode, ended}
+use Rattle.newick.specs.ReadTree.{Opened, first, second, Phase, nodeDue, inLabel, inQuotes, afterNode, ended}
 
 -- the `(` of a tree
 unfoldable pub inner : Tree → ℕ
@@ -71,24 +71,28 @@ depth-bound (second t ∷ s) = omega (arith, depth-bound s)
 abbrev pub heading : Phase → List ℕ
 heading nodeDue = []
 heading (inLabel x) = x
+heading (inQuotes x) = quoteByte ∷ x
 heading (afterNode t) = written t
 heading (ended t) = textOf t
 
 abbrev pub opensHere : Phase → ℕ
 opensHere nodeDue = 0
 opensHere (inLabel x) = 0
+opensHere (inQuotes x) = 0
 opensHere (afterNode t) = inner t
 opensHere (ended t) = inner t
 
 abbrev pub nodesHere : Phase → ℕ
 nodesHere nodeDue = 0
 nodesHere (inLabel x) = 0
+nodesHere (inQuotes x) = 0
 nodesHere (afterNode t) = nodesOf t
 nodesHere (ended t) = nodesOf t
 
--- the labels that are complete
+-- the labels that are complete, as they stand in the text
 abbrev pub labelsBy : List Opened → Phase → List Label
 labelsBy s nodeDue = leavesIn s
 labelsBy s (inLabel x) = leavesIn s
+labelsBy s (inQuotes x) = leavesIn s
 labelsBy s (afterNode t) = leavesIn s ++ leaves t
 labelsBy s (ended t) = leavesIn s ++ leaves t

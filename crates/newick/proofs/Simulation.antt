@@ -12,19 +12,21 @@ use Rattle.trees.specs.declared.Reason.{Reason}
 use Rattle.trees.specs.declared.Reason.the-variants.{EndsTooSoon, Repeated}
 use Rattle.trees.specs.declared.Body.{Body}
 use Rattle.trees.specs.declared.Refusal.{Refusal}
-use Rattle.trees.specs.Bytes.{kindOf}
+use Rattle.trees.specs.Bytes.{isLabelByte, isInnerByte, kindOf}
 use Rattle.trees.specs.Label.{Label, isIn}
+use Rattle.trees.specs.Token.{spelling}
 use Rattle.trees.specs.Tree.{Tree, leaves}
-use Rattle.trees.specs.Reading.{good, refused, labelRun}
+use Rattle.trees.specs.Reading.{good, refused}
 use Rattle.trees.specs.Arrays.{nodesOf, nodeLimit, arraysOf}
-use Rattle.trees.proofs.ReadingLaws.{repeats-ended}
+use Rattle.trees.proofs.ReadingLaws.{run-end, none-first, repeats-unclosed}
 use Rattle.newick.specs.declared.Mode.the-variants.{Due}
 use Rattle.newick.specs.declared.Scan.{Scan}
 use Rattle.newick.specs.declared.Move.{Move}
 use Rattle.newick.specs.declared.Move.the-variants.{On, Stop}
 use Rattle.newick.specs.declared.TreeAnswer.{TreeAnswer}
 use Rattle.newick.specs.declared.TreeAnswer.the-variants.{Leaves, Refused}
-use Rattle.newick.specs.ReadTree.{Opened, Phase, nodeDue, inLabel, afterNode, ended, readFrom, endOf, readTree, treeRead}
+use Rattle.newick.specs.ReadTree.{Opened, Phase, nodeDue, inLabel, inQuotes, afterNode, ended, readFrom, endOf}
+use Rattle.newick.specs.ReadTree.{readTree, treeRead}
 use Rattle.newick.specs.Machine.{openLimit, Arrays, arrays, Outcome, outcome, scan, moveOf, answerOf, refusal, turnedDown}
 use Rattle.newick.specs.Machine.{withArrays, Room, Ready}
 use Rattle.newick.proofs.MachineLaws.{ready-as, answer-as}
@@ -32,7 +34,7 @@ use Rattle.newick.proofs.OpenNodes.{nodes-inner, leaves-inner, textIn, 
 use Rattle.newick.proofs.OpenNodes.{depth-bound}
 use Rattle.newick.proofs.Columns.{columnIn, filled}
 use Rattle.newick.proofs.Following.{Follows}
-use Rattle.newick.proofs.Moves.{Follower, Leads, expected, moves, leads-as, seen-before}
+use Rattle.newick.proofs.Moves.{Follower, Leads, expected, moves, leads-as, seen-before, told-bare}
 
 -- the machine stands where the reading of this text does
 abbrev pub Simulates : List ℕ → Scan → Arrays → ℕ → Type 0
@@ -71,6 +73,9 @@ ready-by nodeDue {st = st} F r = ready-as st (sym (F .mode)) r
 ready-by (inLabel x) {s = s} {st = st} F r =
     let C = F .counts in
     ready-as st (sym (F .mode .0)) (r, omega (arith, C .nodes, C .depth, C .opens, nodes-bound s))
+ready-by (inQuotes x) {s = s} {st = st} F r =
+    let C = F .counts in
+    ready-as st (sym (F .mode .0)) (r, omega (arith, C .nodes, C .depth, C .opens, nodes-bound s), F .mode .2)
 ready-by (afterNode t) {s = s} {st = st} F r =
     let C = F .counts in
     ready-as st (sym (F .mode)) (
@@ -136,18 +141,21 @@ good-so body {t = t} {st = st} F e =
 ends-by : {text : List ℕ} (body : Body) (ph : Phase) {s : List Opened} {seen : List Label} {st : Scan} {a : Arrays} {i : ℕ}
     → Follows text ph s seen st a i [] → i ≡ length text → expected ph s seen st i [] ≡ readTree text
     → Ends text body st a (answerOf (st .mode) text body st (a .start) (a .size))
-unfolding answerOf readFrom endOf labelRun
+unfolding answerOf readFrom endOf
 ends-by {text = text} body nodeDue {st = st} {a = a} F l e =
     subst (Ends text body st a) (sym (answer-as text body st (a .start) (a .size) (F .mode)))
     (refused-so text body EndsTooSoon (length text) (rw (← l) e))
 ends-by {text = text} body (inLabel x) {s = s} {seen = seen} {st = st} {a = a} {i = i} F l e =
     subst (Ends text body st a) (sym (answer-as text body st (a .start) (a .size) (F .mode .0)))
-    (rw (seen-before F) (go (isIn x seen) (rw (repeats-ended seen x [] (F .mode .1) (F .mode .3) refl) at e)))
+    (rw (seen-before F) (go (isIn (spelling x) seen) (rw (told-bare F (run-end isLabelByte)) at e)))
   where
     go : (q : Bool) → cond q (refused Repeated (length (textIn s))) (refused EndsTooSoon i) ≡ readTree text
         → Ends text body st a (cond q (refusal body Repeated (length (textIn s))) (refusal body EndsTooSoon (length text)))
     go true h = refused-so text body Repeated (length (textIn s)) h
     go false h = refused-so text body EndsTooSoon (length text) (rw (← l) h)
+ends-by {text = text} body (inQuotes x) {seen = seen} {st = st} {a = a} F l e =
+    subst (Ends text body st a) (sym (answer-as text body st (a .start) (a .size) (F .mode .0)))
+    (refused-so text body EndsTooSoon (length text) (rw (← l) (rw (repeats-unclosed seen x [] (F .mode .1) (run-end isInnerByte) none-first) at e)))
 ends-by {text = text} body (afterNode t) {st = st} {a = a} F l e =
     subst (Ends text body st a) (sym (answer-as text body st (a .start) (a .size) (F .mode)))
     (refused-so text body EndsTooSoon (length text) (rw (← l) e))

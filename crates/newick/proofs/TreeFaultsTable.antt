@@ -1,20 +1,21 @@
--- What the reader says of a tree text, case by case, and the examples of the scope paper's table. Assumes nothing.
+-- What the reader says of a tree text, case by case, and the examples of the papers. Assumes nothing.
 use Prim.Native.Nat.{ℕ}
 use mathlib.Core.Path.{_≡_, refl, ap}
 use mathlib.Core.List.{List}
 use lib.ListN.{length}
 use Rattle.trees.specs.declared.Reason.{Reason}
 use Rattle.trees.specs.declared.Body.{Body}
-use Rattle.trees.specs.Bytes.{kindOf}
+use Rattle.trees.specs.Bytes.{isInnerByte, kindOf}
 use Rattle.trees.specs.Words.{bytesOf}
 use Rattle.trees.specs.Label.{isIn, sameLabel}
+use Rattle.trees.specs.Token.{spelling}
 use Rattle.trees.specs.Tree.{Tree, leaves, Valid}
 use Rattle.trees.specs.Text.{textOf}
 use Rattle.trees.specs.Reading.{Reading, good, refused, repeats}
 use Rattle.trees.specs.Refusals.{numberOf, letterOf, value, row, rowOf}
 use Rattle.newick.specs.ReadTree.{readTree, treeRead}
 use Rattle.newick.specs.Grammar.{TreeFault}
-use Rattle.newick.specs.TreeSays.{treeSays, saysOf, TableRows}
+use Rattle.newick.specs.TreeSays.{treeSays, saysOf, TableRows, QuotedRows}
 use Rattle.newick.proofs.Accepts.{reads}
 use Rattle.newick.proofs.TreeFaults.{fault-refused}
 
@@ -33,5 +34,10 @@ unfolding treeSays treeRead rowOf
 says-fault body text r i f = says-read body text (refused r i) (fault-refused text r i f)
 
 pub table-rows : TableRows
-unfolding saysOf readTree treeSays kindOf repeats isIn sameLabel bytesOf numberOf letterOf
+unfolding saysOf readTree treeSays kindOf isInnerByte spelling repeats isIn sameLabel bytesOf numberOf letterOf
 table-rows = record { blank = refl; no-semicolon = refl; no-bytes = refl; seventeen = refl; eighty = refl; twice = refl }
+
+pub quoted-rows : QuotedRows
+unfolding saysOf readTree treeSays kindOf isInnerByte spelling repeats isIn sameLabel bytesOf numberOf letterOf leaves
+quoted-rows =
+    record { nothing-quoted = refl; one-label = refl; other-label = refl; seventeen = refl; wrong-byte = refl; unclosed = refl }

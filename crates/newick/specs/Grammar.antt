@@ -7,12 +7,12 @@ use mathlib.Core.List.{List}
 use lib.ListN.{getD, take}
 use Rattle.trees.specs.declared.Reason.{Reason}
 use Rattle.trees.specs.Bytes.{openByte}
-use Rattle.trees.specs.Label.{looseLabels}
+use Rattle.trees.specs.Token.{looseLabels}
 use Rattle.trees.specs.Tree.{Tree, leaves, leafLimit}
 use Rattle.trees.specs.Text.{textOf}
 use Rattle.trees.specs.Faults.{Continues, FirstFault, occurrences}
 
--- a text of the grammar, limits and repeats left aside
+-- a text of the grammar, limits and repeats left aside: each label bare, or between quotes (C-12)
 abbrev pub TreeText : List ℕ → Type 0
 TreeText text = (t : Tree) × (looseLabels (leaves t) ≡ true) × (text ≡ textOf t)
 

@@ -6,7 +6,7 @@ use mathlib.Core.List.{List}
 use lib.Dec.{eqb, ltb}
 use lib.ListN.{length, getD, set}
 use Rattle.trees.specs.declared.Kind.{Kind}
-use Rattle.trees.specs.declared.Kind.the-variants.{Label as LabelByte, Open, Close, Comma, Semicolon, Other}
+use Rattle.trees.specs.declared.Kind.the-variants.{Label as LabelByte, Open, Close, Comma, Semicolon, Quote, Blank, Other}
 use Rattle.trees.specs.declared.Reason.{Reason}
 use Rattle.trees.specs.declared.Reason.the-variants.{BadByte, EndsTooSoon, LabelTooLong, TooMany, Repeated}
 use Rattle.trees.specs.declared.Body.{Body}
@@ -15,7 +15,7 @@ use Rattle.trees.specs.Tree.{leafLimit}
 use Rattle.trees.specs.Arrays.{noArrays, nodeLimit}
 use Rattle.trees.specs.Stored.{partOf, isAmong}
 use Rattle.newick.specs.declared.Mode.{Mode}
-use Rattle.newick.specs.declared.Mode.the-variants.{Due, Inside, After, Done}
+use Rattle.newick.specs.declared.Mode.the-variants.{Due, Inside, Quoted, After, Done}
 use Rattle.newick.specs.declared.Scan.{Scan}
 use Rattle.newick.specs.declared.Move.{Move}
 use Rattle.newick.specs.declared.Move.the-variants.{On, Stop}
@@ -50,7 +50,7 @@ outcome (Stop r i) a = halt r i
 abbrev pub scan : Mode → ℕ → ℕ → ℕ → Scan
 scan m depth opens nodes = record { mode = m; depth = depth; opens = opens; nodes = nodes }
 
--- one of the first n nodes is a leaf with the label of `len` bytes from `first`
+-- one of the first n nodes is a leaf whose label is that of the `len` bytes from `first`
 unfoldable pub repeatOf : List ℕ → (start size : List ℕ) → ℕ → (first len : ℕ) → Bool
 repeatOf text start size n first len = isAmong text start size n (partOf first len text)
 
@@ -65,6 +65,8 @@ dueOf st a i Open =
 dueOf st a i Close = halt BadByte i
 dueOf st a i Comma = halt BadByte i
 dueOf st a i Semicolon = halt BadByte i
+dueOf st a i Quote = on (scan (Quoted i 0) (st .depth) (st .opens) (st .nodes)) a
+dueOf st a i Blank = halt BadByte i
 dueOf st a i Other = halt BadByte i
 
 -- `)` after node u: the innermost `(` must have its first child, and becomes a node
@@ -94,6 +96,8 @@ afterOf st a u i Close = closeOf st a u i
 afterOf st a u i Comma = commaOf st a u i
 afterOf st a u i Semicolon =
     cond (eqb (st .depth) 0) (on (scan Done (st .depth) (st .opens) (st .nodes)) a) (halt BadByte i)
+afterOf st a u i Quote = halt BadByte i
+afterOf st a u i Blank = halt BadByte i
 afterOf st a u i Other = halt BadByte i
 
 -- a leaf is the node with the next number
@@ -105,14 +109,24 @@ leafArrays st a first len =
     arrays (a .stack) (set (a .left) (st .nodes) (st .nodes)) (set (a .right) (st .nodes) (st .nodes))
     (set (a .start) (st .nodes) first) (set (a .size) (st .nodes) len)
 
--- the byte after a label
-unfoldable pub labelEnd : List ℕ → Scan → Arrays → (first len i : ℕ) → Kind → Outcome
-unfolding repeatOf afterOf
-labelEnd text st a first len i k =
+-- the label of `len` bytes from `first` is complete: it is a leaf, unless it repeats
+unfoldable pub leafOf : List ℕ → Scan → Arrays → (first len : ℕ) → Outcome
+unfolding repeatOf
+leafOf text st a first len =
     cond (repeatOf text (a .start) (a .size) (st .nodes) first len) (halt Repeated first)
-    (afterOf (leafScan st) (leafArrays st a first len) (st .nodes) i k)
+    (on (leafScan st) (leafArrays st a first len))
 
--- a byte inside or just after a label
+-- the byte after a label, when the label led to this
+abbrev pub afterLeaf : Outcome → (u i : ℕ) → Kind → Outcome
+afterLeaf (on st a) u i k = afterOf st a u i k
+afterLeaf (halt r j) u i k = halt r j
+
+-- the byte after a bare label
+unfoldable pub labelEnd : List ℕ → Scan → Arrays → (first len i : ℕ) → Kind → Outcome
+unfolding leafOf afterOf
+labelEnd text st a first len i k = afterLeaf (leafOf text st a first len) (st .nodes) i k
+
+-- a byte inside or just after a bare label
 unfoldable pub insideOf : List ℕ → Scan → Arrays → (first len i : ℕ) → Kind → Outcome
 unfolding labelEnd
 insideOf text st a first len i LabelByte =
@@ -121,13 +135,38 @@ insideOf text st a first len i Open = labelEnd text st a first len i Open
 insideOf text st a first len i Close = labelEnd text st a first len i Close
 insideOf text st a first len i Comma = labelEnd text st a first len i Comma
 insideOf text st a first len i Semicolon = labelEnd text st a first len i Semicolon
+insideOf text st a first len i Quote = labelEnd text st a first len i Quote
+insideOf text st a first len i Blank = labelEnd text st a first len i Blank
 insideOf text st a first len i Other = labelEnd text st a first len i Other
+
+-- a byte that may stand between quotes, after the quote at `first` and `inner` bytes
+unfoldable pub innerOf : Scan → Arrays → (first inner i : ℕ) → Outcome
+innerOf st a first inner i =
+    cond (ltb inner labelLimit) (on (scan (Quoted first (inner + 1)) (st .depth) (st .opens) (st .nodes)) a) (halt LabelTooLong i)
+
+-- a quote there: it ends the label, of which both quotes are a part
+unfoldable pub closingOf : List ℕ → Scan → Arrays → (first len i : ℕ) → Outcome
+unfolding leafOf
+closingOf text st a first len i = cond (eqb len 0) (halt BadByte i) (leafOf text st a first (len + 2))
+
+-- a byte after an opening quote
+unfoldable pub quotedOf : List ℕ → Scan → Arrays → (first len i : ℕ) → Kind → Outcome
+unfolding innerOf closingOf
+quotedOf text st a first len i LabelByte = innerOf st a first len i
+quotedOf text st a first len i Open = halt BadByte i
+quotedOf text st a first len i Close = halt BadByte i
+quotedOf text st a first len i Comma = halt BadByte i
+quotedOf text st a first len i Semicolon = halt BadByte i
+quotedOf text st a first len i Quote = closingOf text st a first len i
+quotedOf text st a first len i Blank = innerOf st a first len i
+quotedOf text st a first len i Other = halt BadByte i
 
 -- one step by mode, on the byte at place i, of kind k
 unfoldable pub moveOf : Mode → List ℕ → Scan → Arrays → ℕ → Kind → Outcome
-unfolding dueOf insideOf afterOf
+unfolding dueOf insideOf quotedOf afterOf
 moveOf Due text st a i k = dueOf st a i k
 moveOf (Inside first len) text st a i k = insideOf text st a first len i k
+moveOf (Quoted first len) text st a i k = quotedOf text st a first len i k
 moveOf (After u) text st a i k = afterOf st a u i k
 moveOf Done text st a i k = halt BadByte i
 
@@ -150,6 +189,7 @@ answerOf Due text body st start size = refusal body EndsTooSoon (length text)
 answerOf (Inside first len) text body st start size =
     cond (repeatOf text start size (st .nodes) first len) (refusal body Repeated first)
     (refusal body EndsTooSoon (length text))
+answerOf (Quoted first len) text body st start size = refusal body EndsTooSoon (length text)
 answerOf (After u) text body st start size = refusal body EndsTooSoon (length text)
 answerOf Done text body st start size = Leaves (st .opens + 1)
 
@@ -162,5 +202,6 @@ pub record Room (st : Scan) : Type 0 where
 abbrev pub Ready : Mode → Scan → Type 0
 Ready Due st = Room st
 Ready (Inside first len) st = Room st × (st .nodes + st .depth ≤ 2 * st .opens)
+Ready (Quoted first len) st = Room st × (st .nodes + st .depth ≤ 2 * st .opens) × (len ≤ labelLimit)
 Ready (After u) st = Room st × (st .nodes + st .depth ≤ 2 * st .opens + 1) × (u < nodeLimit)
 Ready Done st = Room st

@@ -1,18 +1,19 @@
 -- Reading a tree text from left to right: "The class of the byte and what may follow at that point decide each step."
--- Scope paper, "Tree text" and rows 1 to 5 of "Why a job is turned down". A repeat is told at its first byte, so the first
--- fault that is met is the one with the smallest place.
+-- Scope paper, "Tree text" and rows 1 to 5 of "Why a job is turned down"; request paper, C-12, for quotes. A repeat is told at its first
+-- byte, so the first fault that is met is the one with the smallest place. The tree has the labels as they stand in the text.
 use Prim.Native.Nat.{ℕ, _+_, _-_}
 use mathlib.Core.Bool.{Bool, cond}
 use mathlib.Core.List.{List, [], _∷_, _++_}
 use lib.Dec.{eqb}
 use lib.ListN.{length}
 use Rattle.trees.specs.declared.Kind.{Kind}
-use Rattle.trees.specs.declared.Kind.the-variants.{Label as LabelByte, Open, Close, Comma, Semicolon, Other}
+use Rattle.trees.specs.declared.Kind.the-variants.{Label as LabelByte, Open, Close, Comma, Semicolon, Quote, Blank, Other}
 use Rattle.trees.specs.declared.Reason.{Reason}
 use Rattle.trees.specs.declared.Reason.the-variants.{BadByte, EndsTooSoon, LabelTooLong, TooMany, Repeated}
 use Rattle.trees.specs.declared.Body.{Body}
-use Rattle.trees.specs.Bytes.{kindOf}
+use Rattle.trees.specs.Bytes.{kindOf, quoteByte}
 use Rattle.trees.specs.Label.{Label, labelLimit}
+use Rattle.trees.specs.Token.{Token, spelling, quotedToken}
 use Rattle.trees.specs.Tree.{Tree, leaf, node, leaves, leafLimit}
 use Rattle.trees.specs.Reading.{Reading, good, refused, repeats}
 use Rattle.trees.specs.Arrays.{arraysOf, noArrays}
@@ -24,14 +25,16 @@ pub data Opened : Type 0 where
   first : Opened
   second : Tree → Opened
 
--- where the reader stands: a node must begin, inside a label with these bytes so far, just after a node, or after `;`
+-- where the reader stands: a node must begin, inside a bare label with these bytes so far, after an opening quote with these bytes since,
+-- just after a node, or after `;`
 pub data Phase : Type 0 where
   nodeDue : Phase
-  inLabel : Label → Phase
+  inLabel : Token → Phase
+  inQuotes : List ℕ → Phase
   afterNode : Tree → Phase
   ended : Tree → Phase
 
--- what is known so far: the open `(`, innermost first, how many `(` were read, and the labels that are complete
+-- what is known so far: the open `(`, innermost first, how many `(` were read, and the labels that are complete, as decoded
 pub record State : Type 0 where
   pub phase : Phase
   pub stack : List Opened
@@ -57,9 +60,12 @@ stepAfter t (first ∷ stack) opens seen Comma =
 stepAfter t (second a ∷ stack) opens seen Comma = stop BadByte
 stepAfter t [] opens seen Semicolon = next (record { phase = ended t; stack = []; opens = opens; seen = seen })
 stepAfter t (o ∷ stack) opens seen Semicolon = stop BadByte
+stepAfter t stack opens seen Quote = stop BadByte
+stepAfter t stack opens seen Blank = stop BadByte
 stepAfter t stack opens seen Other = stop BadByte
 
--- a byte where a node must begin; `repeat` says whether the label that begins here was seen before
+-- a byte where a node must begin; `repeat` says whether the label that begins here was seen before. C-12: "An opening quote begins a
+-- label"
 unfoldable pub stepDue : List Opened → ℕ → List Label → (repeat : Bool) → ℕ → Kind → Step
 stepDue stack opens seen repeat b LabelByte =
     cond repeat (stop Repeated) (next (record { phase = inLabel (b ∷ []); stack = stack; opens = opens; seen = seen }))
@@ -69,24 +75,54 @@ stepDue stack opens seen repeat b Open =
 stepDue stack opens seen repeat b Close = stop BadByte
 stepDue stack opens seen repeat b Comma = stop BadByte
 stepDue stack opens seen repeat b Semicolon = stop BadByte
+stepDue stack opens seen repeat b Quote =
+    cond repeat (stop Repeated) (next (record { phase = inQuotes []; stack = stack; opens = opens; seen = seen }))
+stepDue stack opens seen repeat b Blank = stop BadByte
 stepDue stack opens seen repeat b Other = stop BadByte
 
--- a byte inside or just after the label x
-unfoldable pub stepLabel : Label → List Opened → ℕ → List Label → ℕ → Kind → Step
+-- a byte inside or just after the bare label x
+unfoldable pub stepLabel : Token → List Opened → ℕ → List Label → ℕ → Kind → Step
 unfolding stepAfter
 stepLabel x stack opens seen b LabelByte =
     cond (eqb (length x) labelLimit) (stop LabelTooLong)
     (next (record { phase = inLabel (x ++ (b ∷ [])); stack = stack; opens = opens; seen = seen }))
 stepLabel x stack opens seen b Open = stop BadByte
-stepLabel x stack opens seen b Close = stepAfter (leaf x) stack opens (seen ++ (x ∷ [])) Close
-stepLabel x stack opens seen b Comma = stepAfter (leaf x) stack opens (seen ++ (x ∷ [])) Comma
-stepLabel x stack opens seen b Semicolon = stepAfter (leaf x) stack opens (seen ++ (x ∷ [])) Semicolon
+stepLabel x stack opens seen b Close = stepAfter (leaf x) stack opens (seen ++ (spelling x ∷ [])) Close
+stepLabel x stack opens seen b Comma = stepAfter (leaf x) stack opens (seen ++ (spelling x ∷ [])) Comma
+stepLabel x stack opens seen b Semicolon = stepAfter (leaf x) stack opens (seen ++ (spelling x ∷ [])) Semicolon
+stepLabel x stack opens seen b Quote = stop BadByte
+stepLabel x stack opens seen b Blank = stop BadByte
 stepLabel x stack opens seen b Other = stop BadByte
 
+-- a label byte or a blank after an opening quote and the bytes x: "The limit counts bytes between the quotes"
+unfoldable pub stepInner : List ℕ → List Opened → ℕ → List Label → ℕ → Step
+stepInner x stack opens seen b =
+    cond (eqb (length x) labelLimit) (stop LabelTooLong)
+    (next (record { phase = inQuotes (x ++ (b ∷ [])); stack = stack; opens = opens; seen = seen }))
+
+-- a quote after an opening quote and the bytes x: "`''` breaks at the second quote with number 1"
+unfoldable pub stepClosing : List ℕ → List Opened → ℕ → List Label → Step
+stepClosing x stack opens seen =
+    cond (eqb (length x) 0) (stop BadByte)
+    (next (record { phase = afterNode (leaf (quotedToken x)); stack = stack; opens = opens; seen = seen ++ (spelling (quotedToken x) ∷ []) }))
+
+-- a byte after an opening quote and the bytes x: "any other byte between them is number 1, also where number 3 would stand"
+unfoldable pub stepQuotes : List ℕ → List Opened → ℕ → List Label → ℕ → Kind → Step
+unfolding stepInner stepClosing
+stepQuotes x stack opens seen b LabelByte = stepInner x stack opens seen b
+stepQuotes x stack opens seen b Open = stop BadByte
+stepQuotes x stack opens seen b Close = stop BadByte
+stepQuotes x stack opens seen b Comma = stop BadByte
+stepQuotes x stack opens seen b Semicolon = stop BadByte
+stepQuotes x stack opens seen b Quote = stepClosing x stack opens seen
+stepQuotes x stack opens seen b Blank = stepInner x stack opens seen b
+stepQuotes x stack opens seen b Other = stop BadByte
+
 unfoldable pub step : Phase → List Opened → ℕ → List Label → (b : ℕ) → (rest : List ℕ) → Step
-unfolding stepDue stepLabel stepAfter
+unfolding stepDue stepLabel stepQuotes stepAfter
 step nodeDue stack opens seen b rest = stepDue stack opens seen (repeats seen (b ∷ rest)) b (kindOf b)
 step (inLabel x) stack opens seen b rest = stepLabel x stack opens seen b (kindOf b)
+step (inQuotes x) stack opens seen b rest = stepQuotes x stack opens seen b (kindOf b)
 step (afterNode t) stack opens seen b rest = stepAfter t stack opens seen (kindOf b)
 step (ended t) stack opens seen b rest = stop BadByte
 
@@ -94,6 +130,7 @@ step (ended t) stack opens seen b rest = stop BadByte
 unfoldable pub endOf : Phase → ℕ → Reading Tree
 endOf nodeDue at = refused EndsTooSoon at
 endOf (inLabel x) at = refused EndsTooSoon at
+endOf (inQuotes x) at = refused EndsTooSoon at
 endOf (afterNode t) at = refused EndsTooSoon at
 endOf (ended t) at = good t
 

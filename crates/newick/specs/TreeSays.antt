@@ -2,10 +2,11 @@
 -- with its number, body letter and place. Beside it the table's examples.
 use Prim.Native.Nat.{ℕ}
 use mathlib.Core.Path.{_≡_}
-use mathlib.Core.List.{List}
+use mathlib.Core.List.{List, [], _∷_, _++_}
 use lib.ListN.{replicate}
 use Rattle.trees.specs.declared.Body.{Body}
 use Rattle.trees.specs.declared.Body.the-variants.{S}
+use Rattle.trees.specs.Bytes.{quoteByte}
 use Rattle.trees.specs.Words.{bytesOf}
 use Rattle.trees.specs.Refusals.{Said, value, row, rowOf}
 use Rattle.newick.specs.declared.TreeAnswer.{TreeAnswer}
@@ -32,3 +33,16 @@ pub record TableRows : Type 0 where
   -- eighty `(`
   pub eighty : saysOf S (replicate 80 40) ≡ row 4 83 79
   pub twice : saysOf S (bytesOf "(a,a);") ≡ row 5 83 3
+
+-- C-12's examples for a first tree
+pub record QuotedRows : Type 0 where
+  pub nothing-quoted : saysOf S (bytesOf "''") ≡ row 1 83 1
+  -- "a bare `a_b` and a quoted `'a b'` are one"
+  pub one-label : saysOf S (bytesOf "('a b',a_b);") ≡ row 5 83 7
+  pub other-label : saysOf S (bytesOf "('a_b',a_b);") ≡ value 2
+  -- a quote and seventeen `a`: "The limit counts bytes between the quotes"
+  pub seventeen : saysOf S (quoteByte ∷ replicate 17 97) ≡ row 3 83 17
+  -- a quote, sixteen `a` and a tab: "also where number 3 would stand"
+  pub wrong-byte : saysOf S (quoteByte ∷ (replicate 16 97 ++ (9 ∷ []))) ≡ row 1 83 17
+  -- "a label whose quote does not close is not compared with others"
+  pub unclosed : saysOf S (bytesOf "(a,'a") ≡ row 2 83 5

@@ -14,11 +14,13 @@ ghost use mathlib.Core.Path.{_≡_};
 ghost use mathlib.Core.List.{List};
 ghost use lib.ListN.{length, getD};
 ghost use Rattle.trees.specs.Bytes.{kindOf, classTable};
+ghost use Rattle.trees.specs.Label.{labelLimit};
 ghost use Rattle.trees.specs.Arrays.{nodeLimit};
 ghost use Rattle.newick.specs.ReadTree.{readTree, treeRead};
 ghost use Rattle.newick.specs.declared.Mode.the-variants.{Due};
 ghost use Rattle.newick.specs.Machine.{repeatOf, arrays, outcome, Room, Ready};
-ghost use Rattle.newick.specs.Machine.{scan, dueOf, closeOf, commaOf, afterOf, labelEnd, insideOf, moveOf, answerOf};
+ghost use Rattle.newick.specs.Machine.{scan, dueOf, closeOf, commaOf, afterOf, leafOf, labelEnd, insideOf, innerOf};
+ghost use Rattle.newick.specs.Machine.{quotedOf, moveOf, answerOf};
 ghost use Rattle.newick.specs.Machine.{refusal, turnedDown, withArrays};
 
 // The most `(` of a tree, one less than its leaves.
@@ -36,11 +38,12 @@ pub struct TreeRead {
     pub tree: TreeArrays,
 }
 
-// Where the scan stands: a node must begin; inside a label, with its first byte and its length so far; just after a node;
-// after `;`.
+// Where the scan stands: a node must begin; inside a bare label, with its first byte and its length so far; after an opening quote, with
+// its place and how many bytes stand since; just after a node; after `;`.
 enum Mode {
     Due,
     Inside(usize, usize),
+    Quoted(usize, usize),
     After(usize),
     Done,
 }
@@ -59,7 +62,7 @@ enum Move {
     Stop(Reason, usize),
 }
 
-// Whether one of the first `nodes` nodes is a leaf with the label of `len` bytes from `first`; an inner node has size 0.
+// Whether one of the first `nodes` nodes is a leaf whose label is that of the `len` bytes from `first`; an inner node has size 0.
 fn repeated(
     text: &[u8],
     start: &[usize; NODE_LIMIT],
@@ -100,6 +103,12 @@ fn on_due(st: Scan, kind: Kind, at: usize, stack: &mut [usize; OPEN_LIMIT]) -> M
                 Move::Stop(Reason::TooMany, at)
             }
         }
+        Kind::Quote => Move::On(Scan {
+            mode: Mode::Quoted(at, 0),
+            depth: depth,
+            opens: st.opens,
+            nodes: st.nodes,
+        }),
         _ => Move::Stop(Reason::BadByte, at),
     }
 }
@@ -195,7 +204,40 @@ fn on_after(
     }
 }
 
-// The byte after a label: a repeat is told at its first byte, else the label is a leaf.
+// The label of `len` bytes from `first` is complete: a repeat is told at its first byte, else the label is a leaf.
+fn on_leaf(
+    text: &[u8],
+    st: Scan,
+    first: usize,
+    len: usize,
+    left: &mut [usize; NODE_LIMIT],
+    right: &mut [usize; NODE_LIMIT],
+    start: &mut [usize; NODE_LIMIT],
+    size: &mut [usize; NODE_LIMIT],
+) -> Move
+    requires { ⌜ Room st ⌝ }
+    requires { ⌜ st .nodes + st .depth ≤ 2 * st .opens ⌝ }
+    ensures { λ m. ⌜ ((k : List ℕ) → outcome m (arrays k (now (left .exit)) (now (right .exit)) (now (start .exit)) (now (size .exit)))
+        ≡ leafOf (now (text .entry)) st
+        (arrays k (now (left .entry)) (now (right .entry)) (now (start .entry)) (now (size .entry))) first len) ⌝ }
+{
+    let nodes = st.nodes;
+    if repeated(text, start, size, nodes, first, len) {
+        return Move::Stop(Reason::Repeated, first);
+    }
+    left[nodes] = nodes;
+    right[nodes] = nodes;
+    start[nodes] = first;
+    size[nodes] = len;
+    Move::On(Scan {
+        mode: Mode::After(nodes),
+        depth: st.depth,
+        opens: st.opens,
+        nodes: nodes + 1,
+    })
+}
+
+// The byte after a bare label, which is a leaf unless it repeats.
 fn on_label_end(
     text: &[u8],
     st: Scan,
@@ -216,24 +258,14 @@ fn on_label_end(
         (arrays (now (stack .entry)) (now (left .entry)) (now (right .entry)) (now (start .entry)) (now (size .entry)))
         first len at kind ⌝ }
 {
-    let nodes = st.nodes;
-    if repeated(text, start, size, nodes, first, len) {
-        return Move::Stop(Reason::Repeated, first);
-    }
-    left[nodes] = nodes;
-    right[nodes] = nodes;
-    start[nodes] = first;
-    size[nodes] = len;
-    let next = Scan {
-        mode: Mode::After(nodes),
-        depth: st.depth,
-        opens: st.opens,
-        nodes: nodes + 1,
+    let moved = on_leaf(text, st, first, len, left, right, start, size);
+    let Move::On(next) = moved else {
+        return moved;
     };
-    on_after(next, nodes, kind, at, stack, left, right)
+    on_after(next, st.nodes, kind, at, stack, left, right)
 }
 
-// A byte inside or just after a label.
+// A byte inside or just after a bare label.
 fn on_inside(
     text: &[u8],
     st: Scan,
@@ -283,6 +315,54 @@ fn on_inside(
     }
 }
 
+// A byte that may stand between quotes, after the quote at `first` and `inner` bytes.
+fn on_inner(st: Scan, first: usize, inner: usize, at: usize) -> Move
+    ensures { λ m. ⌜ ((k l r s z : List ℕ) → outcome m (arrays k l r s z) ≡ innerOf st (arrays k l r s z) first inner at) ⌝ }
+{
+    if inner < LABEL_LIMIT {
+        Move::On(Scan {
+            mode: Mode::Quoted(first, inner + 1),
+            depth: st.depth,
+            opens: st.opens,
+            nodes: st.nodes,
+        })
+    } else {
+        Move::Stop(Reason::LabelTooLong, at)
+    }
+}
+
+// A byte after the opening quote at `first` and `len` bytes. A closing quote ends the label, which is compared only now.
+fn on_quoted(
+    text: &[u8],
+    st: Scan,
+    first: usize,
+    len: usize,
+    kind: Kind,
+    at: usize,
+    left: &mut [usize; NODE_LIMIT],
+    right: &mut [usize; NODE_LIMIT],
+    start: &mut [usize; NODE_LIMIT],
+    size: &mut [usize; NODE_LIMIT],
+) -> Move
+    requires { ⌜ Room st ⌝ }
+    requires { ⌜ (st .nodes + st .depth ≤ 2 * st .opens) × (len ≤ labelLimit) ⌝ }
+    ensures { λ m. ⌜ ((k : List ℕ) → outcome m (arrays k (now (left .exit)) (now (right .exit)) (now (start .exit)) (now (size .exit)))
+        ≡ quotedOf (now (text .entry)) st
+        (arrays k (now (left .entry)) (now (right .entry)) (now (start .entry)) (now (size .entry))) first len at kind) ⌝ }
+{
+    match kind {
+        Kind::Label => on_inner(st, first, len, at),
+        Kind::Blank => on_inner(st, first, len, at),
+        Kind::Quote => {
+            if len == 0 {
+                return Move::Stop(Reason::BadByte, at);
+            }
+            on_leaf(text, st, first, len + 2, left, right, start, size)
+        }
+        _ => Move::Stop(Reason::BadByte, at),
+    }
+}
+
 // One byte, by where the scan stands.
 fn step(
     text: &[u8],
@@ -319,6 +399,9 @@ fn step(
             start,
             size,
         ),
+        Mode::Quoted(first, len) => {
+            on_quoted(text, st, first, len, kind, at, left, right, start, size)
+        }
         Mode::After(u) => on_after(st, u, kind, at, stack, left, right),
         Mode::Done => Move::Stop(Reason::BadByte, at),
     }

@@ -1,7 +1,7 @@
 // Reads one tree text from standard input and writes its normal text and a line end, or one refusal line with letter S.
 //
-// No accepted text passes 1,518 bytes, and each refusal is decided by the bytes before its place and the 17 that follow, so the
-// first 4,096 bytes decide the answer to an input of any length.
+// No accepted text passes `trees::TREE_ROOM` bytes, and each refusal is decided by the bytes before its place, the label that begins
+// there and one byte more, so the first 4,096 bytes decide the answer to an input of any length.
 use newick::TreeAnswer;
 use trees::Body;
 use trees::Refusal;

@@ -33,7 +33,7 @@ module _ (a b : TreeArrays) (v : ℕ) (s : SameAt a b v) where
   same-label-at text = rw (s .start, s .size) refl
 
   pub same-good : (text : List ℕ) → goodNode a text v ≡ goodNode b text v
-  unfolding goodNode isLeaf
+  unfolding goodNode isLeaf labelAt
   same-good text = rw (s .left, s .right, s .start, s .size) refl
 
 pub same-trees : (a b : TreeArrays) (text : List ℕ) → goodNodes a text (a .nodes) ≡ true → ((v : ℕ) → v < a .nodes → SameAt a b v)

@@ -1,3 +1,4 @@
+pub mod DecodedKept
 pub mod EntryLaws
 pub mod FlaggedLaws
 pub mod KeptLaws

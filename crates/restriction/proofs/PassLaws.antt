@@ -205,7 +205,7 @@ module _ (a : TreeArrays) (text : List ℕ) (kept : List Bool) (u : ℕ) (s : Pa
       let n = s .count in
       let b = newNodes (grown u s n n) in
       let f : goodNode b text n ≡ true =
-      good-leaf b text n (new-leaf n n refl) (omega (arith, new-size n n, label-inside a text u g e .short))
+      good-leaf b text n (new-leaf n n refl) (rw (new-label n n) (label-inside a text u g e .short))
       (omega (arith, new-start n n, new-size n n, label-inside a text u g e .inside))
       in
       fresh-step n n (leaf (labelAt a text u)) f (tree-leaf b text (grown-good n n f) n (new-leaf n n refl) ∙ ap leaf (new-label n n))

@@ -7,13 +7,14 @@ use mathlib.Core.List.{List}
 use lib.ListN.{getD}
 use Rattle.trees.specs.declared.TreeArrays.{TreeArrays}
 use Rattle.trees.specs.Label.{Label}
-use Rattle.trees.specs.Tree.{Tree, leaf, Valid}
+use Rattle.trees.specs.Token.{spelling}
+use Rattle.trees.specs.Tree.{Tree, leaf, decoded, Valid}
 use Rattle.trees.specs.Text.{textOf}
 use Rattle.trees.specs.Arrays.{nodesOf, arraysOf, isLeaf, labelAt, treeOf, oneTree}
 use Rattle.trees.specs.Postorder.{postorder, subtree}
 use Rattle.agreement.specs.Restrict.{restrict}
 use Rattle.restriction.specs.Flagged.{flagged, FlaggedLeaf}
-use Rattle.restriction.specs.Kept.{standingOf, keptStanding}
+use Rattle.restriction.specs.Kept.{keptStanding, StandsFor}
 use Rattle.restriction.proofs.RestrictionLaws.{kept-standing, own-kept}
 use Rattle.restriction.proofs.FlaggedLaws.{flagged-iff, kept-flagged, result-flagged}
 
@@ -21,26 +22,26 @@ use Rattle.restriction.proofs.FlaggedLaws.{flagged-iff, kept-flagged, r
 -- `restrict_tree` says of its result over a valid tree's arrays is that it stands for the restriction to the flagged labels
 pub result-is-restriction : (t : Tree) → Valid t → (kept : List Bool) (r : TreeArrays)
     → ((text : List ℕ) (s : Tree) → treeOf (arraysOf t) text ≡ oneTree s → treeOf r text ≡ keptStanding (arraysOf t) text kept)
-    → treeOf r (textOf t) ≡ standingOf (restrict (flagged t kept) t)
+    → StandsFor (treeOf r (textOf t)) (restrict (flagged (decoded t) kept) (decoded t))
 result-is-restriction = result-flagged
 
 -- "the other leaves": those whose label is not flagged; a label is flagged exactly if some flagged node is its leaf
 pub label-is-flagged : (t : Tree) (kept : List Bool) (x : Label) → flagged t kept x ≡ true ↔ FlaggedLeaf (nodesOf t) (postorder t) kept x
 label-is-flagged = flagged-iff
 
--- what is left of a valid tree's arrays is the restriction to the flagged labels
+-- what is left of a valid tree's arrays stands for the restriction to the flagged labels
 pub kept-is-restriction : (t : Tree) → Valid t → (kept : List Bool)
-    → keptStanding (arraysOf t) (textOf t) kept ≡ standingOf (restrict (flagged t kept) t)
+    → StandsFor (keptStanding (arraysOf t) (textOf t) kept) (restrict (flagged (decoded t) kept) (decoded t))
 kept-is-restriction = kept-flagged
 
 -- "restriction of a tree to a set of leaves": where each leaf's flag tells whether the set has its label, it is the restriction to the set
 pub set-is-kept : (t : Tree) → Valid t → (kept : List Bool) (X : Label → Bool)
-    → ((u : ℕ) → u < nodesOf t → (x : Label) → subtree (postorder t) u ≡ leaf x → getD kept u false ≡ X x)
-    → keptStanding (arraysOf t) (textOf t) kept ≡ standingOf (restrict X t)
+    → ((u : ℕ) → u < nodesOf (decoded t) → (x : Label) → subtree (postorder (decoded t)) u ≡ leaf x → getD kept u false ≡ X x)
+    → StandsFor (keptStanding (arraysOf t) (textOf t) kept) (restrict X (decoded t))
 set-is-kept = own-kept
 
 -- the same of any arrays that stand for a tree over a text
 pub set-is-kept-of-arrays : (a : TreeArrays) (text : List ℕ) (kept : List Bool) (t : Tree) (X : Label → Bool) → treeOf a text ≡ oneTree t
-    → ((u : ℕ) → u < a .nodes → isLeaf a u ≡ true → getD kept u false ≡ X (labelAt a text u))
-    → keptStanding a text kept ≡ standingOf (restrict X t)
+    → ((u : ℕ) → u < a .nodes → isLeaf a u ≡ true → getD kept u false ≡ X (spelling (labelAt a text u)))
+    → StandsFor (keptStanding a text kept) (restrict X (decoded t))
 set-is-kept-of-arrays = kept-standing

@@ -12,17 +12,19 @@ use lib.Seq.{getD-set-same, getD-set-other}
 use borrow.Author.Tests.{eq-eqb, ne-eqb, lt-ltb, le-ltb, ltb-true, ltb-false}
 use Rattle.trees.specs.declared.TreeArrays.{TreeArrays}
 use Rattle.trees.specs.Label.{Label}
-use Rattle.trees.specs.Tree.{Tree, leaf, leafLimit}
+use Rattle.trees.specs.Tree.{Tree, leaf, decoded, Valid, leafLimit}
 use Rattle.trees.specs.Arrays.{nodesOf, arraysOf}
 use Rattle.trees.specs.Postorder.{postorder, subtree, LaidNode, laid-leaf, laid-node}
 use Rattle.trees.proofs.Bools.{bool-cases}
 use Rattle.trees.proofs.EntryLaws.{below-next}
-use Rattle.trees.proofs.ArrayLaws.{few-nodes, nodes-pos}
+use Rattle.trees.proofs.TokenLaws.{valid-decoded}
+use Rattle.trees.proofs.DecodedLaws.{decoded-nodes, decoded-left, decoded-right}
+use Rattle.trees.proofs.ArrayLaws.{nodes-leaves, nodes-pos}
 use Rattle.trees.proofs.PostorderLaws.{length-postorder, subtree-few}
 use Rattle.leaves.proofs.OwnLaws.{own-laid}
 use Rattle.table.specs.Table.{columnAt, joinNeed, nodesAt, need}
 use Rattle.table.specs.Columns.{childAt, needAt, Put, NodeIs, NodePut, Gathered}
-use Rattle.table.specs.Choice.{Given}
+use Rattle.table.specs.Choice.{Ranked, Given}
 use Rattle.table.specs.Solving.{Rooted, OwnColumns}
 use Rattle.table.proofs.RowLaws.{NodeCase, is-leaf, is-node, node-case}
 use Rattle.table.proofs.FillLaws.{need-node, few-rows}
@@ -184,15 +186,14 @@ module _ (t : Tree) (C : List Label) (tree : TreeArrays) (rank : List ℕ) (few-
     (nodes-are : 0 < tree .nodes → tree .nodes ≤ 159 → nodes ≡ tree .nodes) (columns : List ℕ)
     (g : Gathered nodes (tree .left) (tree .right) rank nodes columns) where
   all : nodes ≡ nodesOf t
-  unfolding arraysOf
   all =
-      let e : tree .nodes ≡ nodesOf t = ap (λ a. a .nodes) (h .arrays-are) in
-      nodes-are (omega (arith, nodes-pos t)) (omega (arith, few-nodes t (h .valid))) ∙ e
+      let e = h .nodes-are in
+      nodes-are (omega (arith, nodes-pos t)) (omega (arith, nodes-leaves t, h .proper .few)) ∙ e
 
   laid : (u : ℕ) → u < nodesOf t → LaidNode (postorder t) (columnAt columns 0 u) (columnAt columns 1 u) u (subtree (postorder t) u)
   laid u l =
       let is = g .each u (omega (arith, all)) in
-      rw (is .left-is, is .right-is, h .arrays-are) (child-laid (own-laid t u (omega (arith, length-postorder t))))
+      rw (is .left-is, is .right-is, h .left-are, h .right-are) (child-laid (own-laid t u (omega (arith, length-postorder t))))
 
   -- by induction over node numbers
   needs-to : (n u : ℕ) → u < n → u < nodesOf t → columnAt columns 3 u ≡ need (subtree (postorder t) u)
@@ -200,7 +201,7 @@ module _ (t : Tree) (C : List Label) (tree : TreeArrays) (rank : List ℕ) (few-
   needs-to (suc n) u k l = go (node-case (laid u l)) (λ v kv lv. needs-to n v kv lv)
     where
       own-few : need (subtree (postorder t) u) ≤ 6
-      own-few = few-rows (subtree (postorder t) u) (subtree-few leafLimit t (h .valid .few) u l)
+      own-few = few-rows (subtree (postorder t) u) (subtree-few leafLimit t (h .proper .few) u l)
 
       own-need : columnAt columns 3 u ≡ needAt columns u (columnAt columns 0 u) (columnAt columns 1 u) % 256
       own-need = let is = g .each u (omega (arith, all)) in rw (is .left-is, is .right-is) (is .need-is)
@@ -220,10 +221,21 @@ module _ (t : Tree) (C : List Label) (tree : TreeArrays) (rank : List ℕ) (few-
 
   pub own-columns : OwnColumns t C columns
   own-columns = record {
-    valid = h .valid;
+    proper = h .proper;
     nodes-is = g .count ∙ all;
     columns-are = record { laid = λ v l. laid v (omega (arith, g .count, all)); count = length-postorder t ∙ sym all ∙ sym (g .count) };
     needs = λ u l. needs-to (suc u) u (omega arith) (omega (arith, g .count, all));
     held = λ u r l is. omega (arith, g .each u (omega (arith, all, is .below)) .rank-is, h .ranked .held u r l is);
     other = λ u x is n. omega (arith, g .each u (omega (arith, all, is .below)) .rank-is, h .ranked .other u x is n);
   }
+
+-- the arrays of a tree as it was read, for the tree that it stands for
+pub given-read : (t : Tree) (C : List Label) (rank : List ℕ) → Valid t → Ranked (decoded t) C rank → Given (decoded t) C (arraysOf t) rank
+unfolding arraysOf
+given-read t C rank v ranked = record {
+  proper = valid-decoded t v;
+  nodes-are = sym (decoded-nodes t);
+  left-are = sym (decoded-left t);
+  right-are = sym (decoded-right t);
+  ranked = ranked;
+}

@@ -7,16 +7,22 @@ use mathlib.Core.Bool.{Bool, true, false}
 use mathlib.Core.List.{List}
 use lib.ListN.{length}
 use Rattle.trees.specs.Label.{Label, distinct}
-use Rattle.trees.specs.Tree.{Tree, Proper}
+use Rattle.trees.specs.Tree.{Tree, decoded, Valid, Proper}
+use Rattle.trees.specs.Arrays.{arraysOf}
 use Rattle.trees.specs.Postorder.{postorder}
 use Rattle.agreement.specs.Closer.{Common}
 use Rattle.agreement.specs.Sets.{common, setOf}
 use Rattle.agreement.specs.Greatest.{Greatest}
 use Rattle.agreement.specs.Demand.{IsAnswer, Clash}
-use Rattle.table.specs.Choice.{chosenFrom, Solved}
+use Rattle.table.specs.Choice.{Ranked, Given, chosenFrom, Solved}
 use Rattle.table.specs.Table.{Filling}
 use Rattle.table.specs.Solving.{OwnColumns, TopIs}
+use Rattle.table.proofs.ColumnLaws.{given-read}
 use Rattle.table.proofs.SolveLaws.{cell-greatest, set-told, eight-told}
+
+-- a tree that was read is given by its arrays as the tree that it stands for
+pub read-is-given : (t : Tree) (C : List Label) (rank : List ℕ) → Valid t → Ranked (decoded t) C rank → Given (decoded t) C (arraysOf t) rank
+read-is-given = given-read
 
 -- source paper 001, Lemma 3.1: once the table of two trees is filled, the cell of both roots is the greatest weight of a set on which
 -- they agree, whatever the labels weigh

@@ -18,7 +18,6 @@ use Rattle.trees.proofs.EntryLaws.{filled-at}
 use Rattle.trees.proofs.LabelLaws.{same-cases, same-ne, eq-same}
 use Rattle.trees.proofs.ArrayLaws.{nodes-pos}
 use Rattle.trees.proofs.PostorderLaws.{root-last, subtree-few, subtree-in, holds-leaf}
-use Rattle.trees.proofs.TreeLaws.{valid-proper}
 use Rattle.leaves.specs.Numbered.{LeafIs}
 use Rattle.agreement.specs.Closer.{holds, Common}
 use Rattle.agreement.specs.Sets.{common, sorted, setOf}
@@ -143,10 +142,10 @@ module _ (w : Label → ℕ) (s t : Tree) (C : List Label) (first second high lo
 
   pub told : (top ≡ best w (subtree (postorder s) (nodesAt first - 1)) (subtree (postorder t) (nodesAt second - 1)))
       × ((r : ℕ) → r < 159 → valueAt high' low' (weightPlace r) ≡ valueAt high low (weightPlace r))
-  told = top-is .greatest (postorder s) (postorder t) w sh sl filling (rw root1 (few-rows s (one .valid .few)))
+  told = top-is .greatest (postorder s) (postorder t) w sh sl filling (rw root1 (few-rows s (one .proper .few)))
 
   pub cell-greatest : Greatest w s t top
-  cell-greatest = rw (told .0, root1, root2) (best-greatest w s t (one .valid .different) (two .valid .different))
+  cell-greatest = rw (told .0, root1, root2) (best-greatest w s t (one .proper .different) (two .proper .different))
 
 -- and for those of the common labels
 
@@ -158,7 +157,7 @@ module _ (s t : Tree) (K : List Label) (tree1 tree2 : TreeArrays) (rank1 rank2 :
     (put : WeightsPut n number (replicate 1431 0) (replicate 1431 0) high1 low1) (top : ℕ)
     (top-is : TopIs first second top high1 low1 high2 low2) where
   proper : Proper s
-  proper = valid-proper s (posed .one .valid)
+  proper = posed .one .proper
 
   few : length (common s t) ≤ 80
   few = common-few s t proper

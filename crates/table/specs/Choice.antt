@@ -7,8 +7,8 @@ use mathlib.Core.List.{List, [], _∷_}
 use lib.ListN.{length, getD}
 use Rattle.trees.specs.declared.TreeArrays.{TreeArrays}
 use Rattle.trees.specs.Label.{Label, isIn, distinct}
-use Rattle.trees.specs.Tree.{Tree, Valid}
-use Rattle.trees.specs.Arrays.{arraysOf}
+use Rattle.trees.specs.Tree.{Tree, Proper}
+use Rattle.trees.specs.Arrays.{nodesOf, arraysOf}
 use Rattle.leaves.specs.Numbered.{LeafIs}
 use Rattle.agreement.specs.Closer.{Common}
 use Rattle.agreement.specs.Sets.{common, setOf}
@@ -24,10 +24,12 @@ pub record Marked (C K : List Label) (number : List ℕ) : Type 0 where
   pub held : (r k : ℕ) → r < length C → k < length K → getD C r [] ≡ getD K k [] → getD number r 0 ≡ suc k
   pub other : (r : ℕ) → r < length C → isIn (getD C r []) K ≡ false → getD number r 0 ≡ 0
 
--- the arrays are those of tree t, with the ranks of its leaves' labels among those of C
+-- the arrays have the children of tree t, whatever text shows its labels, with the labels' ranks among those of C
 pub record Given (t : Tree) (C : List Label) (tree : TreeArrays) (rank : List ℕ) : Type 0 where
-  pub valid : Valid t
-  pub arrays-are : tree ≡ arraysOf t
+  pub proper : Proper t
+  pub nodes-are : tree .nodes ≡ nodesOf t
+  pub left-are : tree .left ≡ arraysOf t .left
+  pub right-are : tree .right ≡ arraysOf t .right
   pub ranked : Ranked t C rank
 
 -- two trees with m common labels, and a required list of `count` different labels that stand in both

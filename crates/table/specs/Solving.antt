@@ -6,7 +6,7 @@ use mathlib.Core.Bool.{false}
 use mathlib.Core.List.{List, []}
 use lib.ListN.{length, getD}
 use Rattle.trees.specs.Label.{Label, isIn}
-use Rattle.trees.specs.Tree.{Tree, Valid}
+use Rattle.trees.specs.Tree.{Tree, Proper}
 use Rattle.trees.specs.Arrays.{nodesOf}
 use Rattle.trees.specs.Postorder.{postorder, subtree}
 use Rattle.leaves.specs.Numbered.{LeafIs}
@@ -20,7 +20,7 @@ pub record Rooted (columns : List ℕ) : Type 0 where
 
 -- the columns of tree t, with the ranks of its leaves' labels in C, 80 for a label that C has not
 pub record OwnColumns (t : Tree) (C : List Label) (columns : List ℕ) : Type 0 where
-  pub valid : Valid t
+  pub proper : Proper t
   pub nodes-is : nodesAt columns ≡ nodesOf t
   pub columns-are : Columns columns (nodesAt columns) (postorder t)
   pub needs : (u : ℕ) → u < nodesAt columns → columnAt columns 3 u ≡ need (subtree (postorder t) u)

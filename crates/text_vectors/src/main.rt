@@ -1,6 +1,6 @@
 // Runs a stored stream of texts through the readers and the writer and prints a line for each: the normal text, or the labels of
-// a list with their number, or the refusal. A case is a kind byte, `t` for a tree and `l` for a list, the length as two bytes,
-// and the text.
+// a list with their number, as they stand in it, or the refusal. A case is a kind byte, `t` for a tree and `l` for a list, the
+// length as two bytes, and the text.
 use lists::LabelPlaces;
 use lists::ListAnswer;
 use newick::TreeAnswer;

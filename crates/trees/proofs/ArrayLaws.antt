@@ -13,14 +13,15 @@ use lib.ListN.{length, getD, length-append}
 use borrow.Author.Tests.{ltb-true, ltb-false, leb-true, eqb-false, lt-ltb, le-leb, eq-eqb, ne-eqb}
 use Rattle.trees.specs.declared.TreeArrays.{TreeArrays}
 use Rattle.trees.specs.Bytes.{openByte, commaByte, closeByte, semicolonByte}
-use Rattle.trees.specs.Label.{Label, labelLimit, allLabelBytes, goodLabel, goodLabels}
+use Rattle.trees.specs.Label.{labelLimit}
+use Rattle.trees.specs.Token.{Token, spelling, goodLabel, goodLabels, tokenLimit}
 use Rattle.trees.specs.Tree.{Tree, leaf, node, leaves, Valid, leafLimit}
 use Rattle.trees.specs.Text.{written, textOf, treeRoom}
 use Rattle.trees.specs.Arrays.{nodeLimit, nodesOf, lefts, rights, starts, sizes, arraysOf}
 use Rattle.trees.specs.Arrays.{labelAt, isLeaf, goodNode, goodNodes, treeAt, noLeaf, oneTree, noTree, treeOf}
 use Rattle.trees.specs.Stored.{partOf, leafLabel}
 use Rattle.trees.proofs.Bools.{bool-cases, and-left, and-right, and-intro}
-use Rattle.trees.proofs.ListLaws.{good-split}
+use Rattle.trees.proofs.ListLaws.{good-split, good-head, good-parts, loose-size}
 use Rattle.trees.proofs.PlaceLaws.{At, at-whole, at-left, at-right, at-tail, at-head, at-take, second-part, last-element}
 
 -- lengths
@@ -84,17 +85,16 @@ node-length a b =
       length-append (written b) (closeByte ∷ []),
     )
 
-pub leaf-short : (x : Label) → goodLabels (leaves (leaf x)) ≡ true → length x ≤ labelLimit
-unfolding leaves goodLabels goodLabel
-leaf-short x h =
-    leb-true (length x) labelLimit
-    (and-right (leb 1 (length x)) (leb (length x) labelLimit)
-    (and-left (leb 1 (length x) && leb (length x) labelLimit) (allLabelBytes x) (and-left (goodLabel x) true h)))
+pub leaf-good : (x : Token) → goodLabels (leaves (leaf x)) ≡ true → goodLabel x ≡ true
+unfolding leaves
+leaf-good x h = good-head x [] h .0
 
--- a label has at most 16 bytes, and each inner node writes three
-pub written-short : (t : Tree) → goodLabels (leaves t) ≡ true → length (written t) + 3 ≤ (labelLimit + 3) * length (leaves t)
+-- a label takes at most 16 bytes and two quotes, and each inner node writes three
+pub written-short : (t : Tree) → goodLabels (leaves t) ≡ true → length (written t) + 3 ≤ (tokenLimit + 3) * length (leaves t)
 unfolding written leaves
-written-short (leaf x) h = omega (arith, leaf-short x h)
+written-short (leaf x) h =
+    let g = good-parts x (leaf-good x h) in
+    omega (arith, g .1, loose-size x (g .0))
 written-short (node a b) h =
     omega (
       arith,
@@ -112,24 +112,24 @@ text-short t v = omega (arith, written-short t (v .labels), length-append (writt
 
 -- a good leaf's label lies in the text and is not too long
 pub record LabelInside (a : TreeArrays) (text : List ℕ) (u : ℕ) : Type 0 where
-  pub short : getD (a .size) u 0 ≤ labelLimit
   pub inside : getD (a .start) u 0 + getD (a .size) u 0 ≤ length text
+  pub short : length (spelling (labelAt a text u)) ≤ labelLimit
 
 pub label-inside : (a : TreeArrays) (text : List ℕ) (u : ℕ) → goodNode a text u ≡ true → isLeaf a u ≡ true → LabelInside a text u
 unfolding goodNode
 label-inside a text u g l =
     record {
-      short = leb-true (getD (a .size) u 0) labelLimit (and-left first second h);
-      inside = leb-true (getD (a .start) u 0 + getD (a .size) u 0) (length text) (and-right first second h);
+      inside = leb-true (getD (a .start) u 0 + getD (a .size) u 0) (length text) (and-left first second h);
+      short = leb-true (length (spelling (labelAt a text u))) labelLimit (and-right first second h);
     }
   where
     first : Bool
-    first = leb (getD (a .size) u 0) labelLimit
+    first = leb (getD (a .start) u 0 + getD (a .size) u 0) (length text)
 
     second : Bool
-    second = leb (getD (a .start) u 0 + getD (a .size) u 0) (length text)
+    second = leb (length (spelling (labelAt a text u))) labelLimit
 
-    h : (leb (getD (a .size) u 0) labelLimit && leb (getD (a .start) u 0 + getD (a .size) u 0) (length text)) ≡ true
+    h : (leb (getD (a .start) u 0 + getD (a .size) u 0) (length text) && leb (length (spelling (labelAt a text u))) labelLimit) ≡ true
     h = rw l at g
 
 -- a good inner node's children have smaller numbers
@@ -145,11 +145,16 @@ children-below a text u g l =
       right-below = ltb-true (getD (a .right) u 0) u (and-right (ltb (getD (a .left) u 0) u) (ltb (getD (a .right) u 0) u) (rw l at g));
     }
 
-pub good-leaf : (a : TreeArrays) (text : List ℕ) (u : ℕ) → isLeaf a u ≡ true → getD (a .size) u 0 ≤ labelLimit
+pub good-leaf : (a : TreeArrays) (text : List ℕ) (u : ℕ) → isLeaf a u ≡ true → length (spelling (labelAt a text u)) ≤ labelLimit
     → getD (a .start) u 0 + getD (a .size) u 0 ≤ length text → goodNode a text u ≡ true
 unfolding goodNode
 good-leaf a text u l h k =
-    rw (l, le-leb (getD (a .size) u 0) labelLimit h, le-leb (getD (a .start) u 0 + getD (a .size) u 0) (length text) k) refl
+    rw (
+      l,
+      le-leb (getD (a .start) u 0 + getD (a .size) u 0) (length text) k,
+      le-leb (length (spelling (labelAt a text u))) labelLimit h,
+    )
+    refl
 
 -- a node with smaller children is no leaf
 pub inner-not-leaf : (a : TreeArrays) (u : ℕ) → getD (a .left) u 0 < u → isLeaf a u ≡ false
@@ -304,7 +309,7 @@ module _ (a : TreeArrays) (text : List ℕ) where
     root-right-below : getD (a .right) (n + nodesOf x + nodesOf y) 0 < n + nodesOf x + nodesOf y
     root-right-below = omega (arith, root-right, nodes-pos x, nodes-pos y)
 
-  module _ (x : Label) (n p : ℕ) (h : Holds a text (leaf x) n p) where
+  module _ (x : Token) (n p : ℕ) (h : Holds a text (leaf x) n p) where
     held-leaf : isLeaf a n ≡ true
     unfolding isLeaf lefts
     held-leaf = eq-eqb (getD (a .left) n 0) n (at-head (a .left) n n [] (h .left-at))
@@ -348,8 +353,7 @@ module _ (a : TreeArrays) (text : List ℕ) where
   held-good (leaf x) n p h g k b =
       let e : n + k ≡ n = omega arith in
       rw e
-      (good-leaf a text n (held-leaf x n p h)
-      (omega (arith, held-size x n p h, leaf-short x g))
+      (good-leaf a text n (held-leaf x n p h) (rw (held-label x n p h) (good-parts x (leaf-good x g) .1))
       (omega (arith, held-size x n p h, held-start x n p h, held-inside x n p h)))
   held-good (node x y) n p h g k b =
       go (bool-cases (ltb k (nodesOf x))) (bool-cases (ltb k (nodesOf x + nodesOf y)))

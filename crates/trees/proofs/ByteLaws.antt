@@ -5,7 +5,7 @@ use mathlib.Core.List.{List}
 use native.Mathlib.Nat.{le-of-suc-le-suc, not-suc-le-zero, add-zero, zero-add, add-suc, suc-add}
 use lib.ListN.{getD}
 use Rattle.trees.specs.declared.Kind.{Kind}
-use Rattle.trees.specs.declared.Kind.the-variants.{Label, Open, Close, Comma, Semicolon, Other}
+use Rattle.trees.specs.declared.Kind.the-variants.{Label, Open, Close, Comma, Semicolon, Quote, Blank, Other}
 use Rattle.trees.specs.Bytes.{kindOf, kindOfCode, codeOf, codesFrom, classTable}
 
 kind-code : (k : Kind) → kindOfCode (codeOf k) ≡ k
@@ -15,6 +15,8 @@ kind-code Open = refl
 kind-code Close = refl
 kind-code Comma = refl
 kind-code Semicolon = refl
+kind-code Quote = refl
+kind-code Blank = refl
 kind-code Other = refl
 
 code-at : (n b k : ℕ) → k < n → getD (codesFrom n b) k 0 ≡ codeOf (kindOf (b + k))

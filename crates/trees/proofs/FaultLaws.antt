@@ -2,41 +2,81 @@
 -- one. The readers of trees and of lists cite these laws. Assumes nothing.
 use Prim.Native.Nat.{ℕ, zero, suc, _+_, _-_, _<_, _≤_}
 use mathlib.Core.Path.{_≡_, refl, sym, _∙_, ap, subst}
-use mathlib.Core.Bool.{Bool, true, false, cond}
+use mathlib.Core.Bool.{Bool, true, false, cond, _&&_, _||_}
 use mathlib.Core.Logic.{_⊎_, inl, inr, ⊎-elim}
-use mathlib.Core.List.{List, [], _∷_, _++_, append-assoc, append-nil}
+use mathlib.Core.List.{List, [], _∷_, _++_, map, map-append, append-assoc, append-nil}
 use native.Mathlib.Omega.{arith}
 use lib.Dec.{eqb, ltb, leb}
-use lib.ListN.{length, getD, take, drop, length-append, length-drop}
-use lib.Seq.{getD-drop, take-at, drop-at, getD-at}
+use lib.ListN.{length, getD, take, drop, length-append, length-drop, drop-of-length-le}
+use lib.Seq.{getD-drop, drop-drop, take-at, drop-at, getD-at}
 use borrow.Author.Tests.{ltb-true, ltb-false, le-leb}
 use Rattle.trees.specs.declared.Reason.{Reason}
 use Rattle.trees.specs.declared.Reason.the-variants.{BadByte, EndsTooSoon, LabelTooLong, TooMany, Repeated}
-use Rattle.trees.specs.Bytes.{isLabelByte, openByte, commaByte}
-use Rattle.trees.specs.Label.{Label, labelLimit, isIn, distinct, goodLabel, goodLabels}
-use Rattle.trees.specs.Reading.{labelRun, repeats}
+use Rattle.trees.specs.Bytes.{isLabelByte, isInnerByte, openByte, commaByte, quoteByte}
+use Rattle.trees.specs.Label.{Label, labelLimit, isIn, distinct}
+use Rattle.trees.specs.Token.{Token, spelling, allOf, goodLabel, goodLabels}
+use Rattle.trees.specs.Reading.{runOf, quoteFirst, repeats}
 use Rattle.trees.specs.Refusals.{numberOf}
 use Rattle.trees.specs.Faults.{Continues, Edge, LabelStarts, labelFrom, Fault, bad-byte, ends-too-soon, label-too-long, too-many}
 use Rattle.trees.specs.Faults.{repeated, FirstFault}
-use Rattle.trees.proofs.Bools.{bool-cases, clash, and-intro}
-use Rattle.trees.proofs.ListLaws.{in-none, in-left, in-here, in-last-cases, good-none, distinct-none}
-use Rattle.trees.proofs.ReadingLaws.{run-byte, run-length, run-cons, run-none, repeats-parts, seen-more, open-plain, comma-plain}
+use Rattle.trees.proofs.Bools.{bool-cases, clash, refute, or-inl, or-inr}
+use Rattle.trees.proofs.ListLaws.{in-none, in-left, in-here, in-last-cases, good-none, good-join, good-cons, distinct-none, distinct-last}
+use Rattle.trees.proofs.ListLaws.{bytes-one, bytes-snoc, label-not-quote}
+use Rattle.trees.proofs.TokenForms.{innerOf, openingOf, tokenBy, labelBy, inner-any, form-spelling, form-good, quote-not-inner}
+use Rattle.trees.proofs.ReadingLaws.{Plain, open-plain, comma-plain, run-byte, run-length, run-cons, run-none, run-end, closedBy, quote-first}
+use Rattle.trees.proofs.ReadingLaws.{other-first, first-quote, ahead-opening, ahead-inner, ahead-label, ahead-closed, repeats-parts, repeats-intro}
 
 pub lt-or-le : (a b : ℕ) → (a < b) ⊎ (b ≤ a)
 lt-or-le a b = ⊎-elim (λ (h : ltb a b ≡ true). inl (ltb-true a b h)) (λ (h : ltb a b ≡ false). inr (ltb-false a b h)) (bool-cases (ltb a b))
 
--- the bytes of the label that begins at j are label bytes
-pub label-at : (text : List ℕ) (j m : ℕ) → j ≤ m → m < j + length (labelFrom text j) → isLabelByte (getD text m 0) ≡ true
-label-at text j m l h =
-    subst (λ (n : ℕ). isLabelByte (getD text n 0) ≡ true) e
-    (subst (λ (b : ℕ). isLabelByte b ≡ true) (getD-drop j text (m - j) 0) (run-byte (drop j text) (m - j) (omega arith)))
-  where
-    e : j + (m - j) ≡ m
-    e = omega arith
+-- ---- the token that begins at a place
+
+-- where its inner bytes begin
+abbrev innerStart : List ℕ → ℕ → ℕ
+innerStart text j = j + labelFrom text j .opening
+
+-- the first place after them
+abbrev innerEnd : List ℕ → ℕ → ℕ
+innerEnd text j = innerStart text j + length (labelFrom text j .inner)
+
+module _ (text : List ℕ) (j : ℕ) (q : Bool) (form : quoteFirst (drop j text) ≡ q) where
+  pub opening-at : labelFrom text j .opening ≡ openingOf q
+  opening-at = ahead-opening q (drop j text) form
+
+  pub inner-at : labelFrom text j .inner ≡ runOf (innerOf q) (drop (j + openingOf q) text)
+  inner-at = ahead-inner q (drop j text) form ∙ ap (runOf (innerOf q)) (drop-drop (openingOf q) j text)
+
+  letter-at : (m : ℕ) → innerStart text j ≤ m → m < innerEnd text j → innerOf q (getD text m 0) ≡ true
+  letter-at m l h =
+      subst (λ (n : ℕ). innerOf q (getD text n 0) ≡ true) same
+      (subst (λ (b : ℕ). innerOf q b ≡ true) (getD-drop (j + openingOf q) text (m - (j + openingOf q)) 0)
+      (run-byte (innerOf q) (drop (j + openingOf q) text) (m - (j + openingOf q)) (omega (arith, ap length inner-at, opening-at))))
+    where
+      same : j + openingOf q + (m - (j + openingOf q)) ≡ m
+      same = omega (arith, opening-at)
+
+  first-at : (m : ℕ) → j ≤ m → m < innerStart text j → getD text m 0 ≡ quoteByte
+  first-at m l h = go q form opening-at
+    where
+      go : (c : Bool) → quoteFirst (drop j text) ≡ c → labelFrom text j .opening ≡ openingOf c → getD text m 0 ≡ quoteByte
+      go true f o =
+          ap (λ (n : ℕ). getD text n 0) same ∙ sym (getD-drop j text 0 0) ∙ first-quote (drop j text) f
+        where
+          same : m ≡ j + 0
+          same = omega arith
+      go false f o = absurd (omega arith)
+
+  inside-at : (n : ℕ) → n < length (labelFrom text j .inner) → innerStart text j + n < length text
+  inside-at n h =
+      omega (arith, ap length inner-at, run-length (innerOf q) (drop (j + openingOf q) text), length-drop (j + openingOf q) text, opening-at)
+
+-- its inner bytes are such as can stand between quotes
+inner-byte : (text : List ℕ) (j m : ℕ) → innerStart text j ≤ m → m < innerEnd text j → isInnerByte (getD text m 0) ≡ true
+inner-byte text j m l h = inner-any (quoteFirst (drop j text)) (getD text m 0) (letter-at text j (quoteFirst (drop j text)) refl m l h)
 
 -- and lie in the text
-pub label-inside : (text : List ℕ) (j n : ℕ) → n < length (labelFrom text j) → j + n < length text
-label-inside text j n h = omega (arith, run-length (drop j text), length-drop j text)
+inner-inside : (text : List ℕ) (j n : ℕ) → n < length (labelFrom text j .inner) → innerStart text j + n < length text
+inner-inside text j n h = inside-at text j (quoteFirst (drop j text)) refl n h
 
 -- the place p of a text that goes on with b and rest
 pub record Seam (text p : List ℕ) (b : ℕ) (rest : List ℕ) (i : ℕ) : Type 0 where
@@ -64,159 +104,305 @@ seam text p b rest i e l =
     l′ : length (p ++ (b ∷ [])) ≡ suc i
     l′ = omega (arith, length-append p (b ∷ []))
 
--- `(` and `,` are no label bytes
-edge-byte : (b : ℕ) → (b ≡ openByte) ⊎ (b ≡ commaByte) → isLabelByte b ≡ false
-edge-byte b (inl e) = rw e open-plain
-edge-byte b (inr e) = rw e comma-plain
+-- none of its bytes is `(` or `,`
+not-inner : (b : ℕ) → (b ≡ openByte) ⊎ (b ≡ commaByte) → isInnerByte b ≡ false
+not-inner b (inl e) = rw e (open-plain .inner)
+not-inner b (inr e) = rw e (comma-plain .inner)
 
--- labels that begin at different places do not touch
-pub starts-apart : (Whole : List ℕ → Type 0) (text : List ℕ) (j k : ℕ) → LabelStarts Whole text k → j < k → j + length (labelFrom text j) < k
-starts-apart Whole text j zero s h = omega arith
-starts-apart Whole text j (suc m) s h = go (lt-or-le (j + length (labelFrom text j)) (suc m))
+not-quote : (b : ℕ) → (b ≡ openByte) ⊎ (b ≡ commaByte) → b ≡ quoteByte → ⊥
+not-quote b (inl e) d = omega arith
+not-quote b (inr e) d = omega arith
+
+no-edge-in : (text : List ℕ) (j m : ℕ) → j ≤ m → m < innerEnd text j → (getD text m 0 ≡ openByte) ⊎ (getD text m 0 ≡ commaByte) → ⊥
+no-edge-in text j m l h e = go (lt-or-le m (innerStart text j))
   where
-    go : (j + length (labelFrom text j) < suc m) ⊎ (suc m ≤ j + length (labelFrom text j)) → j + length (labelFrom text j) < suc m
+    go : (m < innerStart text j) ⊎ (innerStart text j ≤ m) → ⊥
+    go (inl k) = not-quote (getD text m 0) e (first-at text j (quoteFirst (drop j text)) refl m l k)
+    go (inr k) = clash (inner-byte text j m k h) (not-inner (getD text m 0) e)
+
+-- so a token ends before the next place at which one can begin
+pub ends-before : (text : List ℕ) (j k : ℕ) → Edge text k → j < k → innerEnd text j < k
+ends-before text j zero g h = omega arith
+ends-before text j (suc m) g h = go (lt-or-le (innerEnd text j) (suc m))
+  where
+    go : (innerEnd text j < suc m) ⊎ (suc m ≤ innerEnd text j) → innerEnd text j < suc m
     go (inl l) = l
-    go (inr l) = clash (label-at text j m (omega arith) (omega arith)) (edge-byte (getD text m 0) (s .first m refl))
+    go (inr l) = absurd (no-edge-in text j m (omega arith) (omega arith) (g m refl))
+
+-- ---- what is known of the labels before a place
 
 -- `seen` are the labels that begin before place i
 pub record Known (Whole : List ℕ → Type 0) (text : List ℕ) (seen : List Label) (i : ℕ) : Type 0 where
-  pub known : (k : ℕ) → LabelStarts Whole text k → k < i → isIn (labelFrom text k) seen ≡ true
-  pub origin : (y : Label) → isIn y seen ≡ true → (k : ℕ) × (k < i) × LabelStarts Whole text k × (labelFrom text k ≡ y)
+  pub known : (k : ℕ) → LabelStarts Whole text k → k < i → isIn (labelFrom text k .label) seen ≡ true
+  pub origin : (y : Label) → isIn y seen ≡ true → (k : ℕ) × (k < i) × LabelStarts Whole text k × (labelFrom text k .label ≡ y)
 
--- inside a label: it began at `start`, and x are its bytes before place i
-pub record Inside (Whole : List ℕ → Type 0) (text : List ℕ) (seen : List Label) (x : Label) (i : ℕ) : Type 0 where
+-- inside a token: it began at `start` and is no repeat, and x are its inner bytes before place i
+pub record Inside (Whole : List ℕ → Type 0) (text : List ℕ) (seen : List Label) (q : Bool) (x : List ℕ) (i : ℕ) : Type 0 where
   pub start : ℕ
   pub starts : LabelStarts Whole text start
   pub marks : Known Whole text seen start
-  pub reach : start + length x ≡ i
-  pub some : 1 ≤ length x
-  pub run : labelFrom text start ≡ x ++ labelRun (drop i text)
+  pub form : quoteFirst (drop start text) ≡ q
+  pub reach : start + openingOf q + length x ≡ i
+  pub past : start < i
+  pub letters : allOf (innerOf q) x ≡ true
+  pub short : length x ≤ labelLimit
+  pub run : labelFrom text start .inner ≡ x ++ runOf (innerOf q) (drop i text)
+  pub fresh : repeats seen (drop start text) ≡ false
+
+-- the token is complete and its label new; `seen` are the tokens before it
+pub record Ended (Whole : List ℕ → Type 0) (text : List ℕ) (seen : List Token) (tok : Token) (i : ℕ) : Type 0 where
+  pub well : goodLabel tok ≡ true
+  pub new : isIn (spelling tok) (map spelling seen) ≡ false
+  pub marks : Known Whole text (map spelling (seen ++ (tok ∷ []))) i
 
 module _ (Whole : List ℕ → Type 0) (text : List ℕ) where
   pub known-start : Known Whole text [] 0
   known-start = record { known = λ k s l. absurd (omega arith); origin = λ y h. clash h (in-none y) }
 
-  pub known-skip : (seen : List Label) (i : ℕ) → isLabelByte (getD text i 0) ≡ false → Known Whole text seen i → Known Whole text seen (suc i)
+  -- no label begins here
+  pub known-skip : (seen : List Label) (i : ℕ) → (LabelStarts Whole text i → ⊥) → Known Whole text seen i → Known Whole text seen (suc i)
   known-skip seen i n m =
       record {
         known = λ k s l. go k s l (lt-or-le k i);
         origin = λ y h. let o = m .origin y h in (o .0, wide (o .0) (o .1), o .2, o .3);
       }
     where
-      go : (k : ℕ) → LabelStarts Whole text k → k < suc i → (k < i) ⊎ (i ≤ k) → isIn (labelFrom text k) seen ≡ true
+      go : (k : ℕ) → LabelStarts Whole text k → k < suc i → (k < i) ⊎ (i ≤ k) → isIn (labelFrom text k .label) seen ≡ true
       go k s l (inl h) = m .known k s h
-      go k s l (inr h) = clash (s .labelByte) (subst (λ (w : ℕ). isLabelByte (getD text w 0) ≡ false) e n)
+      go k s l (inr h) = absurd (n (subst (LabelStarts Whole text) e s))
         where
-          e : i ≡ k
+          e : k ≡ i
           e = omega arith
 
       wide : (k : ℕ) → k < i → k < suc i
       wide k l = omega arith
 
-  pub inside-begin : (seen : List Label) (i b : ℕ) (rest : List ℕ) → drop i text ≡ b ∷ rest → drop (suc i) text ≡ rest
-      → LabelStarts Whole text i → isLabelByte b ≡ true → Known Whole text seen i → Inside Whole text seen (b ∷ []) (suc i)
-  inside-begin seen i b rest e f s h m =
+  -- a bare label begins
+  pub bare-begins : (seen : List Label) (i b : ℕ) (rest : List ℕ) → drop i text ≡ b ∷ rest → drop (suc i) text ≡ rest
+      → LabelStarts Whole text i → isLabelByte b ≡ true → repeats seen (drop i text) ≡ false → Known Whole text seen i
+      → Inside Whole text seen false (b ∷ []) (suc i)
+  bare-begins seen i b rest e f s h n m =
       record {
         start = i;
         starts = s;
         marks = m;
+        form = bare;
         reach = omega arith;
-        some = omega arith;
-        run = ap labelRun e ∙ run-cons b rest h ∙ ap (λ (r : List ℕ). b ∷ labelRun r) (sym f);
+        past = omega arith;
+        letters = bytes-one isLabelByte b h;
+        short = omega arith;
+        run =
+            ahead-inner false (drop i text) bare
+            ∙ ap (runOf isLabelByte) e
+            ∙ run-cons isLabelByte b rest h
+            ∙ ap (λ (r : List ℕ). b ∷ runOf isLabelByte r) (sym f);
+        fresh = n;
       }
+    where
+      bare : quoteFirst (drop i text) ≡ false
+      bare = ap quoteFirst e ∙ other-first b rest (label-not-quote b h)
 
-  pub inside-grow : (seen : List Label) (x : Label) (i b : ℕ) (rest : List ℕ) → drop i text ≡ b ∷ rest → drop (suc i) text ≡ rest
-      → isLabelByte b ≡ true → Inside Whole text seen x i → Inside Whole text seen (x ++ (b ∷ [])) (suc i)
-  inside-grow seen x i b rest e f h m =
+  -- a quote opens a label
+  pub quoted-begins : (seen : List Label) (i b : ℕ) (rest : List ℕ) → drop i text ≡ b ∷ rest → b ≡ quoteByte
+      → LabelStarts Whole text i → repeats seen (drop i text) ≡ false → Known Whole text seen i
+      → Inside Whole text seen true [] (suc i)
+  unfolding allOf
+  quoted-begins seen i b rest e c s n m =
+      record {
+        start = i;
+        starts = s;
+        marks = m;
+        form = open-quote;
+        reach = omega arith;
+        past = omega arith;
+        letters = refl;
+        short = omega arith;
+        run = inner-at text i true open-quote ∙ ap (λ (k : ℕ). runOf isInnerByte (drop k text)) one-more;
+        fresh = n;
+      }
+    where
+      open-quote : quoteFirst (drop i text) ≡ true
+      open-quote = ap quoteFirst e ∙ ap (λ (w : ℕ). quoteFirst (w ∷ rest)) c ∙ quote-first rest
+
+      one-more : i + 1 ≡ suc i
+      one-more = omega arith
+
+  pub inside-grow : (seen : List Label) (q : Bool) (x : List ℕ) (i b : ℕ) (rest : List ℕ) → drop i text ≡ b ∷ rest → drop (suc i) text ≡ rest
+      → innerOf q b ≡ true → (length x ≡ labelLimit → ⊥) → Inside Whole text seen q x i → Inside Whole text seen q (x ++ (b ∷ [])) (suc i)
+  inside-grow seen q x i b rest e f h n m =
       record {
         start = m .start;
         starts = m .starts;
         marks = m .marks;
+        form = m .form;
         reach = omega (arith, length-append x (b ∷ []), m .reach);
-        some = omega (arith, length-append x (b ∷ []));
+        past = omega (arith, m .past);
+        letters = bytes-snoc (innerOf q) x b (m .letters) h;
+        short = less (m .short);
         run =
             m .run
-            ∙ ap (λ (r : List ℕ). x ++ labelRun r) e
-            ∙ ap (λ (r : List ℕ). x ++ r) (run-cons b rest h)
-            ∙ sym (append-assoc x (b ∷ []) (labelRun rest))
-            ∙ ap (λ (r : List ℕ). (x ++ (b ∷ [])) ++ labelRun r) (sym f);
-      }
-
-  -- the label ends here, and is one of those seen
-  pub inside-end : (seen : List Label) (x : Label) (i : ℕ) → labelRun (drop i text) ≡ [] → Inside Whole text seen x i
-      → Known Whole text (seen ++ (x ∷ [])) i
-  inside-end seen x i e m =
-      record {
-        known = λ k s l. go k s l (lt-or-le k (m .start)) (lt-or-le (m .start) k);
-        origin = λ y h. from y (in-last-cases y seen x h);
+            ∙ ap (λ (r : List ℕ). x ++ runOf (innerOf q) r) e
+            ∙ ap (λ (r : List ℕ). x ++ r) (run-cons (innerOf q) b rest h)
+            ∙ sym (append-assoc x (b ∷ []) (runOf (innerOf q) rest))
+            ∙ ap (λ (r : List ℕ). (x ++ (b ∷ [])) ++ runOf (innerOf q) r) (sym f);
+        fresh = m .fresh;
       }
     where
-      whole : labelFrom text (m .start) ≡ x
-      whole = m .run ∙ ap (λ (r : List ℕ). x ++ r) e ∙ append-nil x
+      less : length x ≤ labelLimit → length (x ++ (b ∷ [])) ≤ labelLimit
+      less l = omega (arith, length-append x (b ∷ []), n)
 
-      go : (k : ℕ) → LabelStarts Whole text k → k < i → (k < m .start) ⊎ (m .start ≤ k) → (m .start < k) ⊎ (k ≤ m .start)
-          → isIn (labelFrom text k) (seen ++ (x ∷ [])) ≡ true
-      go k s l (inl h) g = in-left (labelFrom text k) seen (x ∷ []) (m .marks .known k s h)
-      go k s l (inr h) (inl g) = absurd (omega (arith, starts-apart Whole text (m .start) k s g, ap length whole, m .reach))
-      go k s l (inr h) (inr g) =
-          subst (λ (w : Label). isIn w (seen ++ (x ∷ [])) ≡ true) (sym whole ∙ ap (λ (n : ℕ). labelFrom text n) d) (in-here x seen [])
-        where
-          d : m .start ≡ k
-          d = omega arith
+  -- where a token goes on, no other can begin
+  pub inside-edge : (seen : List Label) (q : Bool) (x : List ℕ) (i : ℕ) (m : Inside Whole text seen q x i) (k : ℕ) → Edge text k → k ≤ i
+      → k ≤ m .start
+  inside-edge seen q x i m k g l = go (lt-or-le (m .start) k)
+    where
+      go : (m .start < k) ⊎ (k ≤ m .start) → k ≤ m .start
+      go (inl h) =
+          absurd
+          (omega (
+            arith,
+            ends-before text (m .start) k g h,
+            m .reach,
+            opening-at text (m .start) q (m .form),
+            ap length (m .run),
+            length-append x (runOf (innerOf q) (drop i text)),
+          ))
+      go (inr h) = h
 
-      from : (y : Label) → (isIn y seen ≡ true) ⊎ (y ≡ x) → (k : ℕ) × (k < i) × LabelStarts Whole text k × (labelFrom text k ≡ y)
-      from y (inl h) = let o = m .marks .origin y h in (o .0, omega (arith, o .1, m .reach), o .2, o .3)
-      from y (inr h) = (m .start, omega (arith, m .reach, m .some), m .starts, whole ∙ sym h)
+  pub inside-no-start : (seen : List Label) (q : Bool) (x : List ℕ) (i : ℕ) → Inside Whole text seen q x i → Edge text i → ⊥
+  inside-no-start seen q x i m g = omega (arith, inside-edge seen q x i m i g (omega arith), m .past)
 
-  -- inside a label the byte before is a label byte
-  pub inside-edge : (seen : List Label) (x : Label) (i : ℕ) → Inside Whole text seen x i → Edge text i → ⊥
-  inside-edge seen x zero m g = omega (arith, m .reach, m .some)
-  inside-edge seen x (suc k) m g =
-      clash
-      (label-at text (m .start) k (omega (arith, m .reach, m .some))
-      (omega (arith, m .reach, m .some, ap length (m .run), length-append x (labelRun (drop (suc k) text)))))
-      (edge-byte (getD text k 0) (g k refl))
+  -- the token's inner bytes end here
+  module _ (seen : List Label) (q : Bool) (x : List ℕ) (i : ℕ) (m : Inside Whole text seen q x i) (e : runOf (innerOf q) (drop i text) ≡ []) where
+    whole : labelFrom text (m .start) .inner ≡ x
+    whole = m .run ∙ ap (λ (r : List ℕ). x ++ r) e ∙ append-nil x
+
+    named : labelFrom text (m .start) .label ≡ labelBy q x
+    named = ahead-label q (drop (m .start) text) (m .form) ∙ ap (labelBy q) whole
+
+    -- and its label is one of those seen
+    pub inside-known : Known Whole text (seen ++ (labelBy q x ∷ [])) i
+    inside-known =
+        record {
+          known = λ k s l. go k s l (lt-or-le k (m .start));
+          origin = λ y h. from y (in-last-cases y seen (labelBy q x) h);
+        }
+      where
+        go : (k : ℕ) → LabelStarts Whole text k → k < i → (k < m .start) ⊎ (m .start ≤ k)
+            → isIn (labelFrom text k .label) (seen ++ (labelBy q x ∷ [])) ≡ true
+        go k s l (inl h) = in-left (labelFrom text k .label) seen (labelBy q x ∷ []) (m .marks .known k s h)
+        go k s l (inr h) =
+            subst (λ (w : Label). isIn w (seen ++ (labelBy q x ∷ [])) ≡ true) (sym named ∙ ap (λ (n : ℕ). labelFrom text n .label) d)
+            (in-here (labelBy q x) seen [])
+          where
+            d : m .start ≡ k
+            d = omega (arith, inside-edge seen q x i m k (s .first) (omega arith))
+
+        from : (y : Label) → (isIn y seen ≡ true) ⊎ (y ≡ labelBy q x)
+            → (k : ℕ) × (k < i) × LabelStarts Whole text k × (labelFrom text k .label ≡ y)
+        from y (inl h) = let o = m .marks .origin y h in (o .0, omega (arith, o .1, m .past), o .2, o .3)
+        from y (inr h) = (m .start, m .past, m .starts, named ∙ sym h)
+
+    -- which, being closed, it does not repeat
+    pub inside-new : 1 ≤ length x → closedBy q (drop i text) ≡ true → isIn (labelBy q x) seen ≡ false
+    inside-new l c =
+        refute (isIn (labelBy q x) seen) (λ (h : isIn (labelBy q x) seen ≡ true).
+        clash
+        (repeats-intro seen (drop (m .start) text) (omega (arith, ap length whole, m .short)) closed
+        (subst (λ (w : Label). isIn w seen ≡ true) (sym named) h))
+        (m .fresh))
+      where
+        beyond : drop (length x) (drop (openingOf q) (drop (m .start) text)) ≡ drop i text
+        beyond =
+            ap (drop (length x)) (drop-drop (openingOf q) (m .start) text)
+            ∙ drop-drop (length x) (m .start + openingOf q) text
+            ∙ ap (λ (n : ℕ). drop n text) (m .reach)
+
+        closed : labelFrom text (m .start) .closed ≡ true
+        closed =
+            ahead-closed q (drop (m .start) text) (m .form)
+            ∙ ap (λ (y : List ℕ). leb 1 (length y) && closedBy q (drop (length y) (drop (openingOf q) (drop (m .start) text)))) whole
+            ∙ rw (beyond, le-leb 1 (length x) l, c) refl
+
+  -- so for a list of tokens
+  spelled-more : (seen : List Token) (tok : Token) (x : Label) → spelling tok ≡ x → map spelling seen ++ (x ∷ []) ≡ map spelling (seen ++ (tok ∷ []))
+  spelled-more seen tok x e = ap (λ (w : Label). map spelling seen ++ (w ∷ [])) (sym e) ∙ sym (map-append spelling seen (tok ∷ []))
+
+  ended : (seen : List Token) (q : Bool) (x : List ℕ) (i k : ℕ) → Inside Whole text (map spelling seen) q x i → 1 ≤ length x
+      → isIn (labelBy q x) (map spelling seen) ≡ false → Known Whole text (map spelling seen ++ (labelBy q x ∷ [])) k
+      → Ended Whole text seen (tokenBy q x) k
+  ended seen q x i k m l n w =
+      record {
+        well = form-good q x l (m .short) (m .letters);
+        new = subst (λ (y : Label). isIn y (map spelling seen) ≡ false) (sym (form-spelling q x (m .letters))) n;
+        marks =
+            subst (λ (ys : List Label). Known Whole text ys k) (spelled-more seen (tokenBy q x) (labelBy q x) (form-spelling q x (m .letters))) w;
+      }
+
+  -- a bare label ends with the byte before this place
+  pub bare-ended : (seen : List Token) (x : List ℕ) (i : ℕ) → Inside Whole text (map spelling seen) false x i
+      → runOf isLabelByte (drop i text) ≡ [] → Ended Whole text seen x i
+  bare-ended seen x i m e =
+      ended seen false x i i m (omega (arith, m .reach, m .past))
+      (inside-new (map spelling seen) false x i m e (omega (arith, m .reach, m .past)) refl)
+      (inside-known (map spelling seen) false x i m e)
+
+  -- a quoted one with the quote at this place
+  pub quote-ended : (seen : List Token) (x : List ℕ) (i b : ℕ) (rest : List ℕ) → Inside Whole text (map spelling seen) true x i
+      → drop i text ≡ b ∷ rest → b ≡ quoteByte → 1 ≤ length x → Ended Whole text seen (tokenBy true x) (suc i)
+  quote-ended seen x i b rest m e c l =
+      ended seen true x i (suc i) m l (inside-new (map spelling seen) true x i m none l (ap quoteFirst here ∙ quote-first rest))
+      (known-skip (map spelling seen ++ (x ∷ [])) i
+      (λ (s : LabelStarts Whole text i). inside-no-start (map spelling seen) true x i m (s .first))
+      (inside-known (map spelling seen) true x i m none))
+    where
+      here : drop i text ≡ quoteByte ∷ rest
+      here = e ∙ ap (λ (w : ℕ). w ∷ rest) c
+
+      none : runOf isInnerByte (drop i text) ≡ []
+      none = ap (runOf isInnerByte) here ∙ run-none isInnerByte quoteByte rest quote-not-inner
+
+  -- ---- which faults do not stand at a place
 
   -- no label has its 17th byte here
   abbrev pub NotLong : ℕ → Type 0
-  NotLong i = (j : ℕ) → LabelStarts Whole text j → labelLimit < length (labelFrom text j) → j + labelLimit ≡ i → ⊥
+  NotLong i =
+      (j : ℕ) → LabelStarts Whole text j → labelLimit < length (labelFrom text j .inner) → j + labelFrom text j .opening + labelLimit ≡ i → ⊥
 
   -- no label that begins here is a repeat
   abbrev pub NotRepeat : ℕ → Type 0
   NotRepeat i =
-      (k : ℕ) → k < i → LabelStarts Whole text i → LabelStarts Whole text k → length (labelFrom text i) ≤ labelLimit
-      → labelFrom text k ≡ labelFrom text i → ⊥
+      (k : ℕ) → k < i → LabelStarts Whole text i → LabelStarts Whole text k → length (labelFrom text i .inner) ≤ labelLimit
+      → labelFrom text i .closed ≡ true → labelFrom text k .label ≡ labelFrom text i .label → ⊥
 
-  pub plain-not-long : (i : ℕ) → isLabelByte (getD text i 0) ≡ false → NotLong i
-  plain-not-long i n j s l e = clash (label-at text j i (omega arith) (omega arith)) n
+  pub plain-not-long : (i : ℕ) → isInnerByte (getD text i 0) ≡ false → NotLong i
+  plain-not-long i n j s l e = clash (inner-byte text j i (omega arith) (omega arith)) n
 
   pub edge-not-long : (i : ℕ) → Edge text i → NotLong i
-  edge-not-long zero g j s l e = omega arith
-  edge-not-long (suc k) g j s l e = clash (label-at text j k (omega arith) (omega arith)) (edge-byte (getD text k 0) (g k refl))
+  edge-not-long i g j s l e = omega (arith, ends-before text j i g (omega arith))
 
-  pub inside-not-long : (seen : List Label) (x : Label) (i : ℕ) → Inside Whole text seen x i → (length x ≡ labelLimit → ⊥) → NotLong i
-  inside-not-long seen x i m n j s l e = go (lt-or-le j (m .start)) (lt-or-le (m .start) j)
+  pub inside-not-long : (seen : List Label) (q : Bool) (x : List ℕ) (i : ℕ) → Inside Whole text seen q x i → (length x ≡ labelLimit → ⊥) → NotLong i
+  inside-not-long seen q x i m n j s l e = go (lt-or-le j (m .start))
     where
-      go : (j < m .start) ⊎ (m .start ≤ j) → (m .start < j) ⊎ (j ≤ m .start) → ⊥
-      go (inl h) g = omega (arith, starts-apart Whole text j (m .start) (m .starts) h, m .reach)
-      go (inr h) (inl g) =
-          omega (arith, starts-apart Whole text (m .start) j s g, m .reach, ap length (m .run), length-append x (labelRun (drop i text)))
-      go (inr h) (inr g) = n (omega (arith, m .reach))
+      go : (j < m .start) ⊎ (m .start ≤ j) → ⊥
+      go (inl h) = omega (arith, ends-before text j (m .start) (m .starts .first) h, m .past)
+      go (inr h) = n (omega (arith, m .reach, here, e))
+        where
+          same : j ≡ m .start
+          same = omega (arith, inside-edge seen q x i m j (s .first) (omega arith))
 
-  pub plain-not-repeat : (i : ℕ) → isLabelByte (getD text i 0) ≡ false → NotRepeat i
-  plain-not-repeat i n k l s t b e = clash (s .labelByte) n
+          here : j + labelFrom text j .opening ≡ m .start + openingOf q
+          here = ap (λ (w : ℕ). w + labelFrom text w .opening) same ∙ ap (λ (w : ℕ). m .start + w) (opening-at text (m .start) q (m .form))
 
-  pub inside-not-repeat : (seen : List Label) (x : Label) (i : ℕ) → Inside Whole text seen x i → NotRepeat i
-  inside-not-repeat seen x i m k l s t b e = inside-edge seen x i m (s .first)
+  pub plain-not-repeat : (i : ℕ) → (isLabelByte (getD text i 0) || eqb (getD text i 0) quoteByte) ≡ false → NotRepeat i
+  plain-not-repeat i n k l s t b c e = clash (s .beginning) n
+
+  pub inside-not-repeat : (seen : List Label) (q : Bool) (x : List ℕ) (i : ℕ) → Inside Whole text seen q x i → NotRepeat i
+  inside-not-repeat seen q x i m k l s t b c e = inside-no-start seen q x i m (s .first)
 
   pub known-not-repeat : (seen : List Label) (i : ℕ) → Known Whole text seen i → repeats seen (drop i text) ≡ false → NotRepeat i
-  unfolding repeats
-  known-not-repeat seen i m h k l s t b e =
-      clash
-      (and-intro (leb (length (labelFrom text i)) labelLimit) (isIn (labelFrom text i) seen)
-      (le-leb (length (labelFrom text i)) labelLimit b)
-      (subst (λ (w : Label). isIn w seen ≡ true) e (m .known k t l)))
-      h
+  known-not-repeat seen i m h k l s t b c e =
+      clash (repeats-intro seen (drop i text) b c (subst (λ (w : Label). isIn w seen ≡ true) e (m .known k t l))) h
 
 module _ (Whole : List ℕ → Type 0) (Crowd : List ℕ → ℕ → Type 0) (text : List ℕ) where
   -- a repeat of one of the labels seen
@@ -224,23 +410,24 @@ module _ (Whole : List ℕ → Type 0) (Crowd : List ℕ → ℕ → Type 0) (te
       → Fault Whole Crowd text Repeated i
   repeat-fault seen i m s h =
       let g = repeats-parts seen (drop i text) h in
-      let o = m .origin (labelFrom text i) (g .1) in
-      repeated i (o .0) (o .1) s (o .2) (g .0) (o .3)
+      let o = m .origin (labelFrom text i .label) (g .2) in
+      repeated i (o .0) (o .1) s (o .2) (g .0) (g .1) (o .3)
 
   -- the 17th byte of a label
-  pub long-fault : (seen : List Label) (x : Label) (i b : ℕ) (rest : List ℕ) → drop i text ≡ b ∷ rest → isLabelByte b ≡ true
-      → length x ≡ labelLimit → Inside Whole text seen x i → Fault Whole Crowd text LabelTooLong i
-  long-fault seen x i b rest e h l m =
+  pub long-fault : (seen : List Label) (q : Bool) (x : List ℕ) (i b : ℕ) (rest : List ℕ) → drop i text ≡ b ∷ rest → innerOf q b ≡ true
+      → length x ≡ labelLimit → Inside Whole text seen q x i → Fault Whole Crowd text LabelTooLong i
+  long-fault seen q x i b rest e h l m =
       subst (λ (w : ℕ). Fault Whole Crowd text LabelTooLong w) at (label-too-long (m .start) (m .starts) longer)
     where
-      at : m .start + labelLimit ≡ i
-      at = omega (arith, m .reach)
+      at : m .start + labelFrom text (m .start) .opening + labelLimit ≡ i
+      at = omega (arith, m .reach, opening-at text (m .start) q (m .form))
 
-      run : labelFrom text (m .start) ≡ x ++ (b ∷ labelRun rest)
-      run = m .run ∙ ap (λ (r : List ℕ). x ++ labelRun r) e ∙ ap (λ (r : List ℕ). x ++ r) (run-cons b rest h)
+      run : labelFrom text (m .start) .inner ≡ x ++ (b ∷ runOf (innerOf q) rest)
+      run =
+          m .run ∙ ap (λ (r : List ℕ). x ++ runOf (innerOf q) r) e ∙ ap (λ (r : List ℕ). x ++ r) (run-cons (innerOf q) b rest h)
 
-      longer : labelLimit < length (labelFrom text (m .start))
-      longer = omega (arith, ap length run, length-append x (b ∷ labelRun rest))
+      longer : labelLimit < length (labelFrom text (m .start) .inner)
+      longer = omega (arith, ap length run, length-append x (b ∷ runOf (innerOf q) rest))
 
   -- what can be a fault at place i, by the numbers below n excluded one by one
   pub at-least : (n i : ℕ) → (1 < n → i < length text → Continues Whole (take (suc i) text)) → (2 < n → length text ≡ i → Whole text)
@@ -268,13 +455,14 @@ module _ (Whole : List ℕ → Type 0) (Crowd : List ℕ → ℕ → Type 0) (te
       go : (4 < n) ⊎ (n ≤ 4) → n ≤ 4
       go (inl h) = absurd (c4 h (subst (λ (w : ℕ). Crowd text w) e c))
       go (inr h) = h
-  at-least n i c1 c2 c3 c4 c5 Repeated j (repeated j′ k l s t b d) e = go (lt-or-le 5 n)
+  at-least n i c1 c2 c3 c4 c5 Repeated j (repeated j′ k l s t b f d) e = go (lt-or-le 5 n)
     where
       go : (5 < n) ⊎ (n ≤ 5) → n ≤ 5
       go (inl h) =
           absurd
-          (subst (λ (w : ℕ). (k < w → LabelStarts Whole text w → length (labelFrom text w) ≤ labelLimit → labelFrom text k ≡ labelFrom text w → ⊥)) (sym e)
-          (λ l′ s′ b′ d′. c5 h k l′ s′ t b′ d′) l s b d)
+          (subst
+          (λ (w : ℕ). (k < w → LabelStarts Whole text w → length (labelFrom text w .inner) ≤ labelLimit → labelFrom text w .closed ≡ true
+          → labelFrom text k .label ≡ labelFrom text w .label → ⊥)) (sym e) (λ l′ s′ b′ f′ d′. c5 h k l′ s′ t b′ f′ d′) l s b f d)
       go (inr h) = h
 
   pub fault-number : (q : Reason) (j : ℕ) → Fault Whole Crowd text q j → numberOf q ≤ 5
@@ -283,7 +471,7 @@ module _ (Whole : List ℕ → Type 0) (Crowd : List ℕ → ℕ → Type 0) (te
   fault-number EndsTooSoon j (ends-too-soon a d) = omega arith
   fault-number LabelTooLong j (label-too-long k s l) = omega arith
   fault-number TooMany j (too-many i c) = omega arith
-  fault-number Repeated j (repeated j′ k l s t b d) = omega arith
+  fault-number Repeated j (repeated j′ k l s t b f d) = omega arith
 
   -- no fault stands before place i
   abbrev pub Clean : ℕ → Type 0
@@ -317,33 +505,44 @@ module _ (Whole : List ℕ → Type 0) (Crowd : List ℕ → ℕ → Type 0) (te
   none-left c w m BadByte j (bad-byte i l a d) = omega (arith, m BadByte i (bad-byte i l a d))
   none-left c w m EndsTooSoon j (ends-too-soon a d) = d w
   none-left c w m LabelTooLong j (label-too-long k s l) =
-      omega (arith, label-inside text k labelLimit l, m LabelTooLong (k + labelLimit) (label-too-long k s l))
+      omega (arith, inner-inside text k labelLimit l, m LabelTooLong (k + labelFrom text k .opening + labelLimit) (label-too-long k s l))
   none-left c w m TooMany j (too-many i d) = omega (arith, c i d, m TooMany i (too-many i d))
-  none-left c w m Repeated j (repeated i k l s t b d) = omega (arith, s .inside, m Repeated i (repeated i k l s t b d))
+  none-left c w m Repeated j (repeated i k l s t b f d) = omega (arith, s .inside, m Repeated i (repeated i k l s t b f d))
 
--- p was read and rest is left at place i: the labels seen are good and different, and no fault stands before i
-pub record Read (Whole : List ℕ → Type 0) (Crowd : List ℕ → ℕ → Type 0) (text p rest : List ℕ) (i : ℕ) (seen : List Label) : Type 0 where
+-- p was read and rest is left at place i: the tokens seen are good and their labels different, and no fault stands before i
+pub record Read (Whole : List ℕ → Type 0) (Crowd : List ℕ → ℕ → Type 0) (text p rest : List ℕ) (i : ℕ) (seen : List Token) : Type 0 where
   pub split : text ≡ p ++ rest
   pub place : i ≡ length p
   pub fine : goodLabels seen ≡ true
-  pub different : distinct seen ≡ true
+  pub different : distinct (map spelling seen) ≡ true
   pub clean : Clean Whole Crowd text i
 
 pub read-start : (Whole : List ℕ → Type 0) (Crowd : List ℕ → ℕ → Type 0) (text : List ℕ) → Read Whole Crowd text [] text 0 []
 read-start Whole Crowd text =
     record { split = refl; place = refl; fine = good-none; different = distinct-none; clean = λ q j f. omega arith }
 
+-- a token that is complete joins those seen
+pub read-more : {Whole : List ℕ → Type 0} {Crowd : List ℕ → ℕ → Type 0} {text p rest : List ℕ} {i : ℕ} {seen : List Token} {tok : Token} {k : ℕ}
+    → Read Whole Crowd text p rest i seen → Ended Whole text seen tok k → Read Whole Crowd text p rest i (seen ++ (tok ∷ []))
+read-more {seen = seen} {tok = tok} r e =
+    record {
+      split = r .split;
+      place = r .place;
+      fine = good-join seen (tok ∷ []) (r .fine) (good-cons tok [] (e .well) good-none);
+      different =
+          subst (λ (ys : List Label). distinct ys ≡ true) (sym (map-append spelling seen (tok ∷ [])))
+          (distinct-last (map spelling seen) (spelling tok) (r .different) (e .new));
+      clean = r .clean;
+    }
+
 -- at the byte b: the first fault stands here, or the byte is passed
-module _ {Whole : List ℕ → Type 0} {Crowd : List ℕ → ℕ → Type 0} {text p : List ℕ} {b : ℕ} {rest : List ℕ} {i : ℕ} {seen : List Label}
+module _ {Whole : List ℕ → Type 0} {Crowd : List ℕ → ℕ → Type 0} {text p : List ℕ} {b : ℕ} {rest : List ℕ} {i : ℕ} {seen : List Token}
     (r : Read Whole Crowd text p (b ∷ rest) i seen) where
   cut : Seam text p b rest i
   cut = seam text p b rest i (r .split) (r .place)
 
   pub allowed-here : Continues Whole (p ++ (b ∷ [])) → Continues Whole (take (suc i) text)
   allowed-here c = subst (Continues Whole) (sym (cut .upto)) c
-
-  plain : isLabelByte b ≡ false → isLabelByte (getD text i 0) ≡ false
-  plain h = subst (λ (w : ℕ). isLabelByte w ≡ false) (sym (cut .byte)) h
 
   go-past : Continues Whole (p ++ (b ∷ [])) → NotLong Whole text i → (Crowd text i → ⊥) → NotRepeat Whole text i
       → Read Whole Crowd text (p ++ (b ∷ [])) rest (suc i) seen
@@ -380,13 +579,22 @@ module _ {Whole : List ℕ → Type 0} {Crowd : List ℕ → ℕ → Type 0} {te
       (at-least Whole Crowd text 4 i (λ a z. allowed-here c) (λ a z. absurd (omega (arith, cut .inside))) (λ a. n) (λ a. absurd (omega arith))
       (λ a. absurd (omega arith)))
 
-  -- a byte that is no label byte
-  pub plain-not-long-here : isLabelByte b ≡ false → NotLong Whole text i
-  plain-not-long-here n = plain-not-long Whole text i (plain n)
+  -- a byte that is in no label
+  plain-inner : Plain b → isInnerByte (getD text i 0) ≡ false
+  plain-inner n = subst (λ (w : ℕ). isInnerByte w ≡ false) (sym (cut .byte)) (n .inner)
 
-  pub plain-pass : isLabelByte b ≡ false → Continues Whole (p ++ (b ∷ [])) → (Crowd text i → ⊥)
+  plain-begins : Plain b → (isLabelByte (getD text i 0) || eqb (getD text i 0) quoteByte) ≡ false
+  plain-begins n = subst (λ (w : ℕ). (isLabelByte w || eqb w quoteByte) ≡ false) (sym (cut .byte)) (n .begins)
+
+  pub plain-not-long-here : Plain b → NotLong Whole text i
+  plain-not-long-here n = plain-not-long Whole text i (plain-inner n)
+
+  pub plain-no-start : Plain b → LabelStarts Whole text i → ⊥
+  plain-no-start n s = clash (s .beginning) (plain-begins n)
+
+  pub plain-pass : Plain b → Continues Whole (p ++ (b ∷ [])) → (Crowd text i → ⊥)
       → Read Whole Crowd text (p ++ (b ∷ [])) rest (suc i) seen
-  plain-pass n c d = go-past c (plain-not-long Whole text i (plain n)) d (plain-not-repeat Whole text i (plain n))
+  plain-pass n c d = go-past c (plain-not-long-here n) d (plain-not-repeat Whole text i (plain-begins n))
 
   -- after `(` or `,` a label can begin
   pub edge-after : (b ≡ openByte) ⊎ (b ≡ commaByte) → Edge text (suc i)
@@ -396,63 +604,91 @@ module _ {Whole : List ℕ → Type 0} {Crowd : List ℕ → ℕ → Type 0} {te
       same : i ≡ k
       same = omega arith
 
-  pub plain-known : isLabelByte b ≡ false → Known Whole text seen i → Known Whole text seen (suc i)
-  plain-known n = known-skip Whole text seen i (plain n)
+  pub plain-known : {ys : List Label} → Plain b → Known Whole text ys i → Known Whole text ys (suc i)
+  plain-known {ys = ys} n = known-skip Whole text ys i (plain-no-start n)
 
-  -- it ends the label x
-  pub label-read : (x : Label) → isLabelByte b ≡ false → goodLabel x ≡ true → repeats seen (x ++ (b ∷ rest)) ≡ false
-      → Read Whole Crowd text p (b ∷ rest) i (seen ++ (x ∷ []))
-  label-read x n g e =
-      let w = seen-more seen x (b ∷ rest) (r .fine) (r .different) g (run-none b rest n) e in
-      record { split = r .split; place = r .place; fine = w .0; different = w .1; clean = r .clean }
+  -- a byte that is no label byte ends the bare label x
+  pub bare-end-here : {x : List ℕ} → isLabelByte b ≡ false → Inside Whole text (map spelling seen) false x i → Ended Whole text seen x i
+  bare-end-here {x = x} n d = bare-ended Whole text seen x i d (ap (runOf isLabelByte) (cut .onward) ∙ run-none isLabelByte b rest n)
 
-  pub label-known : (x : Label) → isLabelByte b ≡ false → Inside Whole text seen x i → Known Whole text (seen ++ (x ∷ [])) i
-  label-known x n = inside-end Whole text seen x i (ap labelRun (cut .onward) ∙ run-none b rest n)
+  -- inside a token of which x was read
+  module _ {q : Bool} {x : List ℕ} (d : Inside Whole text (map spelling seen) q x i) where
+    -- one more byte of it
+    module _ (h : innerOf q b ≡ true) (c : Continues Whole (p ++ (b ∷ []))) where
+      pub long-here : length x ≡ labelLimit → FirstFault Whole Crowd text LabelTooLong i
+      unfolding numberOf
+      long-here e =
+          first-fault Whole Crowd text LabelTooLong i (r .clean)
+          (long-fault Whole Crowd text (map spelling seen) q x i b rest (cut .onward) h e d)
+          (at-least Whole Crowd text 3 i (λ a z. allowed-here c) (λ a z. absurd (omega (arith, cut .inside))) (λ a. absurd (omega arith))
+          (λ a. absurd (omega arith)) (λ a. absurd (omega arith)))
 
-  -- a label byte inside the label x
-  module _ {x : Label} (d : Inside Whole text seen x i) (h : isLabelByte b ≡ true) (c : Continues Whole (p ++ (b ∷ []))) where
-    pub long-here : length x ≡ labelLimit → FirstFault Whole Crowd text LabelTooLong i
-    unfolding numberOf
-    long-here e =
-        first-fault Whole Crowd text LabelTooLong i (r .clean) (long-fault Whole Crowd text seen x i b rest (cut .onward) h e d)
-        (at-least Whole Crowd text 3 i (λ a z. allowed-here c) (λ a z. absurd (omega (arith, cut .inside))) (λ a. absurd (omega arith))
-        (λ a. absurd (omega arith)) (λ a. absurd (omega arith)))
+      pub letter-pass : (length x ≡ labelLimit → ⊥) → (Crowd text i → ⊥) → Read Whole Crowd text (p ++ (b ∷ [])) rest (suc i) seen
+      letter-pass e n =
+          go-past c (inside-not-long Whole text (map spelling seen) q x i d e) n (inside-not-repeat Whole text (map spelling seen) q x i d)
 
-    pub letter-pass : (length x ≡ labelLimit → ⊥) → (Crowd text i → ⊥) → Read Whole Crowd text (p ++ (b ∷ [])) rest (suc i) seen
-    letter-pass e n = go-past c (inside-not-long Whole text seen x i d e) n (inside-not-repeat Whole text seen x i d)
+      pub letter-inside : (length x ≡ labelLimit → ⊥) → Inside Whole text (map spelling seen) q (x ++ (b ∷ [])) (suc i)
+      letter-inside e = inside-grow Whole text (map spelling seen) q x i b rest (cut .onward) (cut .beyond) h e d
 
-    pub letter-inside : Inside Whole text seen (x ++ (b ∷ [])) (suc i)
-    letter-inside = inside-grow Whole text seen x i b rest (cut .onward) (cut .beyond) h d
+    -- no label begins here
+    pub inside-no-start-here : LabelStarts Whole text i → ⊥
+    inside-no-start-here s = inside-no-start Whole text (map spelling seen) q x i d (s .first)
 
-  -- a label byte where a label can begin
-  module _ (k : Known Whole text seen i) (g : Edge text i) (h : isLabelByte b ≡ true) (c : Continues Whole (p ++ (b ∷ []))) where
+    -- a quote here is passed
+    pub quote-pass : b ≡ quoteByte → Continues Whole (p ++ (b ∷ [])) → (Crowd text i → ⊥)
+        → Read Whole Crowd text (p ++ (b ∷ [])) rest (suc i) seen
+    quote-pass e c n =
+        go-past c (plain-not-long Whole text i (subst (λ (w : ℕ). isInnerByte w ≡ false) (sym (cut .byte ∙ e)) quote-not-inner)) n
+        (inside-not-repeat Whole text (map spelling seen) q x i d)
+
+  -- and closes a quoted label
+  pub quote-end-here : {x : List ℕ} → Inside Whole text (map spelling seen) true x i → b ≡ quoteByte → 1 ≤ length x
+      → Ended Whole text seen (tokenBy true x) (suc i)
+  quote-end-here {x = x} d e l = quote-ended Whole text seen x i b rest d (cut .onward) e l
+
+  -- a label byte or a quote where a label can begin
+  module _ (k : Known Whole text (map spelling seen) i) (g : Edge text i) (h : (isLabelByte b || eqb b quoteByte) ≡ true)
+      (c : Continues Whole (p ++ (b ∷ []))) where
     pub starts-here : LabelStarts Whole text i
     starts-here =
         record {
           inside = cut .inside;
-          labelByte = subst (λ (w : ℕ). isLabelByte w ≡ true) (sym (cut .byte)) h;
+          beginning = subst (λ (w : ℕ). (isLabelByte w || eqb w quoteByte) ≡ true) (sym (cut .byte)) h;
           first = g;
           allowed = allowed-here c;
         }
 
-    test : (t : Bool) → repeats seen (b ∷ rest) ≡ t → repeats seen (drop i text) ≡ t
-    test t e = subst (λ (w : List ℕ). repeats seen w ≡ t) (sym (cut .onward)) e
+    test : (t : Bool) → repeats (map spelling seen) (b ∷ rest) ≡ t → repeats (map spelling seen) (drop i text) ≡ t
+    test t e = subst (λ (w : List ℕ). repeats (map spelling seen) w ≡ t) (sym (cut .onward)) e
 
-    pub repeat-here : (Crowd text i → ⊥) → repeats seen (b ∷ rest) ≡ true → FirstFault Whole Crowd text Repeated i
+    pub repeat-here : (Crowd text i → ⊥) → repeats (map spelling seen) (b ∷ rest) ≡ true → FirstFault Whole Crowd text Repeated i
     unfolding numberOf
     repeat-here n e =
-        first-fault Whole Crowd text Repeated i (r .clean) (repeat-fault Whole Crowd text seen i k starts-here (test true e))
+        first-fault Whole Crowd text Repeated i (r .clean)
+        (repeat-fault Whole Crowd text (map spelling seen) i k starts-here (test true e))
         (at-least Whole Crowd text 5 i (λ a z. allowed-here c) (λ a z. absurd (omega (arith, cut .inside))) (λ a. edge-not-long Whole text i g)
         (λ a. n) (λ a. absurd (omega arith)))
 
-    pub begin-pass : (Crowd text i → ⊥) → repeats seen (b ∷ rest) ≡ false → Read Whole Crowd text (p ++ (b ∷ [])) rest (suc i) seen
-    begin-pass n e = go-past c (edge-not-long Whole text i g) n (known-not-repeat Whole text seen i k (test false e))
+    pub begin-pass : (Crowd text i → ⊥) → repeats (map spelling seen) (b ∷ rest) ≡ false
+        → Read Whole Crowd text (p ++ (b ∷ [])) rest (suc i) seen
+    begin-pass n e = go-past c (edge-not-long Whole text i g) n (known-not-repeat Whole text (map spelling seen) i k (test false e))
 
-    pub begin-inside : Inside Whole text seen (b ∷ []) (suc i)
-    begin-inside = inside-begin Whole text seen i b rest (cut .onward) (cut .beyond) starts-here h k
+    pub bare-inside : isLabelByte b ≡ true → repeats (map spelling seen) (b ∷ rest) ≡ false
+        → Inside Whole text (map spelling seen) false (b ∷ []) (suc i)
+    bare-inside l e = bare-begins Whole text (map spelling seen) i b rest (cut .onward) (cut .beyond) starts-here l (test false e) k
+
+    pub quoted-inside : b ≡ quoteByte → repeats (map spelling seen) (b ∷ rest) ≡ false → Inside Whole text (map spelling seen) true [] (suc i)
+    quoted-inside l e = quoted-begins Whole text (map spelling seen) i b rest (cut .onward) l starts-here (test false e) k
+
+-- a byte that begins a label
+pub label-begins : (b : ℕ) → isLabelByte b ≡ true → (isLabelByte b || eqb b quoteByte) ≡ true
+label-begins b h = or-inl (isLabelByte b) (eqb b quoteByte) h
+
+pub quote-begins : (b : ℕ) → b ≡ quoteByte → (isLabelByte b || eqb b quoteByte) ≡ true
+quote-begins b e = or-inr (isLabelByte b) (eqb b quoteByte) (rw e refl)
 
 -- at the end of the text
-module _ {Whole : List ℕ → Type 0} {Crowd : List ℕ → ℕ → Type 0} {text p : List ℕ} {i : ℕ} {seen : List Label}
+module _ {Whole : List ℕ → Type 0} {Crowd : List ℕ → ℕ → Type 0} {text p : List ℕ} {i : ℕ} {seen : List Token}
     (r : Read Whole Crowd text p [] i seen) where
   pub whole-text : text ≡ p
   whole-text = r .split ∙ append-nil p
@@ -472,6 +708,11 @@ module _ {Whole : List ℕ → Type 0} {Crowd : List ℕ → ℕ → Type 0} {te
   pub no-fault-left : ((j : ℕ) → Crowd text j → j < length text) → Whole p → (q : Reason) (j : ℕ) → Fault Whole Crowd text q j → ⊥
   no-fault-left c t = none-left Whole Crowd text c (subst Whole (sym whole-text) t) (subst (Clean Whole Crowd text) (sym size) (r .clean))
 
+  -- a bare label ends with the text
+  pub bare-end-last : {x : List ℕ} → Inside Whole text (map spelling seen) false x i → Ended Whole text seen x i
+  bare-end-last {x = x} d =
+      bare-ended Whole text seen x i d (ap (runOf isLabelByte) (drop-of-length-le text {i = i} (omega (arith, size))) ∙ run-end isLabelByte)
+
 -- a fault's reason by its number
 faultReason : ℕ → Reason
 faultReason n =
@@ -484,7 +725,7 @@ fault-reason Whole Crowd text BadByte i (bad-byte j l a d) = refl
 fault-reason Whole Crowd text EndsTooSoon i (ends-too-soon a d) = refl
 fault-reason Whole Crowd text LabelTooLong i (label-too-long k s l) = refl
 fault-reason Whole Crowd text TooMany i (too-many j c) = refl
-fault-reason Whole Crowd text Repeated i (repeated j k l s t b d) = refl
+fault-reason Whole Crowd text Repeated i (repeated j k l s t b f d) = refl
 
 -- the first fault of a text is one
 pub first-unique : (Whole : List ℕ → Type 0) (Crowd : List ℕ → ℕ → Type 0) (text : List ℕ) (r q : Reason) (i j : ℕ)

@@ -2,6 +2,8 @@ pub mod AmongLaws
 pub mod ArrayLaws
 pub mod Bools
 pub mod ByteLaws
+pub mod DecodeLaws
+pub mod DecodedLaws
 pub mod EntryLaws
 pub mod FaultLaws
 pub mod LabelLaws
@@ -9,11 +11,16 @@ pub mod ListLaws
 pub mod NormalLaws
 pub mod PaddedLaws
 pub mod PlaceLaws
+pub mod PlainLaws
 pub mod PostorderLaws
 pub mod Promises
 pub mod RawRuns
 pub mod ReadingLaws
+pub mod RelabelLaws
 pub mod SameLaws
 pub mod StoredLaws
+pub mod TokenForms
+pub mod TokenLaws
 pub mod TreeLaws
+pub mod WritableLaws
 pub mod WrittenLaws

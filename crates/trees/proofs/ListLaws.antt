@@ -1,18 +1,20 @@
--- Laws of labels and of lists of labels: membership, distinctness and the tests on each label. Assumes nothing.
-use Prim.Native.Nat.{ℕ, zero, suc, _<_, _≤_}
+-- Laws of lists of labels: membership and distinctness; of tokens: that they are bare or quoted, and what each form stands for; of lists
+-- of tokens. Assumes nothing.
+use Prim.Native.Nat.{ℕ, zero, suc, _+_, _-_, _<_, _≤_}
 use mathlib.Core.Path.{_≡_, refl, sym, _∙_, ap}
 use mathlib.Core.Bool.{Bool, true, false, cond, _&&_, _||_, and-assoc, or-assoc}
-use mathlib.Core.Logic.{_⊎_, ⊎-elim, ⊎-map}
-use mathlib.Core.List.{List, [], _∷_, _++_}
+use mathlib.Core.Logic.{_⊎_, inl, inr, ⊎-elim, ⊎-map}
+use mathlib.Core.List.{List, [], _∷_, _++_, map}
 use native.Mathlib.Omega.{arith}
 use native.Mathlib.Nat.{le-of-suc-le-suc, not-suc-le-zero}
-use lib.Dec.{leb}
-use lib.ListN.{length, getD, length-append}
-use borrow.Author.Tests.{leb-true, le-leb}
-use Rattle.trees.specs.Bytes.{isLabelByte}
+use lib.Dec.{eqb, leb}
+use lib.ListN.{length, getD, length-append, length-map}
+use lib.Seq.{take-at}
+use borrow.Author.Tests.{leb-true, le-leb, eqb-true}
+use Rattle.trees.specs.Bytes.{isLabelByte, isInnerByte, quoteByte, blankByte}
 use Rattle.trees.specs.Label.{Label, labelLimit, sameLabel, isIn, distinct}
-use Rattle.trees.specs.Label.{allLabelBytes, goodLabel, goodLabels, looseLabels}
-use Rattle.trees.proofs.Bools.{clash, refute, and-left, and-right, and-intro, or-cases, or-inl, or-inr, or-none-left, or-none-right}
+use Rattle.trees.specs.Token.{Token, bareByte, spelling, allOf, allLabelBytes, allInnerBytes, closes, looseLabel, goodLabel, goodLabels, looseLabels, quotedToken}
+use Rattle.trees.proofs.Bools.{bool-cases, clash, refute, and-left, and-right, and-intro, or-cases, or-inl, or-inr, or-none-left, or-none-right}
 use Rattle.trees.proofs.LabelLaws.{same-refl, same-eq}
 
 -- membership
@@ -131,58 +133,157 @@ distinct-last xs x h n =
     (λ (z : Label) (m : isIn z xs ≡ true).
     refute (isIn z (x ∷ [])) (λ (k : isIn z (x ∷ []) ≡ true). clash m (ap (λ (w : Label). isIn w xs) (in-one-eq z x k) ∙ n)))
 
--- the tests on one label
+-- bytes that all pass a test
 
-pub bytes-one : (b : ℕ) → isLabelByte b ≡ true → allLabelBytes (b ∷ []) ≡ true
-unfolding allLabelBytes
-bytes-one b h = and-intro (isLabelByte b) true h refl
+pub bytes-one : (is : ℕ → Bool) (b : ℕ) → is b ≡ true → allOf is (b ∷ []) ≡ true
+unfolding allOf
+bytes-one is b h = and-intro (is b) true h refl
 
-pub bytes-snoc : (x : Label) (b : ℕ) → allLabelBytes x ≡ true → isLabelByte b ≡ true → allLabelBytes (x ++ (b ∷ [])) ≡ true
-unfolding allLabelBytes
-bytes-snoc [] b h k = bytes-one b k
-bytes-snoc (a ∷ x) b h k =
-    and-intro (isLabelByte a) (allLabelBytes (x ++ (b ∷ []))) (and-left (isLabelByte a) (allLabelBytes x) h)
-    (bytes-snoc x b (and-right (isLabelByte a) (allLabelBytes x) h) k)
+pub bytes-append : (is : ℕ → Bool) (x y : List ℕ) → allOf is (x ++ y) ≡ (allOf is x && allOf is y)
+unfolding allOf
+bytes-append is [] y = refl
+bytes-append is (a ∷ x) y = ap (λ (b : Bool). is a && b) (bytes-append is x y) ∙ sym (and-assoc (is a) (allOf is x) (allOf is y))
 
-pub good-parts : (x : Label) → goodLabel x ≡ true → (1 ≤ length x) × (length x ≤ labelLimit) × (allLabelBytes x ≡ true)
+pub bytes-snoc : (is : ℕ → Bool) (x : List ℕ) (b : ℕ) → allOf is x ≡ true → is b ≡ true → allOf is (x ++ (b ∷ [])) ≡ true
+bytes-snoc is x b h k = bytes-append is x (b ∷ []) ∙ and-intro (allOf is x) (allOf is (b ∷ [])) h (bytes-one is b k)
+
+-- a byte that passes a test is no byte that does not
+pub byte-apart : (is : ℕ → Bool) (b c : ℕ) → is b ≡ true → is c ≡ false → eqb b c ≡ false
+byte-apart is b c h k = refute (eqb b c) (λ (e : eqb b c ≡ true). clash h (ap is (eqb-true b c e) ∙ k))
+
+pub label-not-quote : (b : ℕ) → isLabelByte b ≡ true → eqb b quoteByte ≡ false
+unfolding isLabelByte
+label-not-quote b h = byte-apart isLabelByte b quoteByte h refl
+
+pub inner-not-quote : (b : ℕ) → isInnerByte b ≡ true → eqb b quoteByte ≡ false
+unfolding isLabelByte isInnerByte
+inner-not-quote b h = byte-apart isInnerByte b quoteByte h refl
+
+-- a label byte may stand between quotes
+pub label-inner : (b : ℕ) → isLabelByte b ≡ true → isInnerByte b ≡ true
+unfolding isInnerByte
+label-inner b h = or-inl (isLabelByte b) (eqb b blankByte) h
+
+-- one token: bare, or between quotes
+
+pub data TokenView : Token → Type 0 where
+  bare : (x : Token) → 1 ≤ length x → allLabelBytes x ≡ true → TokenView x
+  quoted : (y : List ℕ) → 1 ≤ length y → allInnerBytes y ≡ true → TokenView (quotedToken y)
+
+-- what `closes` finds: the bytes before the quote
+record Closing (some : Bool) (rest : List ℕ) : Type 0 where
+  inner : List ℕ
+  is : rest ≡ inner ++ (quoteByte ∷ [])
+  bytes : allInnerBytes inner ≡ true
+  any : some ≡ false → 1 ≤ length inner
+
+closes-view : (some : Bool) (rest : List ℕ) → closes some rest ≡ true → Closing some rest
+unfolding closes allOf
+closes-view some [] h = clash h refl
+closes-view some (b ∷ []) h =
+    record {
+      inner = [];
+      is = ap (λ (c : ℕ). c ∷ []) (eqb-true b quoteByte (and-right some (eqb b quoteByte) h));
+      bytes = refl;
+      any = λ (e : some ≡ false). clash (and-left some (eqb b quoteByte) h) e;
+    }
+closes-view some (b ∷ c ∷ rest) h =
+    let r = closes-view true (c ∷ rest) (and-right (isInnerByte b) (closes true (c ∷ rest)) h) in
+    record {
+      inner = b ∷ r .inner;
+      is = ap (λ (l : List ℕ). b ∷ l) (r .is);
+      bytes = and-intro (isInnerByte b) (allInnerBytes (r .inner)) (and-left (isInnerByte b) (closes true (c ∷ rest)) h) (r .bytes);
+      any = λ (e : some ≡ false). omega arith;
+    }
+
+closes-more : (some : Bool) (y : List ℕ) → allInnerBytes y ≡ true → (some ≡ true) ⊎ (1 ≤ length y) → closes some (y ++ (quoteByte ∷ [])) ≡ true
+unfolding closes allOf
+closes-more some [] h (inl e) = rw e refl
+closes-more some [] h (inr l) = absurd (omega arith)
+closes-more some (b ∷ []) h l = and-intro (isInnerByte b) true (and-left (isInnerByte b) true h) refl
+closes-more some (b ∷ c ∷ y) h l =
+    and-intro (isInnerByte b) (closes true (c ∷ (y ++ (quoteByte ∷ [])))) (and-left (isInnerByte b) (allInnerBytes (c ∷ y)) h)
+    (closes-more true (c ∷ y) (and-right (isInnerByte b) (allInnerBytes (c ∷ y)) h) (inl refl))
+
+pub loose-bare : (x : Token) → 1 ≤ length x → allLabelBytes x ≡ true → looseLabel x ≡ true
+unfolding looseLabel allOf
+loose-bare [] l h = absurd (omega arith)
+loose-bare (b ∷ x) l h = rw (label-not-quote b (and-left (isLabelByte b) (allLabelBytes x) h)) h
+
+pub loose-quoted : (y : List ℕ) → 1 ≤ length y → allInnerBytes y ≡ true → looseLabel (quotedToken y) ≡ true
+unfolding looseLabel
+loose-quoted y l h = closes-more false y h (inr l)
+
+pub loose-view : (x : Token) → looseLabel x ≡ true → TokenView x
+unfolding looseLabel
+loose-view [] h = clash h refl
+loose-view (b ∷ rest) h = go (bool-cases (eqb b quoteByte))
+  where
+    go : (eqb b quoteByte ≡ true) ⊎ (eqb b quoteByte ≡ false) → TokenView (b ∷ rest)
+    go (inl e) =
+        let c = closes-view false rest (rw e at h) in
+        rw (eqb-true b quoteByte e, c .is) (quoted (c .inner) (c .any refl) (c .bytes))
+    go (inr e) = bare (b ∷ rest) (omega arith) (rw e at h)
+
+-- what each form stands for
+pub spelling-bare : (x : Token) → allLabelBytes x ≡ true → spelling x ≡ map bareByte x
+unfolding spelling allOf
+spelling-bare [] h = refl
+spelling-bare (b ∷ x) h = rw (label-not-quote b (and-left (isLabelByte b) (allLabelBytes x) h)) refl
+
+pub spelling-quoted : (y : List ℕ) → spelling (quotedToken y) ≡ y
+unfolding spelling
+spelling-quoted y = take-at y (quoteByte ∷ []) (length (y ++ (quoteByte ∷ [])) - 1) (omega (arith, length-append y (quoteByte ∷ [])))
+
+pub size-bare : (x : Token) → allLabelBytes x ≡ true → length (spelling x) ≡ length x
+size-bare x h = ap length (spelling-bare x h) ∙ length-map x bareByte
+
+pub size-quoted : (y : List ℕ) → length (quotedToken y) ≡ length y + 2
+size-quoted y = omega (arith, length-append y (quoteByte ∷ []))
+
+-- a good token is a loose one whose label is not too long
+pub good-parts : (x : Token) → goodLabel x ≡ true → (looseLabel x ≡ true) × (length (spelling x) ≤ labelLimit)
 unfolding goodLabel
 good-parts x h = (
-  leb-true 1 (length x) (and-left (leb 1 (length x)) (leb (length x) labelLimit) (and-left (leb 1 (length x) && leb (length x) labelLimit) (allLabelBytes x) h)),
-  leb-true (length x) labelLimit (and-right (leb 1 (length x)) (leb (length x) labelLimit) (and-left (leb 1 (length x) && leb (length x) labelLimit) (allLabelBytes x) h)),
-  and-right (leb 1 (length x) && leb (length x) labelLimit) (allLabelBytes x) h,
+  and-left (looseLabel x) (leb (length (spelling x)) labelLimit) h,
+  leb-true (length (spelling x)) labelLimit (and-right (looseLabel x) (leb (length (spelling x)) labelLimit) h),
 )
 
-pub good-intro : (x : Label) → 1 ≤ length x → length x ≤ labelLimit → allLabelBytes x ≡ true → goodLabel x ≡ true
+pub good-intro : (x : Token) → looseLabel x ≡ true → length (spelling x) ≤ labelLimit → goodLabel x ≡ true
 unfolding goodLabel
-good-intro x l m h =
-    and-intro (leb 1 (length x) && leb (length x) labelLimit) (allLabelBytes x)
-    (and-intro (leb 1 (length x)) (leb (length x) labelLimit) (le-leb 1 (length x) l) (le-leb (length x) labelLimit m)) h
+good-intro x h l = and-intro (looseLabel x) (leb (length (spelling x)) labelLimit) h (le-leb (length (spelling x)) labelLimit l)
 
--- one byte more
-pub good-more : (x : Label) (b : ℕ) → goodLabel x ≡ true → isLabelByte b ≡ true → (length x ≡ labelLimit → ⊥) → goodLabel (x ++ (b ∷ [])) ≡ true
-good-more x b g h n =
-    let w = good-parts x g in
-    good-intro (x ++ (b ∷ [])) (omega (arith, length-append x (b ∷ []))) (omega (arith, length-append x (b ∷ []), less (w .1)))
-    (bytes-snoc x b (w .2) h)
+pub good-bare : (x : Token) → 1 ≤ length x → length x ≤ labelLimit → allLabelBytes x ≡ true → goodLabel x ≡ true
+good-bare x l m h = good-intro x (loose-bare x l h) (omega (arith, size-bare x h))
+
+pub good-quoted : (y : List ℕ) → 1 ≤ length y → length y ≤ labelLimit → allInnerBytes y ≡ true → goodLabel (quotedToken y) ≡ true
+good-quoted y l m h = good-intro (quotedToken y) (loose-quoted y l h) (omega (arith, ap length (spelling-quoted y)))
+
+-- a label has one byte at least
+pub loose-some : (x : Token) → looseLabel x ≡ true → (1 ≤ length x) × (1 ≤ length (spelling x))
+loose-some x h = go (loose-view x h)
   where
-    less : length x ≤ labelLimit → length x < labelLimit
-    less l = omega arith
+    go : {z : Token} → TokenView z → (1 ≤ length z) × (1 ≤ length (spelling z))
+    go (bare z l k) = (l, omega (arith, size-bare z k))
+    go (quoted y l k) = (omega arith, rw (spelling-quoted y) l)
 
--- the tests on each label of a list
+-- a token is at most two bytes longer than its label
+pub loose-size : (x : Token) → looseLabel x ≡ true → length x ≤ length (spelling x) + 2
+loose-size x h = go (loose-view x h)
+  where
+    go : {z : Token} → TokenView z → length z ≤ length (spelling z) + 2
+    go (bare z l k) = omega (arith, size-bare z k)
+    go (quoted y l k) = rw (spelling-quoted y) (omega (arith, size-quoted y))
 
-pub loose-head : (x : Label) (xs : List Label) → looseLabels (x ∷ xs) ≡ true → (1 ≤ length x) × (allLabelBytes x ≡ true) × (looseLabels xs ≡ true)
+-- the tests on each token of a list
+
+pub loose-head : (x : Token) (xs : List Token) → looseLabels (x ∷ xs) ≡ true → (looseLabel x ≡ true) × (looseLabels xs ≡ true)
 unfolding looseLabels
-loose-head x xs h = (
-  leb-true 1 (length x) (and-left (leb 1 (length x)) (allLabelBytes x) (and-left (leb 1 (length x) && allLabelBytes x) (looseLabels xs) h)),
-  and-right (leb 1 (length x)) (allLabelBytes x) (and-left (leb 1 (length x) && allLabelBytes x) (looseLabels xs) h),
-  and-right (leb 1 (length x) && allLabelBytes x) (looseLabels xs) h,
-)
+loose-head x xs h = (and-left (looseLabel x) (looseLabels xs) h, and-right (looseLabel x) (looseLabels xs) h)
 
-pub loose-cons : (x : Label) (xs : List Label) → 1 ≤ length x → allLabelBytes x ≡ true → looseLabels xs ≡ true → looseLabels (x ∷ xs) ≡ true
+pub loose-cons : (x : Token) (xs : List Token) → looseLabel x ≡ true → looseLabels xs ≡ true → looseLabels (x ∷ xs) ≡ true
 unfolding looseLabels
-loose-cons x xs l h k =
-    and-intro (leb 1 (length x) && allLabelBytes x) (looseLabels xs)
-    (and-intro (leb 1 (length x)) (allLabelBytes x) (le-leb 1 (length x) l) h) k
+loose-cons x xs h k = and-intro (looseLabel x) (looseLabels xs) h k
 
 pub loose-none : looseLabels [] ≡ true
 unfolding looseLabels
@@ -192,45 +293,44 @@ pub good-none : goodLabels [] ≡ true
 unfolding goodLabels
 good-none = refl
 
-pub good-head : (x : Label) (xs : List Label) → goodLabels (x ∷ xs) ≡ true → (goodLabel x ≡ true) × (goodLabels xs ≡ true)
+pub good-head : (x : Token) (xs : List Token) → goodLabels (x ∷ xs) ≡ true → (goodLabel x ≡ true) × (goodLabels xs ≡ true)
 unfolding goodLabels
 good-head x xs h = (and-left (goodLabel x) (goodLabels xs) h, and-right (goodLabel x) (goodLabels xs) h)
 
-pub good-cons : (x : Label) (xs : List Label) → goodLabel x ≡ true → goodLabels xs ≡ true → goodLabels (x ∷ xs) ≡ true
+pub good-cons : (x : Token) (xs : List Token) → goodLabel x ≡ true → goodLabels xs ≡ true → goodLabels (x ∷ xs) ≡ true
 unfolding goodLabels
 good-cons x xs h k = and-intro (goodLabel x) (goodLabels xs) h k
 
--- a good label is a loose one
-pub good-loose : (xs : List Label) → goodLabels xs ≡ true → looseLabels xs ≡ true
+-- good tokens are loose ones
+pub good-loose : (xs : List Token) → goodLabels xs ≡ true → looseLabels xs ≡ true
 good-loose [] h = loose-none
 good-loose (x ∷ xs) h =
-    let g = good-parts x (good-head x xs h .0) in loose-cons x xs (g .0) (g .2) (good-loose xs (good-head x xs h .1))
+    loose-cons x xs (good-parts x (good-head x xs h .0) .0) (good-loose xs (good-head x xs h .1))
 
-pub good-append : (xs ys : List Label) → goodLabels (xs ++ ys) ≡ (goodLabels xs && goodLabels ys)
+pub good-append : (xs ys : List Token) → goodLabels (xs ++ ys) ≡ (goodLabels xs && goodLabels ys)
 unfolding goodLabels
 good-append [] ys = refl
 good-append (x ∷ xs) ys =
     ap (λ (b : Bool). goodLabel x && b) (good-append xs ys) ∙ sym (and-assoc (goodLabel x) (goodLabels xs) (goodLabels ys))
 
-pub good-join : (xs ys : List Label) → goodLabels xs ≡ true → goodLabels ys ≡ true → goodLabels (xs ++ ys) ≡ true
+pub good-join : (xs ys : List Token) → goodLabels xs ≡ true → goodLabels ys ≡ true → goodLabels (xs ++ ys) ≡ true
 good-join xs ys h k = good-append xs ys ∙ and-intro (goodLabels xs) (goodLabels ys) h k
 
-pub good-split : (xs ys : List Label) → goodLabels (xs ++ ys) ≡ true → (goodLabels xs ≡ true) × (goodLabels ys ≡ true)
+pub good-split : (xs ys : List Token) → goodLabels (xs ++ ys) ≡ true → (goodLabels xs ≡ true) × (goodLabels ys ≡ true)
 good-split xs ys h =
     let k : (goodLabels xs && goodLabels ys) ≡ true = sym (good-append xs ys) ∙ h in
     (and-left (goodLabels xs) (goodLabels ys) k, and-right (goodLabels xs) (goodLabels ys) k)
 
-pub loose-append : (xs ys : List Label) → looseLabels (xs ++ ys) ≡ (looseLabels xs && looseLabels ys)
+pub loose-append : (xs ys : List Token) → looseLabels (xs ++ ys) ≡ (looseLabels xs && looseLabels ys)
 unfolding looseLabels
 loose-append [] ys = refl
 loose-append (x ∷ xs) ys =
-    ap (λ (b : Bool). leb 1 (length x) && allLabelBytes x && b) (loose-append xs ys)
-    ∙ sym (and-assoc (leb 1 (length x) && allLabelBytes x) (looseLabels xs) (looseLabels ys))
+    ap (λ (b : Bool). looseLabel x && b) (loose-append xs ys) ∙ sym (and-assoc (looseLabel x) (looseLabels xs) (looseLabels ys))
 
-pub loose-join : (xs ys : List Label) → looseLabels xs ≡ true → looseLabels ys ≡ true → looseLabels (xs ++ ys) ≡ true
+pub loose-join : (xs ys : List Token) → looseLabels xs ≡ true → looseLabels ys ≡ true → looseLabels (xs ++ ys) ≡ true
 loose-join xs ys h k = loose-append xs ys ∙ and-intro (looseLabels xs) (looseLabels ys) h k
 
-pub loose-split : (xs ys : List Label) → looseLabels (xs ++ ys) ≡ true → (looseLabels xs ≡ true) × (looseLabels ys ≡ true)
+pub loose-split : (xs ys : List Token) → looseLabels (xs ++ ys) ≡ true → (looseLabels xs ≡ true) × (looseLabels ys ≡ true)
 loose-split xs ys h =
     let k : (looseLabels xs && looseLabels ys) ≡ true = sym (loose-append xs ys) ∙ h in
     (and-left (looseLabels xs) (looseLabels ys) k, and-right (looseLabels xs) (looseLabels ys) k)

@@ -3,15 +3,15 @@ use mathlib.Core.Path.{_≡_, refl, sym, _∙_, ap, ap₂}
 use mathlib.Core.Bool.{Bool, true, false, cond}
 use mathlib.Core.Logic.{_⊎_, inl, inr, ⊎-elim}
 use mathlib.Core.List.{_++_}
-use Rattle.trees.specs.Label.{Label, labelLess, isIn, distinct, looseLabels}
-use Rattle.trees.specs.Tree.{Tree, leaf, node, leaves, Same, same-leaf, straight, crossed, Valid, smallest, normal}
+use Rattle.trees.specs.Label.{Label, labelLess, isIn, distinct}
+use Rattle.trees.specs.Token.{tokenOf}
+use Rattle.trees.specs.Tree.{Tree, leaf, node, leaves, relabel, Same, same-leaf, straight, crossed, Proper, smallest, normal}
 use Rattle.trees.specs.Text.{textOf, normalText}
 use Rattle.trees.proofs.Bools.{bool-cases, clash}
 use Rattle.trees.proofs.LabelLaws.{less-irrefl, less-trans, less-total, less-asym, not-less}
-use Rattle.trees.proofs.ListLaws.{in-one, in-one-eq, in-left, in-right, in-cases, good-loose}
+use Rattle.trees.proofs.ListLaws.{in-one, in-one-eq, in-left, in-right, in-cases}
 use Rattle.trees.proofs.ListLaws.{distinct-left, distinct-right, distinct-apart}
-use Rattle.trees.proofs.SameLaws.{tree-sym, tree-trans, same-distinct, same-loose, same-valid}
-use Rattle.trees.proofs.WrittenLaws.{text-read}
+use Rattle.trees.proofs.SameLaws.{tree-sym, tree-trans, same-distinct}
 
 -- the two shapes of a node's normal form
 pub normal-straight : (a b : Tree) → labelLess (smallest a) (smallest b) ≡ true → normal (node a b) ≡ node (normal a) (normal b)
@@ -134,19 +134,7 @@ same-of-normal s t e = tree-trans (tree-sym (normal-same s)) (rw e (normal-same 
 pub normal-twice : (t : Tree) → distinct (leaves t) ≡ true → normal (normal t) ≡ normal t
 normal-twice t h = normal-of-same (normal-same t) (same-distinct (tree-sym (normal-same t)) h)
 
-pub normal-valid : (t : Tree) → Valid t → Valid (normal t)
-normal-valid t v = same-valid (tree-sym (normal-same t)) v
-
--- trees of loose labels with one normal text are equal
-pub same-of-text : (s t : Tree) → looseLabels (leaves s) ≡ true → looseLabels (leaves t) ≡ true → normalText s ≡ normalText t
-    → Same s t
+-- equal trees of decoded labels have one normal text
+pub one-normal-text : (s t : Tree) → Proper s → Same s t → normalText s ≡ normalText t
 unfolding normalText
-same-of-text s t h k e =
-    same-of-normal s t (text-read (normal s) (normal t) (same-loose (normal-same s) ∙ h) (same-loose (normal-same t) ∙ k) e)
-
-pub one-normal-text : (s t : Tree) → Valid s → Same s t → normalText s ≡ normalText t
-unfolding normalText
-one-normal-text s t v p = ap textOf (normal-of-same p (v .different))
-
-pub normal-text-decides : (s t : Tree) → Valid s → Valid t → normalText s ≡ normalText t → Same s t
-normal-text-decides s t v w = same-of-text s t (good-loose (leaves s) (v .labels)) (good-loose (leaves t) (w .labels))
+one-normal-text s t v p = ap (λ (u : Tree). textOf (relabel tokenOf u)) (normal-of-same p (v .different))

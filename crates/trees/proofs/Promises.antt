@@ -6,18 +6,23 @@ use mathlib.Core.Logic.{_⊎_}
 use lib.ListN.{length, getD}
 use Rattle.trees.specs.Bytes.{kindOf, kindOfCode, classTable}
 use Rattle.trees.specs.Label.{Label, labelLimit, labelLess, isIn}
-use Rattle.trees.specs.Tree.{Tree, leaves, Same, Valid, Proper, smallest}
+use Rattle.trees.specs.Token.{Token, spelling, goodLabel, tokenOf}
+use Rattle.trees.specs.Tree.{Tree, leaves, relabel, decoded, Same, Valid, Proper, smallest, normal}
 use Rattle.trees.specs.Text.{textOf, treeRoom, normalText}
-use Rattle.trees.specs.Stored.{storedBytes, storedOf}
+use Rattle.trees.specs.Stored.{storedBytes, storedOf, shownOf, shownBytes}
+use Rattle.trees.specs.Plain.{PlainLabel, PlainTree}
+use Rattle.trees.specs.Writable.{Writable}
 use Rattle.trees.specs.Arrays.{arraysOf, treeOf, oneTree}
 use Rattle.trees.proofs.ByteLaws.{class-rule}
 use Rattle.trees.proofs.LabelLaws.{less-irrefl, less-trans, less-total}
-use Rattle.trees.proofs.StoredLaws.{stored-back}
-use Rattle.trees.proofs.TreeLaws.{valid-proper}
+use Rattle.trees.proofs.StoredLaws.{stored-back, shown-back}
+use Rattle.trees.proofs.TokenLaws.{valid-decoded, token-good, token-back, token-one}
 use Rattle.trees.proofs.ArrayLaws.{stands, text-short}
-use Rattle.trees.proofs.NormalLaws.{smallest-in, smallest-least, one-normal-text, normal-text-decides}
+use Rattle.trees.proofs.NormalLaws.{smallest-in, smallest-least, one-normal-text}
+use Rattle.trees.proofs.PlainLaws.{plain-spelling, plain-token, plain-decoded, plain-written}
+use Rattle.trees.proofs.WritableLaws.{decoded-writable, writable-valid, writable-back, normal-writable, normal-text-decides}
 
--- "Each of the 256 byte values has one class: label byte, `(`, `)`, `,`, `;` or other."
+-- "Each of the 256 byte values has one class: label byte, `(`, `)`, `,`, `;` or other."; C-12 adds the quote and the blank
 pub byte-has-one-class : (b : ℕ) → b < 256 → kindOfCode (getD classTable b 0) ≡ kindOf b
 byte-has-one-class = class-rule
 
@@ -35,12 +40,45 @@ order-total = less-total
 pub label-stored : (x : Label) → length x ≤ labelLimit → storedBytes (storedOf x) ≡ x
 label-stored = stored-back
 
--- a valid tree is a proper one, which is what agreement asks
-pub valid-is-proper : (t : Tree) → Valid t → Proper t
-valid-is-proper = valid-proper
+-- C-12: "The writer .. quotes only a label that holds an underscore, and keeps its blanks; elsewhere a blank becomes an underscore.": the
+-- label that a good token stands for has one written form, which is a good token and stands for that label; equal forms, equal labels
+pub written-is-good : (x : Token) → goodLabel x ≡ true → goodLabel (tokenOf (spelling x)) ≡ true
+written-is-good = token-good
+
+pub written-stands-for-it : (x : Token) → goodLabel x ≡ true → spelling (tokenOf (spelling x)) ≡ spelling x
+written-stands-for-it = token-back
+
+pub one-form-one-label : (x y : Token) → goodLabel x ≡ true → goodLabel y ≡ true → tokenOf (spelling x) ≡ tokenOf (spelling y)
+    → spelling x ≡ spelling y
+one-form-one-label = token-one
+
+-- a bare label without underscores is itself, as it is read and as it is written, and so is a tree of such labels
+pub plain-label-read : (x : Token) → PlainLabel x → spelling x ≡ x
+plain-label-read = plain-spelling
+
+pub plain-label-written : (x : Token) → PlainLabel x → tokenOf x ≡ x
+plain-label-written = plain-token
+
+pub plain-tree-read : (t : Tree) → PlainTree t → decoded t ≡ t
+plain-tree-read t = plain-decoded
+
+pub plain-tree-written : (t : Tree) → PlainTree t → relabel tokenOf t ≡ t
+plain-tree-written t = plain-written
+
+-- "two quotes more": a label that is shown is its written form
+pub label-shown : (x : Label) → length x ≤ labelLimit → shownBytes (shownOf x) ≡ tokenOf x
+label-shown = shown-back
+
+-- a valid tree stands for one that can be written, and for a proper one, which is what agreement asks: its labels are different as
+-- decoded
+pub valid-is-writable : (t : Tree) → Valid t → Writable (decoded t)
+valid-is-writable = decoded-writable
+
+pub valid-is-proper : (t : Tree) → Valid t → Proper (decoded t)
+valid-is-proper = valid-decoded
 
 -- "Left and right children mean nothing.": equal trees have one normal text
-pub equal-trees-one-text : (s t : Tree) → Valid s → Same s t → normalText s ≡ normalText t
+pub equal-trees-one-text : (s t : Tree) → Proper s → Same s t → normalText s ≡ normalText t
 equal-trees-one-text = one-normal-text
 
 -- "the child that holds the smaller smallest label": it is a leaf's, and no leaf's label is less
@@ -51,13 +89,20 @@ pub smallest-is-least : (t : Tree) (x : Label) → isIn x (leaves t) ≡ true �
 smallest-is-least = smallest-least
 
 -- "In the normal text of a tree, each node writes first the child that holds the smaller smallest label.": it tells the tree
-pub one-text-equal-trees : (s t : Tree) → Valid s → Valid t → normalText s ≡ normalText t → Same s t
+pub one-text-equal-trees : (s t : Tree) → Writable s → Writable t → normalText s ≡ normalText t → Same s t
 one-text-equal-trees = normal-text-decides
+
+-- it is the text of a valid tree, which stands for the normal form
+pub normal-text-is-valid : (t : Tree) → Writable t → Valid (relabel tokenOf (normal t))
+normal-text-is-valid t w = writable-valid (normal t) (normal-writable t w)
+
+pub normal-text-stands-for-it : (t : Tree) → Writable t → decoded (relabel tokenOf (normal t)) ≡ normal t
+normal-text-stands-for-it t w = writable-back (normal t) (normal-writable t w)
 
 -- the arrays of a valid tree stand for that tree over its text
 pub arrays-stand : (t : Tree) → Valid t → treeOf (arraysOf t) (textOf t) ≡ oneTree t
 arrays-stand = stands
 
--- 80 labels of 16 bytes, 79 times `(`, `,` and `)`, and `;`
+-- 80 labels of 16 bytes between quotes, 79 times `(`, `,` and `)`, and `;`
 pub longest-text : (t : Tree) → Valid t → length (textOf t) ≤ treeRoom
 longest-text = text-short

@@ -2,12 +2,12 @@
 -- the reading stopped. Assumes nothing.
 use Prim.Native.Nat.{ℕ, _≤_}
 use mathlib.Core.Path.{_≡_, refl, sym, _∙_, ap}
-use mathlib.Core.Bool.{true}
+use mathlib.Core.Bool.{Bool, true}
 use mathlib.Core.List.{List, [], _∷_, _++_, append-assoc, append-nil}
 use native.Mathlib.Omega.{arith}
 use lib.ListN.{length}
-use Rattle.trees.specs.Bytes.{isLabelByte}
-use Rattle.trees.specs.Label.{allLabelBytes}
+use Rattle.trees.specs.Bytes.{isLabelByte, isInnerByte, quoteByte}
+use Rattle.trees.specs.Token.{allOf, quotedToken}
 use Rattle.trees.specs.Faults.{Continues}
 use Rattle.trees.proofs.Bools.{and-left, and-right}
 
@@ -72,21 +72,32 @@ module _ {S : Type 0} (step : S → ℕ → Raw S) where
       never : ⊥
       never = let g = ends (p ++ q) w in let z : _≡_ {A = ℕ} 0 1 = cc (stays, g .1) in omega arith
 
-  -- states inside a label, with its bytes so far
-  module _ (inside : List ℕ → S) (grows : (y : List ℕ) (b : ℕ) → isLabelByte b ≡ true → step (inside y) b ≡ on (inside (y ++ (b ∷ [])))) where
-    raw-letters : (y x rest : List ℕ) → allLabelBytes x ≡ true → rawRun (inside y) (x ++ rest) ≡ rawRun (inside (y ++ x)) rest
-    unfolding allLabelBytes
-    raw-letters y [] rest h = ap (λ (z : List ℕ). rawRun (inside z) rest) (sym (append-nil y))
-    raw-letters y (b ∷ x) rest h =
-        raw-cons (inside y) (inside (y ++ (b ∷ []))) b (x ++ rest) (grows y b (and-left (isLabelByte b) (allLabelBytes x) h))
-        ∙ raw-letters (y ++ (b ∷ [])) x rest (and-right (isLabelByte b) (allLabelBytes x) h)
-        ∙ ap (λ (z : List ℕ). rawRun (inside z) rest) (append-assoc y (b ∷ []) x)
+  -- states inside a run of bytes of one sort, with its bytes so far
+  raw-letters : (is : ℕ → Bool) (inside : List ℕ → S) → ((y : List ℕ) (b : ℕ) → is b ≡ true → step (inside y) b ≡ on (inside (y ++ (b ∷ []))))
+      → (y x rest : List ℕ) → allOf is x ≡ true → rawRun (inside y) (x ++ rest) ≡ rawRun (inside (y ++ x)) rest
+  unfolding allOf
+  raw-letters is inside grows y [] rest h = ap (λ (z : List ℕ). rawRun (inside z) rest) (sym (append-nil y))
+  raw-letters is inside grows y (b ∷ x) rest h =
+      raw-cons (inside y) (inside (y ++ (b ∷ []))) b (x ++ rest) (grows y b (and-left (is b) (allOf is x) h))
+      ∙ raw-letters is inside grows (y ++ (b ∷ [])) x rest (and-right (is b) (allOf is x) h)
+      ∙ ap (λ (z : List ℕ). rawRun (inside z) rest) (append-assoc y (b ∷ []) x)
 
-    -- a label, from a state in which one may begin
-    pub raw-label : (s : S) → ((b : ℕ) → isLabelByte b ≡ true → step s b ≡ on (inside (b ∷ []))) → (x rest : List ℕ) → 1 ≤ length x
-        → allLabelBytes x ≡ true → rawRun s (x ++ rest) ≡ rawRun (inside x) rest
-    unfolding allLabelBytes
-    raw-label s begins [] rest l h = absurd (omega arith)
-    raw-label s begins (b ∷ x) rest l h =
-        raw-cons s (inside (b ∷ [])) b (x ++ rest) (begins b (and-left (isLabelByte b) (allLabelBytes x) h))
-        ∙ raw-letters (b ∷ []) x rest (and-right (isLabelByte b) (allLabelBytes x) h)
+  -- a bare label, from a state in which one may begin
+  pub raw-bare : (inside : List ℕ → S) → ((y : List ℕ) (b : ℕ) → isLabelByte b ≡ true → step (inside y) b ≡ on (inside (y ++ (b ∷ []))))
+      → (s : S) → ((b : ℕ) → isLabelByte b ≡ true → step s b ≡ on (inside (b ∷ [])))
+      → (x rest : List ℕ) → 1 ≤ length x → allOf isLabelByte x ≡ true → rawRun s (x ++ rest) ≡ rawRun (inside x) rest
+  unfolding allOf
+  raw-bare inside grows s begins [] rest l h = absurd (omega arith)
+  raw-bare inside grows s begins (b ∷ x) rest l h =
+      raw-cons s (inside (b ∷ [])) b (x ++ rest) (begins b (and-left (isLabelByte b) (allOf isLabelByte x) h))
+      ∙ raw-letters isLabelByte inside grows (b ∷ []) x rest (and-right (isLabelByte b) (allOf isLabelByte x) h)
+
+  -- a quoted one
+  pub raw-quoted : (inside : List ℕ → S) → ((y : List ℕ) (b : ℕ) → isInnerByte b ≡ true → step (inside y) b ≡ on (inside (y ++ (b ∷ []))))
+      → (s t : S) (x rest : List ℕ) → step s quoteByte ≡ on (inside []) → step (inside x) quoteByte ≡ on t
+      → allOf isInnerByte x ≡ true → rawRun s (quotedToken x ++ rest) ≡ rawRun t rest
+  raw-quoted inside grows s t x rest opens closes h =
+      raw-cons s (inside []) quoteByte ((x ++ (quoteByte ∷ [])) ++ rest) opens
+      ∙ ap (rawRun (inside [])) (append-assoc x (quoteByte ∷ []) rest)
+      ∙ raw-letters isInnerByte inside grows [] x (quoteByte ∷ rest) h
+      ∙ raw-cons (inside x) t quoteByte rest closes

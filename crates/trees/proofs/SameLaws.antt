@@ -5,8 +5,10 @@ use mathlib.Core.Bool.{Bool, true, false, _&&_, _||_, and-comm}
 use mathlib.Core.List.{List, _++_}
 use native.Mathlib.Nat.{add-comm}
 use lib.ListN.{length, length-append}
-use Rattle.trees.specs.Label.{Label, isIn, distinct, goodLabels, looseLabels}
-use Rattle.trees.specs.Tree.{Tree, leaf, node, leaves, Same, same-leaf, straight, crossed, Valid}
+use Rattle.trees.specs.Label.{Label, isIn, distinct}
+use Rattle.trees.specs.Token.{spelling, goodLabels, looseLabels}
+use Rattle.trees.specs.Tree.{Tree, leaf, node, leaves, decoded, Same, same-leaf, straight, crossed, Valid}
+use Rattle.trees.proofs.RelabelLaws.{relabel-same}
 use Rattle.trees.proofs.ListLaws.{in-append, good-append, loose-append, Apart}
 use Rattle.trees.proofs.ListLaws.{distinct-left, distinct-right, distinct-apart, distinct-append, distinct-flip}
 
@@ -76,11 +78,15 @@ same-distinct (crossed {a} {b} {c} {d} p q) h =
     (distinct-kept p q (same-distinct p (distinct-left (leaves a) (leaves b) h))
     (same-distinct q (distinct-right (leaves a) (leaves b) h)) h)
 
+pub same-decoded : {s t : Tree} → Same s t → Same (decoded s) (decoded t)
+unfolding decoded
+same-decoded p = relabel-same spelling p
+
 -- validity does not depend on the order of children
 pub same-valid : {s t : Tree} → Same s t → Valid s → Valid t
 same-valid p v =
     record {
       labels = rw (same-good p) at (v .labels);
-      different = same-distinct p (v .different);
+      different = same-distinct (same-decoded p) (v .different);
       few = rw (same-length p) at (v .few);
     }

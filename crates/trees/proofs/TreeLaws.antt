@@ -1,12 +1,9 @@
--- A valid tree is a proper one; how many leaves a tree has. Assumes nothing.
+-- How many leaves a tree has. Assumes nothing.
 use Prim.Native.Nat.{_+_, _≤_}
 use mathlib.Core.Path.{_≡_}
 use native.Mathlib.Omega.{arith}
 use lib.ListN.{length, length-append}
-use Rattle.trees.specs.Tree.{Tree, leaf, node, leaves, Valid, Proper}
-
-pub valid-proper : (t : Tree) → Valid t → Proper t
-valid-proper t v = record { different = v .different; few = v .few }
+use Rattle.trees.specs.Tree.{Tree, leaf, node, leaves}
 
 pub leaves-node : (a b : Tree) → length (leaves (node a b)) ≡ length (leaves a) + length (leaves b)
 unfolding leaves

@@ -6,7 +6,8 @@ use mathlib.Core.List.{List, [], _∷_, _++_}
 use lib.Dec.{eqb, ltb, leb}
 use lib.ListN.{length, getD, take, drop, replicate}
 use Rattle.trees.specs.declared.TreeArrays.{TreeArrays}
-use Rattle.trees.specs.Label.{Label, labelLimit}
+use Rattle.trees.specs.Label.{labelLimit}
+use Rattle.trees.specs.Token.{Token, spelling}
 use Rattle.trees.specs.Tree.{Tree, leaf, node, leaves, leafLimit}
 use Rattle.trees.specs.Text.{written}
 
@@ -71,7 +72,7 @@ noArrays =
     }
 
 -- the bytes that a leaf's start and size name
-unfoldable pub labelAt : TreeArrays → List ℕ → ℕ → Label
+unfoldable pub labelAt : TreeArrays → List ℕ → ℕ → Token
 labelAt a text u = take (getD (a .size) u 0) (drop (getD (a .start) u 0) text)
 
 unfoldable pub isLeaf : TreeArrays → ℕ → Bool
@@ -79,9 +80,10 @@ isLeaf a u = eqb (getD (a .left) u 0) u
 
 -- a leaf whose label lies in the text and is not too long, or two children with smaller numbers
 unfoldable pub goodNode : TreeArrays → List ℕ → ℕ → Bool
-unfolding isLeaf
+unfolding isLeaf labelAt spelling
 goodNode a text u =
-    cond (isLeaf a u) (leb (getD (a .size) u 0) labelLimit && leb (getD (a .start) u 0 + getD (a .size) u 0) (length text))
+    cond (isLeaf a u)
+    (leb (getD (a .start) u 0 + getD (a .size) u 0) (length text) && leb (length (spelling (labelAt a text u))) labelLimit)
     (ltb (getD (a .left) u 0) u && ltb (getD (a .right) u 0) u)
 
 unfoldable pub goodNodes : TreeArrays → List ℕ → ℕ → Bool

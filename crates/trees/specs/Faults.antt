@@ -3,15 +3,15 @@
 use Prim.Native.Nat.{ℕ, suc, _+_, _-_, _<_, _≤_}
 use mathlib.Core.Path.{_≡_}
 use mathlib.Core.Logic.{_⊎_}
-use mathlib.Core.Bool.{true, cond}
+use mathlib.Core.Bool.{true, cond, _||_}
 use mathlib.Core.List.{List, [], _∷_, _++_}
 use lib.Dec.{eqb}
 use lib.ListN.{length, getD, take, drop}
 use Rattle.trees.specs.declared.Reason.{Reason}
 use Rattle.trees.specs.declared.Reason.the-variants.{BadByte, EndsTooSoon, LabelTooLong, TooMany, Repeated}
-use Rattle.trees.specs.Bytes.{isLabelByte, openByte, commaByte}
-use Rattle.trees.specs.Label.{Label, labelLimit}
-use Rattle.trees.specs.Reading.{labelRun}
+use Rattle.trees.specs.Bytes.{isLabelByte, openByte, commaByte, quoteByte}
+use Rattle.trees.specs.Label.{labelLimit}
+use Rattle.trees.specs.Reading.{Ahead, ahead}
 use Rattle.trees.specs.Refusals.{numberOf}
 
 -- a text that can be continued to one of the grammar
@@ -22,16 +22,16 @@ Continues Whole p = (q : List ℕ) × Whole (p ++ q)
 abbrev pub Edge : List ℕ → ℕ → Type 0
 Edge text j = (k : ℕ) → suc k ≡ j → (getD text k 0 ≡ openByte) ⊎ (getD text k 0 ≡ commaByte)
 
--- a label begins at place j: a label byte that may stand there
+-- a label begins at place j: a label byte that may stand there; "An opening quote begins a label" (C-12)
 pub record LabelStarts (Whole : List ℕ → Type 0) (text : List ℕ) (j : ℕ) : Type 0 where
   pub inside : j < length text
-  pub labelByte : isLabelByte (getD text j 0) ≡ true
+  pub beginning : (isLabelByte (getD text j 0) || eqb (getD text j 0) quoteByte) ≡ true
   pub first : Edge text j
   pub allowed : Continues Whole (take (suc j) text)
 
--- the label that begins at j
-abbrev pub labelFrom : List ℕ → ℕ → Label
-labelFrom text j = labelRun (drop j text)
+-- what begins at j
+abbrev pub labelFrom : List ℕ → ℕ → Ahead
+labelFrom text j = ahead (drop j text)
 
 pub data Fault (Whole : List ℕ → Type 0) (Crowd : List ℕ → ℕ → Type 0) (text : List ℕ) : Reason → ℕ → Type 0 where
   -- 1, "a byte cannot stand there"
@@ -39,14 +39,15 @@ pub data Fault (Whole : List ℕ → Type 0) (Crowd : List ℕ → ℕ → Type 
       → Fault Whole Crowd text BadByte i
   -- 2, "the text ends too soon", at its length
   ends-too-soon : Continues Whole text → (Whole text → ⊥) → Fault Whole Crowd text EndsTooSoon (length text)
-  -- 3, "a label passes 16 bytes", at its 17th byte
-  label-too-long : (j : ℕ) → LabelStarts Whole text j → labelLimit < length (labelFrom text j)
-      → Fault Whole Crowd text LabelTooLong (j + labelLimit)
+  -- 3, "a label passes 16 bytes", at its 17th byte; "The limit counts bytes between the quotes"
+  label-too-long : (j : ℕ) → LabelStarts Whole text j → labelLimit < length (labelFrom text j .inner)
+      → Fault Whole Crowd text LabelTooLong (j + labelFrom text j .opening + labelLimit)
   -- 4
   too-many : (i : ℕ) → Crowd text i → Fault Whole Crowd text TooMany i
-  -- 5, "a label repeats in its body", at the repeat's first byte; an overlong one is not compared
+  -- 5, "a label repeats in its body", at the repeat's first byte; an overlong one, and one whose quote does not close, is not compared
   repeated : (j k : ℕ) → k < j → LabelStarts Whole text j → LabelStarts Whole text k
-      → length (labelFrom text j) ≤ labelLimit → labelFrom text k ≡ labelFrom text j → Fault Whole Crowd text Repeated j
+      → length (labelFrom text j .inner) ≤ labelLimit → labelFrom text j .closed ≡ true
+      → labelFrom text k .label ≡ labelFrom text j .label → Fault Whole Crowd text Repeated j
 
 -- "In one body the refusal with the smallest place is given. At the same place 4 goes before 5."
 pub record FirstFault (Whole : List ℕ → Type 0) (Crowd : List ℕ → ℕ → Type 0) (text : List ℕ) (r : Reason) (i : ℕ) : Type 0 where

@@ -1,12 +1,11 @@
--- Labels as lists of bytes, and their order. Scope paper, "Tree text".
+-- Labels as lists of decoded bytes, and their order. Scope paper, "Tree text"; request paper, C-12: "Label order reads the decoded
+-- bytes". How a label stands in a text is told in Token.antt.
 use Prim.Native.Nat.{ℕ}
 use mathlib.Core.Bool.{Bool, true, false, cond, _&&_, _||_}
 use mathlib.Core.List.{List, [], _∷_}
-use lib.Dec.{eqb, ltb, leb}
-use lib.ListN.{length}
+use lib.Dec.{eqb, ltb}
 use Rattle.trees.specs.declared.Order.{Order}
 use Rattle.trees.specs.declared.Order.the-variants.{Less, Equal, Greater}
-use Rattle.trees.specs.Bytes.{isLabelByte}
 
 abbrev pub Label : Type 0
 Label = List ℕ
@@ -41,20 +40,3 @@ isIn x (y ∷ ys) = sameLabel x y || isIn x ys
 unfoldable pub distinct : List Label → Bool
 distinct [] = true
 distinct (x ∷ xs) = cond (isIn x xs) false (distinct xs)
-
-unfoldable pub allLabelBytes : List ℕ → Bool
-allLabelBytes [] = true
-allLabelBytes (b ∷ x) = isLabelByte b && allLabelBytes x
-
--- label bytes only, 1 to 16 of them
-unfoldable pub goodLabel : Label → Bool
-goodLabel x = leb 1 (length x) && leb (length x) labelLimit && allLabelBytes x
-
-unfoldable pub goodLabels : List Label → Bool
-goodLabels [] = true
-goodLabels (x ∷ xs) = goodLabel x && goodLabels xs
-
--- label bytes only, one at least, however many
-unfoldable pub looseLabels : List Label → Bool
-looseLabels [] = true
-looseLabels (x ∷ xs) = leb 1 (length x) && allLabelBytes x && looseLabels xs

@@ -2,10 +2,13 @@ pub mod Arrays
 pub mod Bytes
 pub mod Faults
 pub mod Label
+pub mod Plain
 pub mod Postorder
 pub mod Reading
 pub mod Refusals
 pub mod Stored
 pub mod Text
+pub mod Token
 pub mod Tree
 pub mod Words
+pub mod Writable

@@ -2,8 +2,8 @@
 use Prim.Native.Nat.{ℕ, _+_, _*_, _-_}
 use mathlib.Core.List.{List, [], _∷_, _++_}
 use Rattle.trees.specs.Bytes.{openByte, closeByte, commaByte, semicolonByte}
-use Rattle.trees.specs.Label.{labelLimit}
-use Rattle.trees.specs.Tree.{Tree, leaf, node, normal, leafLimit}
+use Rattle.trees.specs.Token.{tokenOf, tokenLimit}
+use Rattle.trees.specs.Tree.{Tree, leaf, node, relabel, normal, leafLimit}
 
 -- a node, its children as they stand
 unfoldable pub written : Tree → List ℕ
@@ -15,11 +15,11 @@ unfoldable pub textOf : Tree → List ℕ
 unfolding written
 textOf t = written t ++ (semicolonByte ∷ [])
 
--- the most bytes of a tree's text: 80 labels of 16 bytes, 79 times `(`, `,` and `)`, and `;`
+-- the most bytes of a tree's text: 80 labels of 16 bytes between quotes, 79 times `(`, `,` and `)`, and `;`
 abbrev pub treeRoom : ℕ
-treeRoom = leafLimit * labelLimit + 3 * (leafLimit - 1) + 1
+treeRoom = leafLimit * tokenLimit + 3 * (leafLimit - 1) + 1
 
--- "the normal text of a tree"
+-- "the normal text of a tree" of decoded labels, each in the one form by which it is written
 unfoldable pub normalText : Tree → List ℕ
-unfolding textOf
-normalText t = textOf (normal t)
+unfolding textOf relabel
+normalText t = textOf (relabel tokenOf (normal t))

@@ -1,10 +1,12 @@
--- Rooted binary trees with labelled leaves, and when two of them are equal. Scope paper, "Tree text".
+-- Rooted binary trees with labelled leaves, and when two of them are equal. Scope paper, "Tree text". A tree as it is read has tokens for
+-- labels; what it stands for has decoded ones (request paper, C-12).
 use Prim.Native.Nat.{ℕ, _+_, _≤_}
 use mathlib.Core.Path.{_≡_}
 use mathlib.Core.Bool.{true, cond}
 use mathlib.Core.List.{List, [], _∷_, _++_}
 use lib.ListN.{length}
-use Rattle.trees.specs.Label.{Label, labelLess, distinct, goodLabels}
+use Rattle.trees.specs.Label.{Label, labelLess, distinct}
+use Rattle.trees.specs.Token.{spelling, goodLabels}
 
 pub data Tree : Type 0 where
   leaf : Label → Tree
@@ -14,6 +16,16 @@ pub data Tree : Type 0 where
 unfoldable pub leaves : Tree → List Label
 leaves (leaf x) = x ∷ []
 leaves (node a b) = leaves a ++ leaves b
+
+-- another label for each leaf
+unfoldable pub relabel : (Label → Label) → Tree → Tree
+relabel f (leaf x) = leaf (f x)
+relabel f (node a b) = node (relabel f a) (relabel f b)
+
+-- C-12: "The comparison with the definition is made on decoded labels."
+unfoldable pub decoded : Tree → Tree
+unfolding relabel spelling
+decoded t = relabel spelling t
 
 -- "Left and right children mean nothing": equal trees
 pub data Same : Tree → Tree → Type 0 where
@@ -25,10 +37,10 @@ pub data Same : Tree → Tree → Type 0 where
 abbrev pub leafLimit : ℕ
 leafLimit = 80
 
--- "Labels of one tree are all different"
+-- "Labels of one tree are all different", as decoded
 pub record Valid (t : Tree) : Type 0 where
   pub labels : goodLabels (leaves t) ≡ true
-  pub different : distinct (leaves t) ≡ true
+  pub different : distinct (leaves (decoded t)) ≡ true
   pub few : length (leaves t) ≤ leafLimit
 
 -- what agreement asks of a tree: labels all different and at most 80, whatever their bytes

@@ -2,15 +2,23 @@
 //
 // No public function has a `requires`: each answers for all inputs.
 ghost use mathlib.Core.Path.{_≡_};
-ghost use Prim.Native.Nat.{_%_, min};
-ghost use lib.ListN.{getD, take};
+ghost use mathlib.Core.Bool.{true};
+ghost use mathlib.Core.List.{[]};
+ghost use Prim.Native.Nat.{_+_, _%_, _≤_, min};
+ghost use lib.ListN.{length, getD, take};
 ghost use Rattle.trees.specs.Bytes.{classTable, kindOfCode};
 ghost use Rattle.trees.specs.Label.{orderOf, labelLess, sameLabel};
+ghost use Rattle.trees.specs.Reading.{quoteFirst};
 ghost use Rattle.trees.specs.Refusals.{numberOf, letterOf};
-ghost use Rattle.trees.specs.Stored.{storedBytes, storedOf, partOf, leafLabel, isPart, isAmong};
+ghost use Rattle.trees.specs.Stored.{storedBytes, storedOf, shownOf, partOf, leafLabel, isAmong};
+ghost use Rattle.trees.specs.Stored.{byteOf, innerBytes, readAs, lastRead, formOf};
+ghost use Rattle.trees.specs.Token.{spelling, holdsUnderscore, tokenLimit};
 
 // The most bytes of a label.
 pub const LABEL_LIMIT: usize = 16;
+
+// The most bytes of a label as it is written: two quotes more.
+pub const TOKEN_LIMIT: usize = LABEL_LIMIT + 2;
 
 // The most leaves of a tree.
 pub const LEAF_LIMIT: usize = 80;
@@ -19,7 +27,14 @@ pub const LEAF_LIMIT: usize = 80;
 pub const NODE_LIMIT: usize = 2 * LEAF_LIMIT - 1;
 
 // The most bytes of a tree's text: its labels, `(`, `,` and `)` for each inner node, and `;`.
-pub const TREE_ROOM: usize = LEAF_LIMIT * LABEL_LIMIT + 3 * (LEAF_LIMIT - 1) + 1;
+pub const TREE_ROOM: usize = LEAF_LIMIT * TOKEN_LIMIT + 3 * (LEAF_LIMIT - 1) + 1;
+
+// The bytes that a label's spelling turns on.
+const QUOTE: u8 = 39;
+
+const BLANK: u8 = 32;
+
+const UNDERSCORE: u8 = 95;
 
 // What a byte of a tree text can be. Each of the 256 byte values has one kind.
 pub enum Kind {
@@ -28,6 +43,8 @@ pub enum Kind {
     Close,
     Comma,
     Semicolon,
+    Quote,
+    Blank,
     Other,
 }
 
@@ -70,9 +87,15 @@ pub struct Refusal {
     pub place: usize,
 }
 
-// A label kept apart from its text: the first `len` bytes count.
+// A label kept apart from its text, as decoded: the first `len` bytes count.
 pub struct StoredLabel {
     pub bytes: [u8; LABEL_LIMIT],
+    pub len: usize,
+}
+
+// A label as it is printed, with quotes where it needs them: the first `len` bytes count.
+pub struct ShownLabel {
+    pub bytes: [u8; TOKEN_LIMIT],
     pub len: usize,
 }
 
@@ -86,7 +109,7 @@ pub struct TreeArrays {
     pub size: [usize; NODE_LIMIT],
 }
 
-// The class of each byte value: 1 a label byte, 2 `(`, 3 `)`, 4 `,`, 5 `;`, 0 any other.
+// The class of each byte value: 1 a label byte, 2 `(`, 3 `)`, 4 `,`, 5 `;`, 6 a quote, 7 a blank, 0 any other.
 const CLASSES: [u8; 256] = [
     0,
     0,
@@ -120,14 +143,14 @@ const CLASSES: [u8; 256] = [
     0,
     0,
     0,
+    7,
     0,
     0,
     0,
     0,
     0,
     0,
-    0,
-    0,
+    6,
     2,
     3,
     0,
@@ -365,6 +388,8 @@ pub fn kind_in(table: &[u8; 256], b: u8) -> Kind
         3 => Kind::Close,
         4 => Kind::Comma,
         5 => Kind::Semicolon,
+        6 => Kind::Quote,
+        7 => Kind::Blank,
         _ => Kind::Other,
     }
 }
@@ -402,19 +427,61 @@ pub fn letter(b: Body) -> u8
     }
 }
 
-// Where `a` stands against `b` in label order: the first byte that differs decides, else the length.
-pub fn compare(a: &[u8], b: &[u8]) -> Order
-    ensures { λ r. ⌜ r ≡ orderOf (now (a .entry)) (now (b .entry)) ⌝ }
+// Whether a token is quoted: an opening quote comes first.
+fn is_quoted(token: &[u8]) -> bool
+    ensures { λ r. ⌜ r ≡ quoteFirst (now (token .entry)) ⌝ }
+{
+    if token.len() == 0 {
+        return false;
+    }
+    token[0] == QUOTE
+}
+
+// The bytes of a token that count: those between its quotes, or all.
+fn inner<'a>(token: &'a [u8]) -> &'a [u8]
+    ensures { λ r. ⌜ now r ≡ innerBytes (now (token .entry)) ⌝ }
+{
+    if !is_quoted(token) {
+        return token;
+    }
+    if token.len() < 2 {
+        return &token[..0];
+    }
+    &token[1..token.len() - 1]
+}
+
+// What a byte of a token stands for: between quotes each stands for itself, elsewhere an underscore for a blank.
+fn decode(quoted: bool, b: u8) -> u8
+    ensures { λ r. ⌜ r ≡ byteOf quoted b ⌝ }
+{
+    if b != UNDERSCORE {
+        return b;
+    }
+    if quoted { UNDERSCORE } else { BLANK }
+}
+
+// How many bytes the label of a token has.
+pub fn spelled_size(token: &[u8]) -> usize
+    ensures { λ r. ⌜ r ≡ length (spelling (now (token .entry))) ⌝ }
+{
+    inner(token).len()
+}
+
+// Where `a` stands against `b` in label order, each byte decoded: the first one that differs decides, else the length.
+fn compare_read(a: &[u8], aquoted: bool, b: &[u8], bquoted: bool) -> Order
+    ensures { λ r. ⌜ r ≡ orderOf (readAs aquoted (now (a .entry))) (readAs bquoted (now (b .entry))) ⌝ }
 {
     let mut i: usize = 0;
     while i < a.len() {
         if b.len() <= i {
             return Order::Greater;
         }
-        if a[i] < b[i] {
+        let x = decode(aquoted, a[i]);
+        let y = decode(bquoted, b[i]);
+        if x < y {
             return Order::Less;
         }
-        if b[i] < a[i] {
+        if y < x {
             return Order::Greater;
         }
         i += 1;
@@ -426,11 +493,18 @@ pub fn compare(a: &[u8], b: &[u8]) -> Order
     }
 }
 
-// Label `a` comes before label `b`.
-pub fn comes_before(a: &[u8], b: &[u8]) -> bool
-    ensures { λ r. ⌜ r ≡ labelLess (now (a .entry)) (now (b .entry)) ⌝ }
+// Where label `a` stands against label `b` in label order; both are decoded already.
+pub fn compare(a: &[u8], b: &[u8]) -> Order
+    ensures { λ r. ⌜ r ≡ orderOf (now (a .entry)) (now (b .entry)) ⌝ }
 {
-    let order = compare(a, b);
+    compare_read(a, true, b, true)
+}
+
+// The label that token `a` stands for comes before that of `b`.
+pub fn comes_before(a: &[u8], b: &[u8]) -> bool
+    ensures { λ r. ⌜ r ≡ labelLess (spelling (now (a .entry))) (spelling (now (b .entry))) ⌝ }
+{
+    let order = compare_read(inner(a), is_quoted(a), inner(b), is_quoted(b));
     match order {
         Order::Less => true,
         Order::Equal => false,
@@ -458,9 +532,24 @@ pub fn least(a: usize, b: usize) -> usize
     if a < b { a } else { b }
 }
 
-// Labels are the same, byte for byte. What differs most often is looked at first: the lengths, the last bytes, then the rest.
-pub fn same_label(a: &[u8], b: &[u8]) -> bool
-    ensures { λ r. ⌜ r ≡ sameLabel (now (a .entry)) (now (b .entry)) ⌝ }
+// As many bytes, each decoded, are the same.
+fn same_all(a: &[u8], aquoted: bool, b: &[u8], bquoted: bool) -> bool
+    requires { ⌜ length (now a) ≡ length (now b) ⌝ }
+    ensures { λ r. ⌜ r ≡ sameLabel (readAs aquoted (now (a .entry))) (readAs bquoted (now (b .entry))) ⌝ }
+{
+    let mut i: usize = 0;
+    while i < a.len() {
+        if decode(aquoted, a[i]) != decode(bquoted, b[i]) {
+            return false;
+        }
+        i += 1;
+    }
+    true
+}
+
+// Bytes, each decoded, are the same. What differs most often is looked at first: the lengths, the last bytes, then all.
+fn same_read(a: &[u8], aquoted: bool, b: &[u8], bquoted: bool) -> bool
+    ensures { λ r. ⌜ r ≡ sameLabel (readAs aquoted (now (a .entry))) (readAs bquoted (now (b .entry))) ⌝ }
 {
     let n = a.len();
     if n != b.len() {
@@ -469,17 +558,17 @@ pub fn same_label(a: &[u8], b: &[u8]) -> bool
     if n == 0 {
         return true;
     }
-    if a[n - 1] != b[n - 1] {
+    if decode(aquoted, a[n - 1]) != decode(bquoted, b[n - 1]) {
         return false;
     }
-    let mut i: usize = 0;
-    while i < n {
-        if a[i] != b[i] {
-            return false;
-        }
-        i += 1;
-    }
-    true
+    same_all(a, aquoted, b, bquoted)
+}
+
+// Two tokens stand for the same label.
+pub fn same_label(a: &[u8], b: &[u8]) -> bool
+    ensures { λ r. ⌜ r ≡ sameLabel (spelling (now (a .entry))) (spelling (now (b .entry))) ⌝ }
+{
+    same_read(inner(a), is_quoted(a), inner(b), is_quoted(b))
 }
 
 // The first `len` bytes, or all of them where they are fewer: of a stored label's bytes the label.
@@ -530,51 +619,133 @@ pub fn leaf_label<'a>(text: &'a [u8], start: &[usize], size: &[usize], u: usize)
     part(text, entry(start, u), entry(size, u))
 }
 
-// Whether the part that entry u of starts and sizes names is the label. This is the readers' innermost test: the size comes first,
-// and a part past the end is told without one being made.
-fn is_part(text: &[u8], start: &[usize], size: &[usize], u: usize, label: &[u8]) -> bool
-    ensures { λ r. ⌜ r ≡ isPart (now (text .entry)) (getD (now (start .entry)) u 0) (getD (now (size .entry)) u 0) (now (label .entry)) ⌝ }
+// Whether the part from `from` on, of as many bytes as these, stands for the label that they are read as, the last one as `last`: then it
+// is bare. `room` is the last place where so many bytes can begin.
+fn bare_part(text: &[u8], room: usize, from: usize, bytes: &[u8], quoted: bool, last: u8) -> bool
+    requires { ⌜ (1 ≤ length (now bytes)) × (room + length (now bytes) ≡ length (now text)) ⌝ }
+    ensures { λ r.
+        ⌜ (last ≡ lastRead quoted (now (bytes .entry))
+        → r ≡ sameLabel (readAs quoted (now (bytes .entry))) (spelling (partOf from (length (now (bytes .entry))) (now (text .entry))))) ⌝ }
 {
-    let n = label.len();
-    if entry(size, u) != n {
+    let n = bytes.len();
+    if room < from {
         return false;
     }
-    if n == 0 {
-        return true;
-    }
-    let from = entry(start, u);
-    if text.len() < from {
+    let token = &text[from..from + n];
+    if decode(false, token[n - 1]) != last {
         return false;
     }
-    if text.len() - from < n {
+    if !same_all(bytes, quoted, token, false) {
         return false;
     }
-    same_label(label, &text[from..from + n])
+    if token[0] == QUOTE {
+        return false;
+    }
+    true
 }
 
-// Whether one of the first `count` parts that starts and sizes name is the label.
-pub fn is_among(text: &[u8], start: &[usize], size: &[usize], count: usize, label: &[u8]) -> bool
-    ensures { λ r. ⌜ r ≡ isAmong (now (text .entry)) (now (start .entry)) (now (size .entry)) count (now (label .entry)) ⌝ }
+// The same for a part of two bytes more: then it is quoted.
+fn quoted_part(text: &[u8], room: usize, from: usize, bytes: &[u8], quoted: bool, last: u8) -> bool
+    requires { ⌜ (1 ≤ length (now bytes)) × (room + length (now bytes) ≡ length (now text)) ⌝ }
+    ensures { λ r.
+        ⌜ (last ≡ lastRead quoted (now (bytes .entry))
+        → r ≡ sameLabel (readAs quoted (now (bytes .entry))) (spelling (partOf from (length (now (bytes .entry)) + 2) (now (text .entry))))) ⌝ }
+{
+    let n = bytes.len();
+    if room < 2 {
+        return false;
+    }
+    if room - 2 < from {
+        return false;
+    }
+    let token = &text[from..from + (n + 2)];
+    if token[n] != last {
+        return false;
+    }
+    if token[0] != QUOTE {
+        return false;
+    }
+    same_all(bytes, quoted, &token[1..n + 1], true)
+}
+
+// Whether the part of `whole` bytes from entry u of the starts stands for the label that these bytes are read as. This is the readers'
+// innermost test: the size comes first, then the last byte.
+fn is_part(
+    text: &[u8],
+    room: usize,
+    start: &[usize],
+    u: usize,
+    whole: usize,
+    bytes: &[u8],
+    quoted: bool,
+    last: u8,
+) -> bool
+    requires { ⌜ (1 ≤ length (now bytes)) × (room + length (now bytes) ≡ length (now text)) ⌝ }
+    ensures { λ r.
+        ⌜ (last ≡ lastRead quoted (now (bytes .entry))
+        → r ≡ sameLabel (readAs quoted (now (bytes .entry))) (spelling (partOf (getD (now (start .entry)) u 0) whole (now (text .entry))))) ⌝ }
+{
+    let n = bytes.len();
+    if whole == n {
+        return bare_part(text, room, entry(start, u), bytes, quoted, last);
+    }
+    if whole == n + 2 {
+        return quoted_part(text, room, entry(start, u), bytes, quoted, last);
+    }
+    false
+}
+
+// Whether one of the first `count` parts stands for the label of no bytes.
+fn empty_among(text: &[u8], start: &[usize], size: &[usize], count: usize) -> bool
+    ensures { λ r. ⌜ r ≡ isAmong (now (text .entry)) (now (start .entry)) (now (size .entry)) count [] ⌝ }
 {
     let mut u = count;
     while 0 < u {
         u -= 1;
-        if is_part(text, start, size, u, label) {
+        if spelled_size(leaf_label(text, start, size, u)) == 0 {
             return true;
         }
     }
     false
 }
 
-// A label as it is kept apart from its text, 0 after its last byte; of a longer text the first 16 bytes.
-pub fn stored(label: &[u8]) -> StoredLabel
-    ensures { λ r. ⌜ r ≡ storedOf (now (label .entry)) ⌝ }
+// Whether one of the first `count` parts that starts and sizes name stands for the same label as the token. What is the same for each
+// part is found once, before the loop; past the sizes there are only parts of no bytes.
+pub fn is_among(text: &[u8], start: &[usize], size: &[usize], count: usize, token: &[u8]) -> bool
+    ensures { λ r. ⌜ r ≡ isAmong (now (text .entry)) (now (start .entry)) (now (size .entry)) count (now (token .entry)) ⌝ }
 {
-    let len = least(label.len(), LABEL_LIMIT);
+    let bytes = inner(token);
+    let quoted = is_quoted(token);
+    let n = bytes.len();
+    if n == 0 {
+        return empty_among(text, start, size, count);
+    }
+    if text.len() < n {
+        return false;
+    }
+    let room = text.len() - n;
+    let last = decode(quoted, bytes[n - 1]);
+    let mut u = least(count, size.len());
+    while 0 < u {
+        u -= 1;
+        if is_part(text, room, start, u, size[u], bytes, quoted, last) {
+            return true;
+        }
+    }
+    false
+}
+
+// The label of a token as it is kept apart from its text, 0 after its last byte; of a longer one the first 16 bytes.
+pub fn stored(token: &[u8]) -> StoredLabel
+    ensures { λ r. ⌜ r ≡ storedOf (spelling (now (token .entry))) ⌝ }
+{
+    let x = inner(token);
+    let quoted = is_quoted(token);
+    let len = least(x.len(), LABEL_LIMIT);
     let mut bytes = [0u8; LABEL_LIMIT];
     let mut i: usize = 0;
     while i < len {
-        bytes[i] = label[i];
+        bytes[i] = decode(quoted, x[i]);
         i += 1;
     }
     StoredLabel { bytes, len }
@@ -582,7 +753,78 @@ pub fn stored(label: &[u8]) -> StoredLabel
 
 // A leaf's label, kept apart from the text.
 pub fn stored_leaf(text: &[u8], start: &[usize], size: &[usize], u: usize) -> StoredLabel
-    ensures { λ r. ⌜ r ≡ storedOf (leafLabel (now (text .entry)) (now (start .entry)) (now (size .entry)) u) ⌝ }
+    ensures { λ r. ⌜ r ≡ storedOf (spelling (leafLabel (now (text .entry)) (now (start .entry)) (now (size .entry)) u)) ⌝ }
 {
     stored(leaf_label(text, start, size, u))
+}
+
+// Whether a label holds an underscore, and so needs quotes.
+fn holds_underscore(label: &[u8]) -> bool
+    ensures { λ r. ⌜ r ≡ holdsUnderscore (now (label .entry)) ⌝ }
+{
+    let mut i: usize = 0;
+    while i < label.len() {
+        if label[i] == UNDERSCORE {
+            return true;
+        }
+        i += 1;
+    }
+    false
+}
+
+// Byte i of a label between quotes; 0 past its end.
+fn quoted_byte(label: &[u8], i: usize) -> u8
+    ensures { λ r. ⌜ r ≡ getD (formOf true (now (label .entry))) i 0 ⌝ }
+{
+    if i == 0 {
+        return QUOTE;
+    }
+    if i - 1 < label.len() {
+        return label[i - 1];
+    }
+    if i - 1 == label.len() { QUOTE } else { 0 }
+}
+
+// Byte i of a label's form, with quotes or without; 0 past its end.
+fn form_byte(label: &[u8], quoted: bool, i: usize) -> u8
+    ensures { λ r. ⌜ r ≡ getD (formOf quoted (now (label .entry))) i 0 ⌝ }
+{
+    if quoted {
+        return quoted_byte(label, i);
+    }
+    if label.len() <= i {
+        return 0;
+    }
+    if label[i] == BLANK {
+        UNDERSCORE
+    } else {
+        label[i]
+    }
+}
+
+// How many bytes such a form has, at most so many as are shown.
+fn form_size(label: &[u8], quoted: bool) -> usize
+    ensures { λ r. ⌜ r ≡ min (length (formOf quoted (now (label .entry)))) tokenLimit ⌝ }
+{
+    if quoted {
+        return least(label.len(), LABEL_LIMIT) + 2;
+    }
+    least(label.len(), TOKEN_LIMIT)
+}
+
+// A label as it is printed: its written form, 0 after its last byte.
+pub fn shown(label: StoredLabel) -> ShownLabel
+    ensures { λ r. ⌜ r ≡ shownOf (storedBytes label) ⌝ }
+{
+    let own = label.bytes;
+    let x = first_bytes(&own, label.len);
+    let quoted = holds_underscore(x);
+    let len = form_size(x, quoted);
+    let mut bytes = [0u8; TOKEN_LIMIT];
+    let mut i: usize = 0;
+    while i < len {
+        bytes[i] = form_byte(x, quoted, i);
+        i += 1;
+    }
+    ShownLabel { bytes, len }
 }

@@ -4,20 +4,23 @@ use mathlib.Core.Path.{_≡_, refl, sym, _∙_, ap, subst}
 use mathlib.Core.Bool.{Bool, true, false, cond}
 use mathlib.Core.Logic.{_⊎_, inl, inr}
 use mathlib.Core.Option.{Option, some, none}
-use mathlib.Core.List.{List, []}
+use mathlib.Core.List.{List, [], map}
 use native.Mathlib.Omega.{arith}
 use lib.Dec.{eqb, ltb}
-use lib.ListN.{length, getD, drop, drop-of-length-le}
+use lib.ListN.{length, getD, drop, drop-of-length-le, length-map}
 use lib.Seq.{drop-cons}
 use borrow.Author.Tests.{lt-ltb, le-ltb, eqb-true, eqb-false}
 use Rattle.trees.specs.declared.Reason.the-variants.{FirstLacks, SecondLacks}
 use Rattle.trees.specs.declared.Body.the-variants.{K}
 use Rattle.trees.specs.declared.TreeArrays.{TreeArrays}
 use Rattle.trees.specs.Label.{Label, isIn, distinct}
-use Rattle.trees.specs.Tree.{Tree, Valid}
+use Rattle.trees.specs.Token.{Token, spelling}
+use Rattle.trees.specs.Tree.{Tree, decoded, Valid}
 use Rattle.trees.specs.Text.{textOf}
 use Rattle.trees.specs.Arrays.{arraysOf, nodesOf}
 use Rattle.trees.proofs.Bools.{bool-cases}
+use Rattle.trees.proofs.TokenLaws.{valid-decoded}
+use Rattle.trees.proofs.DecodedLaws.{decoded-nodes, decoded-left}
 use Rattle.lists.specs.declared.LabelPlaces.{LabelPlaces}
 use Rattle.lists.specs.ReadList.{joined, placesOf}
 use Rattle.agreement.specs.Closer.{holds}
@@ -40,11 +43,11 @@ use Rattle.triples.specs.Loops.{labelIn, rankIn, InOrder, LeavesFound, l
 use Rattle.triples.proofs.Ranks.{label-at, place-of, place-number, order-sorted}
 use Rattle.triples.proofs.RowLaws.{rank-at}
 
--- the leaf numbers of the list's labels in a tree
-abbrev pub LeavesOf : Tree → List Label → List ℕ → Type 0
-LeavesOf t xs leaf = (k : ℕ) → k < length xs → getD leaf k 0 ≡ ownFound t (getD xs k [])
+-- the leaf numbers of the list's labels in a tree, both as they were read
+abbrev pub LeavesOf : Tree → List Token → List ℕ → Type 0
+LeavesOf t xs leaf = (k : ℕ) → k < length xs → getD leaf k 0 ≡ ownFound t (getD (map spelling xs) k [])
 
-pub leaves-of : (t : Tree) (xs : List Label) (text list : List ℕ) (tree : TreeArrays) (places : LabelPlaces) → text ≡ textOf t
+pub leaves-of : (t : Tree) (xs : List Token) (text list : List ℕ) (tree : TreeArrays) (places : LabelPlaces) → text ≡ textOf t
     → tree ≡ arraysOf t → list ≡ joined xs → places ≡ placesOf xs → (leaf : List ℕ)
     → LeavesFound text tree (labelIn list (places .start) (places .size)) (places .count) leaf → LeavesOf t xs leaf
 unfolding arraysOf placesOf
@@ -60,29 +63,42 @@ leaves-of t xs text list tree places e d l p leaf f k h =
     ∙ ap (λ (z : LabelPlaces). labelIn (joined xs) (z .start) (z .size) k) p
     ∙ label-at xs k h)
 
-holds-found : (t : Tree) (x : Label) → Valid t → ltb (ownFound t x) (nodesOf t) ≡ holds t x
+holds-found : (t : Tree) (x : Label) → Valid t → ltb (ownFound t x) (nodesOf t) ≡ holds (decoded t) x
 unfolding holds
-holds-found t x v = go (bool-cases (holds t x))
+holds-found t x v = go (bool-cases (holds (decoded t) x))
   where
-    go : (holds t x ≡ true) ⊎ (holds t x ≡ false) → ltb (ownFound t x) (nodesOf t) ≡ holds t x
-    go (inl h) = lt-ltb (ownFound t x) (nodesOf t) (found t x v h .below) ∙ sym h
+    go : (holds (decoded t) x ≡ true) ⊎ (holds (decoded t) x ≡ false) → ltb (ownFound t x) (nodesOf t) ≡ holds (decoded t) x
+    go (inl h) = lt-ltb (ownFound t x) (nodesOf t) (omega (arith, found t x v h .below, decoded-nodes t)) ∙ sym h
     go (inr h) = le-ltb (ownFound t x) (nodesOf t) (omega (arith, missing t x v h)) ∙ sym h
 
-module _ (s t : Tree) (xs : List Label) (v : Valid s) (w : Valid t) (different : distinct xs ≡ true) where
+module _ (s t : Tree) (xs : List Token) (v : Valid s) (w : Valid t) (different : distinct (map spelling xs) ≡ true) where
+  -- the trees and the labels that those read stand for
+  abbrev S : Tree
+  S = decoded s
+
+  abbrev T : Tree
+  T = decoded t
+
+  abbrev labels : List Label
+  labels = map spelling xs
+
+  as-many : length labels ≡ length xs
+  as-many = length-map xs spelling
+
   -- what the search for a lacking label comes to
   data Lack (k : ℕ) : Option Answer → Agreement → Type 0 where
-    no-lack : ((j : ℕ) → k ≤ j → j < length xs → (holds s (getD xs j []) ≡ true) × (holds t (getD xs j []) ≡ true)) → Lack k none Agreed
+    no-lack : ((j : ℕ) → k ≤ j → j < length xs → (holds S (getD labels j []) ≡ true) × (holds T (getD labels j []) ≡ true)) → Lack k none Agreed
     lack-first : (n : ℕ)
         → Lack k (some (firstLacks n)) (Refused (record { reason = FirstLacks; body = K; place = placeOfNumber xs n }))
     lack-second : (n : ℕ)
         → Lack k (some (secondLacks n)) (Refused (record { reason = SecondLacks; body = K; place = placeOfNumber xs n }))
 
-  later : (k : ℕ) {o : Option Answer} {A : Agreement} → holds s (getD xs k []) ≡ true → holds t (getD xs k []) ≡ true
+  later : (k : ℕ) {o : Option Answer} {A : Agreement} → holds S (getD labels k []) ≡ true → holds T (getD labels k []) ≡ true
       → Lack (suc k) o A → Lack k o A
   later k p q (no-lack f) = no-lack (λ j h l. at j h l (bool-cases (eqb j k)))
     where
       at : (j : ℕ) → k ≤ j → j < length xs → (eqb j k ≡ true) ⊎ (eqb j k ≡ false)
-          → (holds s (getD xs j []) ≡ true) × (holds t (getD xs j []) ≡ true)
+          → (holds S (getD labels j []) ≡ true) × (holds T (getD labels j []) ≡ true)
       at j h l (inl e) = rw (eqb-true j k e) (p, q)
       at j h l (inr e) = f j (omega (arith, eqb-false j k e)) l
   later k p q (lack-first n) = lack-first n
@@ -90,28 +106,28 @@ module _ (s t : Tree) (xs : List Label) (v : Valid s) (w : Valid t) (different :
 
   module _ (leaf1 leaf2 : List ℕ) (l1 : LeavesOf s xs leaf1) (l2 : LeavesOf t xs leaf2) where
     lack-of : (n k : ℕ) → n + k ≡ length xs
-        → Lack k (lacking s t (drop k xs) k) (lackFrom leaf1 (nodesOf s) leaf2 (nodesOf t) (placesOf xs .start) n k)
+        → Lack k (lacking S T (drop k labels) k) (lackFrom leaf1 (nodesOf s) leaf2 (nodesOf t) (placesOf xs .start) n k)
     unfolding lacking lackFrom
     lack-of zero k e =
-        let past : length xs ≤ k = omega arith in
-        rw (drop-of-length-le xs past) (no-lack (λ j h l. absurd (omega arith)))
+        let past : length labels ≤ k = omega (arith, as-many) in
+        rw (drop-of-length-le labels past) (no-lack (λ j h l. absurd (omega arith)))
     lack-of (suc n) k e =
         let here : k < length xs = omega arith in
-        let x = getD xs k [] in
+        let x = getD labels k [] in
         rw (
-          drop-cons xs k [] here,
+          drop-cons labels k [] (omega (arith, as-many)),
           ap (λ (u : ℕ). ltb u (nodesOf s)) (l1 k here) ∙ holds-found s x v,
           ap (λ (u : ℕ). ltb u (nodesOf t)) (l2 k here) ∙ holds-found t x w,
           place-number xs k here,
         )
-        (go (holds s x) refl (holds t x) refl (lack-of n (suc k) (omega arith)))
+        (go (holds S x) refl (holds T x) refl (lack-of n (suc k) (omega arith)))
       where
         next : Agreement
         next = lackFrom leaf1 (nodesOf s) leaf2 (nodesOf t) (placesOf xs .start) n (suc k)
 
-        go : (a : Bool) → holds s (getD xs k []) ≡ a → (b : Bool) → holds t (getD xs k []) ≡ b
-            → Lack (suc k) (lacking s t (drop (suc k) xs) (suc k)) next
-            → Lack k (cond a (cond b (lacking s t (drop (suc k) xs) (suc k)) (some (secondLacks k))) (some (firstLacks k)))
+        go : (a : Bool) → holds S (getD labels k []) ≡ a → (b : Bool) → holds T (getD labels k []) ≡ b
+            → Lack (suc k) (lacking S T (drop (suc k) labels) (suc k)) next
+            → Lack k (cond a (cond b (lacking S T (drop (suc k) labels) (suc k)) (some (secondLacks k))) (some (firstLacks k)))
             (cond a (cond b next (Refused (record { reason = SecondLacks; body = K; place = placeOfNumber xs k })))
             (Refused (record { reason = FirstLacks; body = K; place = placeOfNumber xs k })))
         go true p true q r = later k p q r
@@ -124,12 +140,12 @@ module _ (s t : Tree) (xs : List Label) (v : Valid s) (w : Valid t) (different :
   clashTold (some c) = Disagree (placeOfLabel xs 0 (c .one)) (placeOfLabel xs 0 (c .two)) (placeOfLabel xs 0 (c .three))
 
   -- the answer where a label is lacking, and where none is
-  answer-by : (o : Option Answer) → lacking s t xs 0 ≡ o
-      → answer s t xs
+  answer-by : (o : Option Answer) → lacking S T labels 0 ≡ o
+      → answer S T labels
       ≡ elim o [
         | some r ↦ r
         | none ↦
-            elim (firstClash s t (sorted xs)) [ some c ↦ disagree (c .one) (c .two) (c .three) | none ↦ largest (largestSet s t xs) ]
+            elim (firstClash S T (sorted labels)) [ some c ↦ disagree (c .one) (c .two) (c .three) | none ↦ largest (largestSet S T labels) ]
       ]
   unfolding answer
   answer-by o e =
@@ -137,68 +153,83 @@ module _ (s t : Tree) (xs : List Label) (v : Valid s) (w : Valid t) (different :
       (λ (z : Option Answer). elim z [
         | some r ↦ r
         | none ↦
-            elim (firstClash s t (sorted xs)) [ some c ↦ disagree (c .one) (c .two) (c .three) | none ↦ largest (largestSet s t xs) ]
+            elim (firstClash S T (sorted labels)) [ some c ↦ disagree (c .one) (c .two) (c .three) | none ↦ largest (largestSet S T labels) ]
       ])
       e
 
-  answer-clash : lacking s t xs 0 ≡ none → verdictOf xs (answer s t xs) ≡ clashTold (firstClash s t (sorted xs))
+  answer-clash : lacking S T labels 0 ≡ none → verdictOf xs (answer S T labels) ≡ clashTold (firstClash S T (sorted labels))
   unfolding verdictOf
-  answer-clash e = ap (verdictOf xs) (answer-by none e) ∙ go (firstClash s t (sorted xs))
+  answer-clash e = ap (verdictOf xs) (answer-by none e) ∙ go (firstClash S T (sorted labels))
     where
       go : (o : Option Three)
-          → verdictOf xs (elim o [ some c ↦ disagree (c .one) (c .two) (c .three) | none ↦ largest (largestSet s t xs) ]) ≡ clashTold o
+          → verdictOf xs (elim o [ some c ↦ disagree (c .one) (c .two) (c .three) | none ↦ largest (largestSet S T labels) ]) ≡ clashTold o
       go none = refl
       go (some c) = refl
 
   -- the labels in label order, by their numbers in the list
   module _ (order : List ℕ)
-      (o : (r : ℕ) → r < length xs → (getD order r 0 < length xs) × (getD xs (getD order r 0) [] ≡ getD (sorted xs) r [])) where
+      (o : (r : ℕ) → r < length xs → (getD order r 0 < length xs) × (getD labels (getD order r 0) [] ≡ getD (sorted labels) r [])) where
     -- the leaves in that order are those of the sorted labels
-    leaves-ranked : (u : Tree) → Valid u → ((j : ℕ) → j < length xs → holds u (getD xs j []) ≡ true) → (leaf ranked : List ℕ)
-        → LeavesOf u xs leaf → ((r : ℕ) → r < length xs → getD ranked r 0 ≡ getD leaf (getD order r 0) 0) → Numbered u (sorted xs) ranked
+    leaves-ranked : (u : Tree) → Valid u → ((j : ℕ) → j < length xs → holds (decoded u) (getD labels j []) ≡ true) → (leaf ranked : List ℕ)
+        → LeavesOf u xs leaf → ((r : ℕ) → r < length xs → getD ranked r 0 ≡ getD leaf (getD order r 0) 0)
+        → Numbered (decoded u) (sorted labels) ranked
     unfolding holds
     leaves-ranked u valid held leaf ranked l e r h =
-        let k = o r (omega (arith, length-sorted xs)) in
-        let g = e r (omega (arith, length-sorted xs)) ∙ l (getD order r 0) (k .0) in
-        let f = found u (getD xs (getD order r 0) []) valid (held (getD order r 0) (k .0)) in
-        subst (λ (n : ℕ). LeafIs u n (getD (sorted xs) r [])) (sym g)
-        (subst (λ (x : Label). LeafIs u (ownFound u (getD xs (getD order r 0) [])) x) (k .1) (record { below = f .below; is = f .is }))
+        let k = o r (omega (arith, length-sorted labels, as-many)) in
+        let g = e r (omega (arith, length-sorted labels, as-many)) ∙ l (getD order r 0) (k .0) in
+        let f = found u (getD labels (getD order r 0) []) valid (held (getD order r 0) (k .0)) in
+        subst (λ (n : ℕ). LeafIs (decoded u) n (getD (sorted labels) r [])) (sym g)
+        (subst (λ (x : Label). LeafIs (decoded u) (ownFound u (getD labels (getD order r 0) [])) x) (k .1)
+        (record { below = f .below; is = f .is }))
 
     -- the place of a label by its rank
-    place : (x : Label) → isIn x (sorted xs) ≡ true
-        → (rankOf (sorted xs) x < length xs)
-        × (getD (placesOf xs .start) (getD order (rankOf (sorted xs) x) 0) 0 ≡ placeOfLabel xs 0 x)
+    place : (x : Label) → isIn x (sorted labels) ≡ true
+        → (rankOf (sorted labels) x < length xs)
+        × (getD (placesOf xs .start) (getD order (rankOf (sorted labels) x) 0) 0 ≡ placeOfLabel xs 0 x)
     place x h =
-        let n = number-of (sorted xs) x h in
-        let e : rankOf (sorted xs) x ≡ n .at =
-        ap (rankOf (sorted xs)) (sym (n .is)) ∙ rank-at (sorted xs) (n .at) (inc-distinct (sorted xs) (sorted-inc xs different)) (n .below) in
-        let l : rankOf (sorted xs) x < length xs = omega (arith, e, n .below, length-sorted xs) in
-        let k = o (rankOf (sorted xs) x) l in (
+        let n = number-of (sorted labels) x h in
+        let e : rankOf (sorted labels) x ≡ n .at =
+        ap (rankOf (sorted labels)) (sym (n .is))
+        ∙ rank-at (sorted labels) (n .at) (inc-distinct (sorted labels) (sorted-inc labels different)) (n .below) in
+        let l : rankOf (sorted labels) x < length xs = omega (arith, e, n .below, length-sorted labels, as-many) in
+        let k = o (rankOf (sorted labels) x) l in (
           l,
-          place-of xs (getD order (rankOf (sorted xs) x) 0) different (k .0)
-              ∙ ap (placeOfLabel xs 0) (k .1 ∙ ap (λ (m : ℕ). getD (sorted xs) m []) e ∙ n .is),
+          place-of xs (getD order (rankOf (sorted labels) x) 0) different (k .0)
+              ∙ ap (placeOfLabel xs 0) (k .1 ∙ ap (λ (m : ℕ). getD (sorted labels) m []) e ∙ n .is),
         )
 
-    told-clash : (c : Option Three) → FirstThree (Clash s t (sorted xs)) c
-        → toldOf order (placesOf xs .start) (length xs) (clashRanks (sorted xs) c) ≡ clashTold c
+    told-clash : (c : Option Three) → FirstThree (Clash S T (sorted labels)) c
+        → toldOf order (placesOf xs .start) (length xs) (clashRanks (sorted labels) c) ≡ clashTold c
     unfolding toldOf clashRanks
-    told-clash none f = rw (length-sorted xs, le-ltb (length xs) (length xs) (omega arith)) refl
+    told-clash none f = rw (length-sorted labels, as-many, le-ltb (length xs) (length xs) (omega arith)) refl
     told-clash (some c) f =
         let a = place (c .one) (f .0 .inOne) in
         let b = place (c .two) (f .0 .inTwo) in
         let d = place (c .three) (f .0 .inThree) in
-        rw (lt-ltb (rankOf (sorted xs) (c .one)) (length xs) (a .0), a .1, b .1, d .1) refl
+        rw (lt-ltb (rankOf (sorted labels) (c .one)) (length xs) (a .0), a .1, b .1, d .1) refl
 
-    told-verdict : lacking s t xs 0 ≡ none
-        → toldOf order (placesOf xs .start) (length xs) (clashRanks (sorted xs) (firstClash s t (sorted xs))) ≡ verdictOf xs (answer s t xs)
+    told-verdict : lacking S T labels 0 ≡ none
+        → toldOf order (placesOf xs .start) (length xs) (clashRanks (sorted labels) (firstClash S T (sorted labels)))
+        ≡ verdictOf xs (answer S T labels)
     told-verdict e =
-        told-clash (firstClash s t (sorted xs)) (clash-found s t (sorted xs) (sorted-inc xs different)) ∙ sym (answer-clash e)
+        told-clash (firstClash S T (sorted labels)) (clash-found S T (sorted labels) (sorted-inc labels different)) ∙ sym (answer-clash e)
 
 nodes-is : (t : Tree) (tree : TreeArrays) → tree ≡ arraysOf t → tree .nodes ≡ nodesOf t
 unfolding arraysOf
 nodes-is t tree d = ap (λ (q : TreeArrays). q .nodes) d
 
-module _ (s t : Tree) (xs : List Label) (first second list : List ℕ) (one two : TreeArrays) (places : LabelPlaces)
+-- the arrays of a tree that was read, with leaf numbers by rank, for the tree that it stands for
+pub ranked-read : (t : Tree) → Valid t → (tree : TreeArrays) → tree ≡ arraysOf t → (C : List Label) (leaf : List ℕ) → Numbered (decoded t) C leaf
+    → RankedTree (decoded t) C (tree .left) (tree .nodes) leaf
+ranked-read t v tree d C leaf n =
+    record {
+      proper = valid-decoded t v;
+      children = ap (λ (q : TreeArrays). q .left) d ∙ sym (decoded-left t);
+      size = nodes-is t tree d ∙ sym (decoded-nodes t);
+      numbered = n;
+    }
+
+module _ (s t : Tree) (xs : List Token) (first second list : List ℕ) (one two : TreeArrays) (places : LabelPlaces)
     (g : Given s t xs first second list one two places) where
   count-is : places .count ≡ length xs
   unfolding placesOf
@@ -221,29 +252,35 @@ module _ (s t : Tree) (xs : List Label) (first second list : List ℕ) (one two 
         ∙ ap (λ (q : LabelPlaces). lackFrom leaf1 (nodesOf s) leaf2 (nodesOf t) (q .start) (places .count) 0) (g .placed)
         ∙ ap (λ (n : ℕ). lackFrom leaf1 (nodesOf s) leaf2 (nodesOf t) (placesOf xs .start) n 0) count-is
 
-    view : Lack s t xs (g .valid1) (g .valid2) (g .different) 0 (lacking s t xs 0)
+    view : Lack s t xs (g .valid1) (g .valid2) (g .different) 0 (lacking (decoded s) (decoded t) (map spelling xs) 0)
         (lackFrom leaf1 (nodesOf s) leaf2 (nodesOf t) (placesOf xs .start) (length xs) 0)
     view = lack-of s t xs (g .valid1) (g .valid2) (g .different) leaf1 leaf2 l1 l2 (length xs) 0 (omega arith)
 
     -- a label is lacking
-    pub lacked : (lack ≡ Agreed → ⊥) → lack ≡ verdictOf xs (answer s t xs)
+    pub lacked : (lack ≡ Agreed → ⊥) → lack ≡ verdictOf xs (answer (decoded s) (decoded t) (map spelling xs))
     unfolding verdictOf
-    lacked not-agreed = go (lacking s t xs 0) refl (lackFrom leaf1 (nodesOf s) leaf2 (nodesOf t) (placesOf xs .start) (length xs) 0) own-lack view
+    lacked not-agreed =
+        go (lacking (decoded s) (decoded t) (map spelling xs) 0) refl
+        (lackFrom leaf1 (nodesOf s) leaf2 (nodesOf t) (placesOf xs .start) (length xs) 0) own-lack view
       where
-        go : (o : Option Answer) → lacking s t xs 0 ≡ o → (A : Agreement) → lack ≡ A
-            → Lack s t xs (g .valid1) (g .valid2) (g .different) 0 o A → lack ≡ verdictOf xs (answer s t xs)
+        go : (o : Option Answer) → lacking (decoded s) (decoded t) (map spelling xs) 0 ≡ o → (A : Agreement) → lack ≡ A
+            → Lack s t xs (g .valid1) (g .valid2) (g .different) 0 o A → lack ≡ verdictOf xs (answer (decoded s) (decoded t) (map spelling xs))
         go o h A k (no-lack f) = absurd (not-agreed k)
         go o h A k (lack-first n) = k ∙ sym (ap (verdictOf xs) (answer-by s t xs (g .valid1) (g .valid2) (g .different) (some (firstLacks n)) h))
         go o h A k (lack-second n) = k ∙ sym (ap (verdictOf xs) (answer-by s t xs (g .valid1) (g .valid2) (g .different) (some (secondLacks n)) h))
 
     abbrev Held : Type 0
     Held =
-        (lacking s t xs 0 ≡ none) × ((j : ℕ) → j < length xs → (holds s (getD xs j []) ≡ true) × (holds t (getD xs j []) ≡ true))
+        (lacking (decoded s) (decoded t) (map spelling xs) 0 ≡ none)
+        × ((j : ℕ) → j < length xs
+        → (holds (decoded s) (getD (map spelling xs) j []) ≡ true) × (holds (decoded t) (getD (map spelling xs) j []) ≡ true))
 
     held-all : lack ≡ Agreed → Held
-    held-all agreed = go (lacking s t xs 0) refl (lackFrom leaf1 (nodesOf s) leaf2 (nodesOf t) (placesOf xs .start) (length xs) 0) (sym agreed ∙ own-lack) view
+    held-all agreed =
+        go (lacking (decoded s) (decoded t) (map spelling xs) 0) refl
+        (lackFrom leaf1 (nodesOf s) leaf2 (nodesOf t) (placesOf xs .start) (length xs) 0) (sym agreed ∙ own-lack) view
       where
-        go : (o : Option Answer) → lacking s t xs 0 ≡ o → (A : Agreement) → Agreed ≡ A
+        go : (o : Option Answer) → lacking (decoded s) (decoded t) (map spelling xs) 0 ≡ o → (A : Agreement) → Agreed ≡ A
             → Lack s t xs (g .valid1) (g .valid2) (g .different) 0 o A → Held
         go o h A k (no-lack f) = (h, λ j l. f j (omega arith) l)
         go o h A k (lack-first n) = absurd (let z : _≡_ {A = ℕ} 0 1 = cc in omega arith)
@@ -254,43 +291,42 @@ module _ (s t : Tree) (xs : List Label) (first second list : List ℕ) (one two 
         (o : InOrder (rankIn list (places .start) (places .size) (places .count)) (places .count) (places .count) order)
         (w1 : (r : ℕ) → r < places .count → getD ranked1 r 0 ≡ getD leaf1 (getD order r 0) 0)
         (w2 : (r : ℕ) → r < places .count → getD ranked2 r 0 ≡ getD leaf2 (getD order r 0) 0) where
-      shown : (k : ℕ) → k < length xs → labelIn list (places .start) (places .size) k ≡ getD xs k []
+      shown : (k : ℕ) → k < length xs → labelIn list (places .start) (places .size) k ≡ getD (map spelling xs) k []
       shown k h =
           ap (λ (z : List ℕ). labelIn z (places .start) (places .size) k) (g .listed)
           ∙ ap (λ (z : LabelPlaces). labelIn (joined xs) (z .start) (z .size) k) (g .placed)
           ∙ label-at xs k h
 
-      in-order : (r : ℕ) → r < length xs → (getD order r 0 < length xs) × (getD xs (getD order r 0) [] ≡ getD (sorted xs) r [])
-      in-order = order-sorted xs (g .different) list (places .start) (places .size) (places .count) count-is shown order o
+      in-order : (r : ℕ) → r < length xs
+          → (getD order r 0 < length xs) × (getD (map spelling xs) (getD order r 0) [] ≡ getD (sorted (map spelling xs)) r [])
+      in-order r h =
+          let n = length-map xs spelling in
+          let p =
+          order-sorted (map spelling xs) (g .different) list (places .start) (places .size) (places .count) (count-is ∙ sym n)
+          (λ k l. shown k (omega (arith, n))) order o r (omega (arith, n)) in
+          (omega (arith, n, p .0), p .1)
 
-      ranked-first : RankedTree s (sorted xs) (one .left) (one .nodes) ranked1
+      ranked-first : RankedTree (decoded s) (sorted (map spelling xs)) (one .left) (one .nodes) ranked1
       ranked-first =
-          record {
-            valid = g .valid1;
-            children = ap (λ (q : TreeArrays). q .left) (g .tree1);
-            size = nodes-is s one (g .tree1);
-            numbered = leaves-ranked s t xs (g .valid1) (g .valid2) (g .different) order in-order s (g .valid1)
-                (λ j h. held-all agreed .1 j h .0) leaf1 ranked1 l1 (λ r h. w1 r (omega (arith, count-is)));
-          }
+          ranked-read s (g .valid1) one (g .tree1) (sorted (map spelling xs)) ranked1
+          (leaves-ranked s t xs (g .valid1) (g .valid2) (g .different) order in-order s (g .valid1)
+          (λ j h. held-all agreed .1 j h .0) leaf1 ranked1 l1 (λ r h. w1 r (omega (arith, count-is))))
 
-      ranked-second : RankedTree t (sorted xs) (two .left) (two .nodes) ranked2
+      ranked-second : RankedTree (decoded t) (sorted (map spelling xs)) (two .left) (two .nodes) ranked2
       ranked-second =
-          record {
-            valid = g .valid2;
-            children = ap (λ (q : TreeArrays). q .left) (g .tree2);
-            size = nodes-is t two (g .tree2);
-            numbered = leaves-ranked s t xs (g .valid1) (g .valid2) (g .different) order in-order t (g .valid2)
-                (λ j h. held-all agreed .1 j h .1) leaf2 ranked2 l2 (λ r h. w2 r (omega (arith, count-is)));
-          }
+          ranked-read t (g .valid2) two (g .tree2) (sorted (map spelling xs)) ranked2
+          (leaves-ranked s t xs (g .valid1) (g .valid2) (g .different) order in-order t (g .valid2)
+          (λ j h. held-all agreed .1 j h .1) leaf2 ranked2 l2 (λ r h. w2 r (omega (arith, count-is))))
 
       pub compared-verdict : places .count ≤ 80 → (three : Ranked)
           → ((u v : Tree) (C : List Label) → increasing C ≡ true → places .count ≡ length C → places .count ≤ 80
           → RankedTree u C (one .left) (one .nodes) ranked1 → RankedTree v C (two .left) (two .nodes) ranked2
           → three ≡ clashRanks C (firstClash u v C))
-          → toldOf order (places .start) (places .count) three ≡ verdictOf xs (answer s t xs)
+          → toldOf order (places .start) (places .count) three ≡ verdictOf xs (answer (decoded s) (decoded t) (map spelling xs))
       compared-verdict few three search =
           ap (λ (q : LabelPlaces). toldOf order (q .start) (places .count) three) (g .placed)
           ∙ ap (λ (n : ℕ). toldOf order (placesOf xs .start) n three) count-is
           ∙ ap (toldOf order (placesOf xs .start) (length xs))
-          (search s t (sorted xs) (sorted-inc xs (g .different)) (count-is ∙ sym (length-sorted xs)) few ranked-first ranked-second)
+          (search (decoded s) (decoded t) (sorted (map spelling xs)) (sorted-inc (map spelling xs) (g .different))
+          (count-is ∙ sym (length-map xs spelling) ∙ sym (length-sorted (map spelling xs))) few ranked-first ranked-second)
           ∙ told-verdict s t xs (g .valid1) (g .valid2) (g .different) order in-order (held-all agreed .0)

@@ -2,12 +2,15 @@
 use Prim.Native.Nat.{ℕ}
 use mathlib.Core.Path.{_≡_, refl}
 use mathlib.Core.Logic.{_↔_}
-use mathlib.Core.List.{List, [], _∷_}
+use mathlib.Core.List.{List, [], _∷_, map}
 use Rattle.trees.specs.declared.Reason.{Reason}
 use Rattle.trees.specs.declared.Refusal.{Refusal}
 use Rattle.trees.specs.Refusals.{numberOf, letterOf}
 use Rattle.trees.specs.Label.{Label}
-use Rattle.trees.specs.Tree.{Tree}
+use Rattle.trees.specs.Token.{Token, spelling}
+use Rattle.trees.specs.Tree.{Tree, decoded, Valid}
+use Rattle.trees.specs.declared.TreeArrays.{TreeArrays}
+use Rattle.trees.specs.Arrays.{arraysOf}
 use Rattle.trees.specs.Reading.{good, refused}
 use Rattle.newick.specs.ReadTree.{readTree}
 use Rattle.lists.specs.ReadList.{readList}
@@ -17,6 +20,9 @@ use Rattle.agreement.specs.Demand.{IsDisagreement, IsFirstLacks, IsSecondLacks}
 use Rattle.agreement.specs.Places.{placeOfNumber, placeOfLabel}
 use Rattle.triples.specs.declared.Agreement.the-variants.{Agreed, Disagree, Refused}
 use Rattle.triples.specs.Verdict.{verdict, AllRead, agrees, row, toldBy}
+use Rattle.leaves.specs.Numbered.{Numbered}
+use Rattle.triples.specs.Clash.{RankedTree}
+use Rattle.triples.proofs.Composed.{ranked-read}
 use Rattle.triples.proofs.VerdictLaws.{first-row, second-row, list-row, six-row, seven-row, eight-row, agreed-told, agreed-bodies}
 
 -- each answer is a row of the table, or that the trees agree
@@ -25,6 +31,11 @@ pub answers-told : (a b c : ℕ) (r : Refusal)
     × (toldBy (Refused r) ≡ row (numberOf (r .reason)) (letterOf (r .body)) (r .place) [])
 unfolding toldBy
 answers-told a b c r = (refl, refl, refl)
+
+-- a tree that was read is given to the search for a clash as the tree that it stands for
+pub read-is-ranked : (t : Tree) → Valid t → (tree : TreeArrays) → tree ≡ arraysOf t → (C : List Label) (leaf : List ℕ)
+    → Numbered (decoded t) C leaf → RankedTree (decoded t) C (tree .left) (tree .nodes) leaf
+read-is-ranked = ranked-read
 
 -- "Order: .. S, T, K, then 6 or 7, then 8"; "A body that fails to read ends the job there."
 module _ (first second list : List ℕ) (r : Reason) (i : ℕ) where
@@ -39,23 +50,28 @@ module _ (first second list : List ℕ) (r : Reason) (i : ℕ) where
       → toldBy (verdict first second list) ≡ row (numberOf r) 75 i []
   list-refused = list-row first second list r i
 
-module _ (first second list : List ℕ) (s t : Tree) (xs : List Label) (read1 : readTree first ≡ good s)
+module _ (first second list : List ℕ) (s t : Tree) (xs : List Token) (read1 : readTree first ≡ good s)
     (read2 : readTree second ≡ good t) (read3 : readList list ≡ good xs) where
   -- "Numbers 6 and 7 go to the first label in list order that either tree lacks."
-  pub six-promise : (n : ℕ) → IsFirstLacks s t xs n → toldBy (verdict first second list) ≡ row 6 75 (placeOfNumber xs n) []
+  pub six-promise : (n : ℕ) → IsFirstLacks (decoded s) (decoded t) (map spelling xs) n
+      → toldBy (verdict first second list) ≡ row 6 75 (placeOfNumber xs n) []
   six-promise = six-row first second list s t xs read1 read2 read3
 
-  pub seven-promise : (n : ℕ) → IsSecondLacks s t xs n → toldBy (verdict first second list) ≡ row 7 75 (placeOfNumber xs n) []
+  pub seven-promise : (n : ℕ) → IsSecondLacks (decoded s) (decoded t) (map spelling xs) n
+      → toldBy (verdict first second list) ≡ row 7 75 (placeOfNumber xs n) []
   seven-promise = seven-row first second list s t xs read1 read2 read3
 
   -- "Number 8 names the first such three, sorted, compared label by label."
-  pub eight-promise : (a b c : Label) → Common s t (setOf xs) → IsDisagreement s t xs a b c
+  pub eight-promise : (a b c : Label) → Common (decoded s) (decoded t) (setOf (map spelling xs))
+      → IsDisagreement (decoded s) (decoded t) (map spelling xs) a b c
       → toldBy (verdict first second list)
       ≡ row 8 75 0 (placeOfLabel xs 0 a ∷ placeOfLabel xs 0 b ∷ placeOfLabel xs 0 c ∷ [])
   eight-promise = eight-row first second list s t xs read1 read2 read3
 
   -- "Trees agree on a set of leaves common to both exactly if each three of the set have the same closer pair in both"
-  pub agreed-exactly : (verdict first second list ≡ Agreed) ↔ (Common s t (setOf xs) × Agree s t (setOf xs))
+  pub agreed-exactly : (verdict first second list ≡ Agreed)
+      ↔ (Common (decoded s) (decoded t) (setOf (map spelling xs))
+      × Agree (decoded s) (decoded t) (setOf (map spelling xs)))
   agreed-exactly = agreed-told first second list s t xs read1 read2 read3
 
 -- where a body cannot be read they do not agree

@@ -3,13 +3,15 @@ use Prim.Native.Nat.{ℕ, zero, suc, _+_, _-_, _<_}
 use mathlib.Core.Path.{_≡_, refl, sym, _∙_, ap, ap₂, subst}
 use mathlib.Core.Bool.{Bool, true, false, cond}
 use mathlib.Core.Logic.{_⊎_, inl, inr}
-use mathlib.Core.List.{List, [], _∷_, _++_, append-assoc, append-nil}
+use mathlib.Core.List.{List, [], _∷_, _++_, append-assoc, append-nil, map}
 use native.Mathlib.Omega.{arith}
-use lib.ListN.{length, getD, length-append, replicate, List·getD-append}
+use lib.ListN.{length, getD, length-append, length-map, replicate, List·getD-append}
 use Rattle.trees.specs.Label.{Label, labelLess, sameLabel, isIn, distinct}
+use Rattle.trees.specs.Token.{Token, spelling}
 use Rattle.trees.specs.Stored.{partOf}
 use Rattle.trees.proofs.Bools.{clash}
 use Rattle.trees.proofs.LabelLaws.{less-irrefl, less-asym, same-refl, ne-same}
+use Rattle.trees.proofs.RelabelLaws.{map-at}
 use Rattle.trees.proofs.ListLaws.{at-in, distinct-head, distinct-tail}
 use Rattle.lists.specs.ReadList.{joined, startsOf, sizesOf, placesOf, listLimit}
 use Rattle.trees.proofs.AmongLaws.{part-here}
@@ -19,8 +21,8 @@ use Rattle.agreement.specs.Places.{placeOfNumber, placeOfLabel}
 use Rattle.agreement.proofs.SetLaws.{in-head, in-tail, inc-head, inc-tail, in-sorted, sorted-inc, length-sorted, HasNumber, number-of}
 use Rattle.triples.specs.Loops.{labelIn, lessCount, rankIn, InOrder}
 
--- a label in a text
-part-own : (xs : List Label) (before : List ℕ) (p k : ℕ) → p ≡ length before → k < length xs
+-- a token in a text
+part-own : (xs : List Token) (before : List ℕ) (p k : ℕ) → p ≡ length before → k < length xs
     → partOf (getD (startsOf xs p) k 0) (getD (sizesOf xs) k 0) (before ++ joined xs) ≡ getD xs k []
 unfolding startsOf sizesOf joined
 part-own [] before p k e h = absurd (omega arith)
@@ -33,7 +35,7 @@ part-own (x ∷ y ∷ ys) before p (suc k) e h =
     let there : (before ++ (x ++ (44 ∷ []))) ++ joined (y ∷ ys) ≡ before ++ (x ++ (44 ∷ joined (y ∷ ys))) = simp append-assoc in
     rw (← there) (part-own (y ∷ ys) (before ++ (x ++ (44 ∷ []))) (p + length x + 1) k past (omega arith))
 
-module _ (xs : List Label) (k : ℕ) (h : k < length xs) where
+module _ (xs : List Token) (k : ℕ) (h : k < length xs) where
   pub start-at : getD (placesOf xs .start) k 0 ≡ getD (startsOf xs 0) k 0
   unfolding placesOf
   start-at =
@@ -44,28 +46,30 @@ module _ (xs : List Label) (k : ℕ) (h : k < length xs) where
   size-at =
       List·getD-append (sizesOf xs) (replicate (listLimit - length (sizesOf xs)) 0) 0 k (omega (arith, length-sizes xs))
 
-  pub label-at : labelIn (joined xs) (placesOf xs .start) (placesOf xs .size) k ≡ getD xs k []
+  pub label-at : labelIn (joined xs) (placesOf xs .start) (placesOf xs .size) k ≡ getD (map spelling xs) k []
   unfolding labelIn
-  label-at = rw (start-at, size-at) (part-own xs [] 0 k refl h)
+  label-at = rw (start-at, size-at) (ap spelling (part-own xs [] 0 k refl h) ∙ sym (map-at spelling xs k [] [] h))
 
--- the place of a label is where its number's starts
-place-at : (xs : List Label) (p k : ℕ) → distinct xs ≡ true → k < length xs
-    → getD (startsOf xs p) k 0 ≡ placeOfLabel xs p (getD xs k [])
+-- the place of a label is where its number's token starts
+place-at : (xs : List Token) (p k : ℕ) → distinct (map spelling xs) ≡ true → k < length xs
+    → getD (startsOf xs p) k 0 ≡ placeOfLabel xs p (getD (map spelling xs) k [])
 unfolding startsOf placeOfLabel
 place-at [] p k d h = absurd (omega arith)
-place-at (x ∷ xs) p zero d h = rw (same-refl x) refl
+place-at (x ∷ xs) p zero d h = rw (same-refl (spelling x)) refl
 place-at (x ∷ xs) p (suc k) d h =
     let l : k < length xs = omega arith in
-    let other : sameLabel (getD xs k []) x ≡ false =
-    ne-same (getD xs k []) x
-    (λ (e : getD xs k [] ≡ x). clash (subst (λ (y : Label). isIn y xs ≡ true) e (at-in xs k l)) (distinct-head x xs d)) in
-    rw other (place-at xs (p + length x + 1) k (distinct-tail x xs d) l)
+    let ys = map spelling xs in
+    let other : sameLabel (getD ys k []) (spelling x) ≡ false =
+    ne-same (getD ys k []) (spelling x)
+    (λ (e : getD ys k [] ≡ spelling x).
+    clash (subst (λ (y : Label). isIn y ys ≡ true) e (at-in ys k (omega (arith, length-map xs spelling)))) (distinct-head (spelling x) ys d)) in
+    rw other (place-at xs (p + length x + 1) k (distinct-tail (spelling x) ys d) l)
 
-pub place-of : (xs : List Label) (k : ℕ) → distinct xs ≡ true → k < length xs
-    → getD (placesOf xs .start) k 0 ≡ placeOfLabel xs 0 (getD xs k [])
+pub place-of : (xs : List Token) (k : ℕ) → distinct (map spelling xs) ≡ true → k < length xs
+    → getD (placesOf xs .start) k 0 ≡ placeOfLabel xs 0 (getD (map spelling xs) k [])
 place-of xs k d h = start-at xs k h ∙ place-at xs 0 k d h
 
-pub place-number : (xs : List Label) (k : ℕ) → k < length xs → getD (placesOf xs .start) k 0 ≡ placeOfNumber xs k
+pub place-number : (xs : List Token) (k : ℕ) → k < length xs → getD (placesOf xs .start) k 0 ≡ placeOfNumber xs k
 unfolding placeOfNumber
 place-number xs k h = start-at xs k h
 

@@ -1,13 +1,13 @@
 -- What the readers hand over: a refusal is the verdict, and what was read is two valid trees and a list. Assumes nothing.
 use Prim.Native.Nat.{ℕ, _≤_}
 use mathlib.Core.Path.{_≡_, refl, sym, _∙_, ap}
-use mathlib.Core.List.{List}
+use mathlib.Core.List.{List, map}
 use native.Mathlib.Omega.{arith}
 use Rattle.trees.specs.declared.Body.{Body}
 use Rattle.trees.specs.declared.Body.the-variants.{S, T, K}
 use Rattle.trees.specs.declared.Refusal.{Refusal}
-use Rattle.trees.specs.Label.{Label}
-use Rattle.trees.specs.Tree.{Tree}
+use Rattle.trees.specs.Token.{Token, spelling}
+use Rattle.trees.specs.Tree.{Tree, decoded}
 use Rattle.trees.specs.Arrays.{arraysOf}
 use Rattle.trees.specs.Reading.{Reading, good, refused}
 use Rattle.newick.specs.declared.TreeAnswer.the-variants as Trees
@@ -30,8 +30,8 @@ pub record TreeWas (reading : Reading Tree) (r : TreeRead) : Type 0 where
   pub read : reading ≡ good tree
   pub arrays : r .tree ≡ arraysOf tree
 
-pub record ListWas (reading : Reading (List Label)) (r : ListRead) : Type 0 where
-  pub labels : List Label
+pub record ListWas (reading : Reading (List Token)) (r : ListRead) : Type 0 where
+  pub labels : List Token
   pub read : reading ≡ good labels
   pub places : r .places ≡ placesOf labels
 
@@ -42,7 +42,7 @@ tree-was body (good t) r n e a = record { tree = t; read = refl; arrays = ap (λ
 tree-was body (refused x i) r n e a =
     absurd (let b = ap (λ (q : TreeRead). q .answer) e in let z : _≡_ {A = ℕ} 0 1 = cc in omega arith)
 
-pub list-was : (body : Body) (reading : Reading (List Label)) (r : ListRead) (n : ℕ) → r ≡ listRead body reading
+pub list-was : (body : Body) (reading : Reading (List Token)) (r : ListRead) (n : ℕ) → r ≡ listRead body reading
     → r .answer ≡ Lists.Labels n → ListWas reading r
 unfolding listRead
 list-was body (good xs) r n e a = record { labels = xs; read = refl; places = ap (λ (q : ListRead). q .places) e }
@@ -50,21 +50,21 @@ list-was body (refused x i) r n e a =
     absurd (let b = ap (λ (q : ListRead). q .answer) e in let z : _≡_ {A = ℕ} 0 1 = cc in omega arith)
 
 -- a body that cannot be read decides
-first-body : (reading second : Reading Tree) (list : Reading (List Label)) (r : TreeRead) (x : Refusal) → r ≡ treeRead S reading
+first-body : (reading second : Reading Tree) (list : Reading (List Token)) (r : TreeRead) (x : Refusal) → r ≡ treeRead S reading
     → r .answer ≡ Trees.Refused x → treeRefusal (r .answer) S ≡ verdictOn reading second list
 unfolding treeRead verdictOn treeRefusal
 first-body (good t) second list r x e a =
     absurd (let b = ap (λ (q : TreeRead). q .answer) e in let z : _≡_ {A = ℕ} 0 1 = cc in omega arith)
 first-body (refused y i) second list r x e a = ap (λ (q : TreeRead). treeRefusal (q .answer) S) e
 
-second-body : (s : Tree) (reading : Reading Tree) (list : Reading (List Label)) (r : TreeRead) (x : Refusal) → r ≡ treeRead T reading
+second-body : (s : Tree) (reading : Reading Tree) (list : Reading (List Token)) (r : TreeRead) (x : Refusal) → r ≡ treeRead T reading
     → r .answer ≡ Trees.Refused x → treeRefusal (r .answer) T ≡ verdictOnSecond s reading list
 unfolding treeRead verdictOnSecond treeRefusal
 second-body s (good t) list r x e a =
     absurd (let b = ap (λ (q : TreeRead). q .answer) e in let z : _≡_ {A = ℕ} 0 1 = cc in omega arith)
 second-body s (refused y i) list r x e a = ap (λ (q : TreeRead). treeRefusal (q .answer) T) e
 
-list-body : (s t : Tree) (reading : Reading (List Label)) (r : ListRead) (x : Refusal) → r ≡ listRead K reading
+list-body : (s t : Tree) (reading : Reading (List Token)) (r : ListRead) (x : Refusal) → r ≡ listRead K reading
     → r .answer ≡ Lists.Refused x → listRefusal (r .answer) ≡ verdictOnList s t reading
 unfolding listRead verdictOnList listRefusal
 list-body s t (good xs) r x e a =
@@ -98,9 +98,9 @@ module _ (first second list : List ℕ) where
       list-refused r x e a = list-body (s .tree) (t .tree) (readList list) r x e a ∙ on-list
 
       module _ (three : ListRead) (k : ListWas (readList list) three) where
-        pub all-read : verdictOf (k .labels) (answer (s .tree) (t .tree) (k .labels)) ≡ verdict first second list
+        pub all-read : verdictOf (k .labels) (answer (decoded (s .tree)) (decoded (t .tree)) (map spelling (k .labels))) ≡ verdict first second list
         unfolding verdictOnList
-        all-read = ap (λ (q : Reading (List Label)). verdictOnList (s .tree) (t .tree) q) (sym (k .read)) ∙ on-list
+        all-read = ap (λ (q : Reading (List Token)). verdictOnList (s .tree) (t .tree) q) (sym (k .read)) ∙ on-list
 
         pub given-read : Given (s .tree) (t .tree) (k .labels) first second list (one .tree) (two .tree) (three .places)
         given-read =
@@ -125,7 +125,7 @@ module _ (first second list : List ℕ) where
         few-read = omega (arith, ap (λ (q : LabelPlaces). q .count) (k .places), given-read .few)
 
 -- where the verdict is that the trees agree, all three bodies were read
-pub agreed-on : (one two : Reading Tree) (three : Reading (List Label)) → verdictOn one two three ≡ Agreed → AllRead one two three
+pub agreed-on : (one two : Reading Tree) (three : Reading (List Token)) → verdictOn one two three ≡ Agreed → AllRead one two three
 unfolding verdictOn verdictOnSecond verdictOnList
 agreed-on (good s) (good t) (good xs) h =
     record { first = s; second = t; labels = xs; read1 = refl; read2 = refl; read3 = refl }

@@ -14,7 +14,7 @@ use Rattle.trees.specs.Postorder.{postorder, subtree}
 use Rattle.trees.proofs.Bools.{clash}
 use Rattle.trees.proofs.LabelLaws.{same-refl, ne-same}
 use Rattle.trees.proofs.ListLaws.{at-in, distinct-head, distinct-tail}
-use Rattle.trees.proofs.ArrayLaws.{few-nodes}
+use Rattle.trees.proofs.ArrayLaws.{nodes-leaves}
 use Rattle.trees.proofs.PostorderLaws.{subtree-in, holds-leaf}
 use Rattle.agreement.specs.Closer.{holds, closer, OneOf}
 use Rattle.agreement.specs.Answer.{differ, clashing}
@@ -70,7 +70,7 @@ two-tell false false false false = refl
 module _ (t : Tree) (xs : List Label) (left : List ℕ) (nodes : ℕ) (leaf : List ℕ) (r : RankedTree t xs left nodes leaf)
     (low : List ℕ) (end : ℕ) (e : end ≡ min nodes 159) (filled : (u : ℕ) → u < end → LowAt left low u) where
   end-is : end ≡ nodesOf t
-  end-is = omega (arith, e, r .size, few-nodes t (r .valid))
+  end-is = omega (arith, e, r .size, nodes-leaves t, r .proper .few)
 
   own-lows : (u : ℕ) → u < nodesOf t → LowAt (arraysOf t .left) low u
   own-lows u h = subst (λ (l : List ℕ). LowAt l low u) (r .children) (filled u (omega (arith, end-is)))
@@ -88,9 +88,9 @@ module _ (t : Tree) (xs : List Label) (left : List ℕ) (nodes : ℕ) (leaf : Li
       let b = r .numbered q (omega arith) in
       let u = getD leaf i 0 in
       let v = getD leaf q 0 in
-      let at = lca-number-at t (r .valid .different) (arraysOf t .left) (arraysOf t .right) low (own-laid t) own-lows
+      let at = lca-number-at t (r .proper .different) (arraysOf t .left) (arraysOf t .right) low (own-laid t) own-lows
       (getD xs i []) (getD xs q []) u v (a .below) (b .below) (a .is) (b .is) in
-      let m : lcaNumber low (nodesOf t) u v % 256 ≡ lcaNumber low (nodesOf t) u v = omega (arith, at .below, few-nodes t (r .valid)) in
+      let m : lcaNumber low (nodesOf t) u v % 256 ≡ lcaNumber low (nodesOf t) u v = omega (arith, at .below, nodes-leaves t, r .proper .few) in
       subst (LcaAt t (getD xs i []) (getD xs q []))
       (sym (f q hq (omega (arith, a .below, end-is)) (omega (arith, b .below, end-is))
       ∙ ap (λ (z : ℕ). lcaNumber low z u v % 256) end-is
@@ -120,9 +120,9 @@ module _ (s t : Tree) (xs : List Label) (d : distinct xs ≡ true) (left1 : List
       let h2 = held t xs left2 nodes2 leaf2 r2 low2 end2 e2 f2 in
       rw (
         third-test (closer s a b c) (closer s a c b) (closer s b c a)
-            (closer-once s a b c (r1 .valid .different) ij ik jk (h1 i hi) (h1 j hj) (h1 k m)),
+            (closer-once s a b c (r1 .proper .different) ij ik jk (h1 i hi) (h1 j hj) (h1 k m)),
         third-test (closer t a b c) (closer t a c b) (closer t b c a)
-            (closer-once t a b c (r2 .valid .different) ij ik jk (h2 i hi) (h2 j hj) (h2 k m)),
+            (closer-once t a b c (r2 .proper .different) ij ik jk (h2 i hi) (h2 j hj) (h2 k m)),
       )
       (two-tell (closer s a b c) (closer s a c b) (closer t a b c) (closer t a c b))
 
@@ -140,9 +140,9 @@ module _ (s t : Tree) (xs : List Label) (d : distinct xs ≡ true) (left1 : List
       let k2 = row-at t xs left2 nodes2 leaf2 r2 low2 end2 e2 f2 n i k row2 len hi m g2 in
       rw (
         two-clash i j k h l (omega arith),
-        closer-number s a b c (getD row1 j 0) (getD row1 k 0) (r1 .valid .different) j1 k1,
-        closer-number s a c b (getD row1 k 0) (getD row1 j 0) (r1 .valid .different) k1 j1,
-        closer-number t a b c (getD row2 j 0) (getD row2 k 0) (r2 .valid .different) j2 k2,
-        closer-number t a c b (getD row2 k 0) (getD row2 j 0) (r2 .valid .different) k2 j2,
+        closer-number s a b c (getD row1 j 0) (getD row1 k 0) (r1 .proper .different) j1 k1,
+        closer-number s a c b (getD row1 k 0) (getD row1 j 0) (r1 .proper .different) k1 j1,
+        closer-number t a b c (getD row2 j 0) (getD row2 k 0) (r2 .proper .different) j2 k2,
+        closer-number t a c b (getD row2 k 0) (getD row2 j 0) (r2 .proper .different) k2 j2,
       )
       refl

@@ -3,16 +3,18 @@ use Prim.Native.Nat.{ℕ}
 use mathlib.Core.Path.{_≡_, refl, sym, _∙_, ap}
 use mathlib.Core.Bool.{true}
 use mathlib.Core.Logic.{_↔_}
-use mathlib.Core.List.{List, [], _∷_}
+use mathlib.Core.List.{List, [], _∷_, map}
 use native.Mathlib.Omega.{arith}
 use Rattle.trees.specs.declared.Reason.{Reason}
 use Rattle.trees.specs.declared.Reason.the-variants.{FirstLacks, SecondLacks}
 use Rattle.trees.specs.declared.Body.the-variants.{S, T, K}
 use Rattle.trees.specs.Refusals.{numberOf}
 use Rattle.trees.specs.Label.{Label, distinct}
-use Rattle.trees.specs.Tree.{Tree, leaves}
+use Rattle.trees.specs.Token.{Token, spelling}
+use Rattle.trees.specs.Tree.{Tree, leaves, decoded}
 use Rattle.trees.specs.Reading.{good, refused}
 use Rattle.newick.specs.ReadTree.{readTree}
+use Rattle.trees.proofs.TokenLaws.{valid-decoded}
 use Rattle.newick.proofs.Accepts.{accepts}
 use Rattle.lists.specs.ReadList.{readList}
 use Rattle.lists.proofs.Accepts.{list-accepts}
@@ -58,60 +60,71 @@ module _ (first second list : List ℕ) (r : Reason) (i : ℕ) where
   unfolding toldBy
   list-row s t e d f = ap toldBy (list-turned-down s t e d f)
 
-module _ (first second list : List ℕ) (s t : Tree) (xs : List Label) (read1 : readTree first ≡ good s)
+module _ (first second list : List ℕ) (s t : Tree) (xs : List Token) (read1 : readTree first ≡ good s)
     (read2 : readTree second ≡ good t) (read3 : readList list ≡ good xs) where
-  on-answer : verdict first second list ≡ verdictOf xs (answer s t xs)
+  -- the trees and the labels that those read stand for
+  abbrev S′ : Tree
+  S′ = decoded s
+
+  abbrev T′ : Tree
+  T′ = decoded t
+
+  abbrev labels : List Label
+  labels = map spelling xs
+
+  on-answer : verdict first second list ≡ verdictOf xs (answer S′ T′ labels)
   unfolding verdict verdictOn verdictOnSecond verdictOnList
   on-answer = rw (read1, read2, read3) refl
 
-  d1 : distinct (leaves s) ≡ true
-  d1 = accepts first s read1 .1 .different
+  d1 : distinct (leaves S′) ≡ true
+  d1 = valid-decoded s (accepts first s read1 .1) .different
 
-  d3 : distinct xs ≡ true
+  d3 : distinct labels ≡ true
   d3 = list-accepts list xs read3 .2
 
   -- "Numbers 6 and 7 go to the first label in list order that either tree lacks."
-  six-told : (n : ℕ) → IsFirstLacks s t xs n
+  six-told : (n : ℕ) → IsFirstLacks S′ T′ labels n
       → verdict first second list ≡ Refused (record { reason = FirstLacks; body = K; place = placeOfNumber xs n })
   unfolding verdictOf
-  six-told n p = on-answer ∙ ap (verdictOf xs) (firstLacks-exactly s t xs d1 d3 n .1 p)
+  six-told n p = on-answer ∙ ap (verdictOf xs) (firstLacks-exactly S′ T′ labels d1 d3 n .1 p)
 
-  seven-told : (n : ℕ) → IsSecondLacks s t xs n
+  seven-told : (n : ℕ) → IsSecondLacks S′ T′ labels n
       → verdict first second list ≡ Refused (record { reason = SecondLacks; body = K; place = placeOfNumber xs n })
   unfolding verdictOf
-  seven-told n p = on-answer ∙ ap (verdictOf xs) (secondLacks-exactly s t xs d1 d3 n .1 p)
+  seven-told n p = on-answer ∙ ap (verdictOf xs) (secondLacks-exactly S′ T′ labels d1 d3 n .1 p)
 
   -- "Number 8 names the first such three, sorted, compared label by label."
-  eight-told : (a b c : Label) → Common s t (setOf xs) → IsDisagreement s t xs a b c
+  eight-told : (a b c : Label) → Common S′ T′ (setOf labels) → IsDisagreement S′ T′ labels a b c
       → verdict first second list ≡ Disagree (placeOfLabel xs 0 a) (placeOfLabel xs 0 b) (placeOfLabel xs 0 c)
   unfolding verdictOf
-  eight-told a b c h p = on-answer ∙ ap (verdictOf xs) (disagree-exactly s t xs d1 d3 a b c h .1 p)
+  eight-told a b c h p = on-answer ∙ ap (verdictOf xs) (disagree-exactly S′ T′ labels d1 d3 a b c h .1 p)
 
   -- "Trees agree on a set of leaves common to both exactly if each three of the set have the same closer pair in both"
-  pub agreed-told : (verdict first second list ≡ Agreed) ↔ (Common s t (setOf xs) × Agree s t (setOf xs))
+  pub agreed-told : (verdict first second list ≡ Agreed) ↔ (Common S′ T′ (setOf labels) × Agree S′ T′ (setOf labels))
   unfolding verdictOf
-  agreed-told = (λ e. there (answer s t xs) refl (sym on-answer ∙ e), λ h. on-answer ∙ ap (verdictOf xs) (back h))
+  agreed-told = (λ e. there (answer S′ T′ labels) refl (sym on-answer ∙ e), λ h. on-answer ∙ ap (verdictOf xs) (back h))
     where
-      back : Common s t (setOf xs) × Agree s t (setOf xs) → answer s t xs ≡ largest (largestSet s t xs)
-      back (c, a) = set-answered s t xs d1 d3 c (agree-no-clash s t (setOf xs) xs a (λ x m. m))
+      back : Common S′ T′ (setOf labels) × Agree S′ T′ (setOf labels) → answer S′ T′ labels ≡ largest (largestSet S′ T′ labels)
+      back (c, a) = set-answered S′ T′ labels d1 d3 c (agree-no-clash S′ T′ (setOf labels) labels a (λ x m. m))
 
-      there : (A : Answer) → answer s t xs ≡ A → verdictOf xs (answer s t xs) ≡ Agreed → Common s t (setOf xs) × Agree s t (setOf xs)
+      there : (A : Answer) → answer S′ T′ labels ≡ A → verdictOf xs (answer S′ T′ labels) ≡ Agreed
+          → Common S′ T′ (setOf labels) × Agree S′ T′ (setOf labels)
       there (firstLacks n) e h = absurd (let d = ap (verdictOf xs) e in let z : _≡_ {A = ℕ} 0 1 = cc in omega arith)
       there (secondLacks n) e h = absurd (let d = ap (verdictOf xs) e in let z : _≡_ {A = ℕ} 0 1 = cc in omega arith)
       there (disagree a b c) e h = absurd (let d = ap (verdictOf xs) e in let z : _≡_ {A = ℕ} 0 1 = cc in omega arith)
       there (largest X) e h =
-          let p = largest-exactly s t xs d1 d3 X .0 e .allowedSet in
-          (allowed-held s t xs X p, λ a b c i j k. p .agreed a b c (p .required a i) (p .required b j) (p .required c k))
+          let p = largest-exactly S′ T′ labels d1 d3 X .0 e .allowedSet in
+          (allowed-held S′ T′ labels X p, λ a b c i j k. p .agreed a b c (p .required a i) (p .required b j) (p .required c k))
 
-  pub six-row : (n : ℕ) → IsFirstLacks s t xs n → toldBy (verdict first second list) ≡ row 6 75 (placeOfNumber xs n) []
+  pub six-row : (n : ℕ) → IsFirstLacks S′ T′ labels n → toldBy (verdict first second list) ≡ row 6 75 (placeOfNumber xs n) []
   unfolding toldBy
   six-row n p = ap toldBy (six-told n p)
 
-  pub seven-row : (n : ℕ) → IsSecondLacks s t xs n → toldBy (verdict first second list) ≡ row 7 75 (placeOfNumber xs n) []
+  pub seven-row : (n : ℕ) → IsSecondLacks S′ T′ labels n → toldBy (verdict first second list) ≡ row 7 75 (placeOfNumber xs n) []
   unfolding toldBy
   seven-row n p = ap toldBy (seven-told n p)
 
-  pub eight-row : (a b c : Label) → Common s t (setOf xs) → IsDisagreement s t xs a b c
+  pub eight-row : (a b c : Label) → Common S′ T′ (setOf labels) → IsDisagreement S′ T′ labels a b c
       → toldBy (verdict first second list)
       ≡ row 8 75 0 (placeOfLabel xs 0 a ∷ placeOfLabel xs 0 b ∷ placeOfLabel xs 0 c ∷ [])
   unfolding toldBy

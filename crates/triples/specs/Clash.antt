@@ -7,7 +7,7 @@ use mathlib.Core.List.{List, [], _∷_}
 use mathlib.Core.Option.{Option, some, none}
 use lib.ListN.{length}
 use Rattle.trees.specs.Label.{Label, sameLabel}
-use Rattle.trees.specs.Tree.{Tree, Valid}
+use Rattle.trees.specs.Tree.{Tree, Proper}
 use Rattle.trees.specs.Arrays.{arraysOf, nodesOf}
 use Rattle.agreement.specs.Answer as Answer
 use Rattle.leaves.specs.Numbered.{Numbered}
@@ -26,7 +26,7 @@ clashRanks xs (some c) = record { first = rankOf xs (c .one); second = rankOf xs
 
 -- a tree by its left children, with the leaves that have the list's labels
 pub record RankedTree (t : Tree) (xs : List Label) (left : List ℕ) (nodes : ℕ) (leaf : List ℕ) : Type 0 where
-  pub valid : Valid t
+  pub proper : Proper t
   pub children : left ≡ arraysOf t .left
   pub size : nodes ≡ nodesOf t
   pub numbered : Numbered t xs leaf

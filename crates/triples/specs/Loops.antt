@@ -2,7 +2,7 @@
 use Prim.Native.Nat.{ℕ, zero, suc, _+_, _-_, _%_, _≤_, _<_, min, max}
 use mathlib.Core.Path.{_≡_}
 use mathlib.Core.Bool.{Bool, true, cond, _||_}
-use mathlib.Core.List.{List, []}
+use mathlib.Core.List.{List, [], map}
 use lib.Dec.{ltb, leb}
 use lib.ListN.{length, getD}
 use Rattle.trees.specs.declared.Reason.the-variants.{EndsTooSoon, FirstLacks, SecondLacks}
@@ -10,6 +10,7 @@ use Rattle.trees.specs.declared.Body.{Body}
 use Rattle.trees.specs.declared.Body.the-variants.{K}
 use Rattle.trees.specs.declared.TreeArrays.{TreeArrays}
 use Rattle.trees.specs.Label.{Label, labelLess, distinct}
+use Rattle.trees.specs.Token.{Token, spelling}
 use Rattle.trees.specs.Tree.{Tree, Valid}
 use Rattle.trees.specs.Text.{textOf}
 use Rattle.trees.specs.Arrays.{arraysOf}
@@ -26,9 +27,9 @@ use Rattle.triples.specs.declared.Agreement.{Agreement}
 use Rattle.triples.specs.declared.Three.{Three}
 use Rattle.triples.specs.declared.Agreement.the-variants.{Agreed, Disagree, Refused}
 
--- label k of a list's text
+-- the label that token k of a list's text stands for
 unfoldable pub labelIn : List ℕ → List ℕ → List ℕ → ℕ → Label
-labelIn text start size k = partOf (getD start k 0) (getD size k 0) text
+labelIn text start size k = spelling (partOf (getD start k 0) (getD size k 0) text)
 
 -- how many of the first n labels come before x in label order
 unfoldable pub lessCount : (ℕ → Label) → Label → ℕ → ℕ
@@ -130,8 +131,8 @@ unfolding unreadBody
 listRefusal (Lists.Labels n) = unreadBody K
 listRefusal (Lists.Refused r) = Refused r
 
--- two trees and a list as the readers hand them over
-pub record Given (s t : Tree) (xs : List Label) (first second list : List ℕ) (one two : TreeArrays) (places : LabelPlaces) : Type 0 where
+-- two trees and a list of tokens as the readers hand them over
+pub record Given (s t : Tree) (xs : List Token) (first second list : List ℕ) (one two : TreeArrays) (places : LabelPlaces) : Type 0 where
   pub valid1 : Valid s
   pub valid2 : Valid t
   pub text1 : first ≡ textOf s
@@ -140,5 +141,5 @@ pub record Given (s t : Tree) (xs : List Label) (first second list : List ℕ) (
   pub tree2 : two ≡ arraysOf t
   pub listed : list ≡ joined xs
   pub placed : places ≡ placesOf xs
-  pub different : distinct xs ≡ true
+  pub different : distinct (map spelling xs) ≡ true
   pub few : length xs ≤ listLimit

@@ -10,11 +10,12 @@ use trees::Refusal;
 use trees::TreeArrays;
 ghost use mathlib.Core.Path.{_≡_};
 ghost use mathlib.Core.Bool.{true, cond};
-ghost use mathlib.Core.List.{List};
+ghost use mathlib.Core.List.{List, map};
 ghost use Prim.Native.Nat.{ℕ, _<_, _≤_, min};
 ghost use lib.ListN.{length, getD};
 ghost use Rattle.trees.specs.Label.{Label, labelLess};
-ghost use Rattle.trees.specs.Tree.{Tree};
+ghost use Rattle.trees.specs.Token.{Token, spelling};
+ghost use Rattle.trees.specs.Tree.{Tree, decoded};
 ghost use Rattle.agreement.specs.Sets.{increasing};
 ghost use Rattle.agreement.specs.Answer.{answer, firstClash};
 ghost use Rattle.triples.specs.Verdict.{verdict, verdictOf};
@@ -113,8 +114,8 @@ fn leaf_numbers(text: &[u8], tree: TreeArrays, list: &[u8], places: LabelPlaces)
     while k < count {
         let from = list_start[k];
         let bytes = list_size[k];
-        let label = trees::part(list, from, bytes);
-        let u = leaves::find_leaf(text, &left, &start, &size, nodes, label);
+        let token = trees::part(list, from, bytes);
+        let u = leaves::find_leaf(text, &left, &start, &size, nodes, token);
         leaf[k] = u;
         k += 1;
     }
@@ -244,9 +245,9 @@ fn compared(
     places: LabelPlaces,
 ) -> Agreement
     requires { ⌜ places .count ≤ 80 ⌝ }
-    ensures { λ r. ⌜ ((s t : Tree) (xs : List Label)
+    ensures { λ r. ⌜ ((s t : Tree) (xs : List Token)
         → Given s t xs (now (first .entry)) (now (second .entry)) (now (list .entry)) one two places
-        → r ≡ verdictOf xs (answer s t xs)) ⌝ }
+        → r ≡ verdictOf xs (answer (decoded s) (decoded t) (map spelling xs))) ⌝ }
 {
     let count = places.count;
     let start = places.start;

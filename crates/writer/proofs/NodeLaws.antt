@@ -1,17 +1,19 @@
--- Nodes of good arrays: the tree below a node is made of those below its children. Assumes nothing.
+-- Nodes of good arrays: the decoded tree below a node is made of those below its children. Assumes nothing.
 use Prim.Native.Nat.{ℕ, zero, suc, _<_}
 use mathlib.Core.Path.{_≡_, _∙_, ap, ap₂}
-use mathlib.Core.Bool.{Bool, true, false, cond}
+use mathlib.Core.Bool.{true, false, cond}
 use mathlib.Core.Logic.{_⊎_, inl, inr}
 use mathlib.Core.List.{List}
 use native.Mathlib.Nat.{not-suc-le-zero, lt-suc-self}
 use native.Mathlib.Omega.{arith}
 use lib.ListN.{getD}
 use Rattle.trees.specs.declared.TreeArrays.{TreeArrays}
-use Rattle.trees.specs.Tree.{Tree, leaf, node}
+use Rattle.trees.specs.Token.{spelling}
+use Rattle.trees.specs.Tree.{Tree, leaf, node, decoded}
 use Rattle.trees.specs.Arrays.{isLeaf, labelAt, goodNodes, treeAt}
 use Rattle.trees.proofs.Bools.{bool-cases}
-use Rattle.trees.proofs.ArrayLaws.{good-at, children-below}
+use Rattle.trees.proofs.ArrayLaws.{good-at, children-below, treeAt-leaf, treeAt-node}
+use Rattle.trees.proofs.DecodedLaws.{decoded-leaf, decoded-node}
 use Rattle.writer.specs.Passes.{below}
 
 -- induction over node numbers
@@ -44,15 +46,17 @@ module _ (a : TreeArrays) (text : List ℕ) (n : ℕ) (g : goodNodes a text n �
 
   pub below-node : (u : ℕ) → u < n → isLeaf a u ≡ false
       → below a text u ≡ node (below a text (getD (a .left) u 0)) (below a text (getD (a .right) u 0))
-  unfolding below treeAt
+  unfolding below
   below-node u h e =
-      let l : getD (a .left) u 0 < u = children-below a text u (good-at a text n g u h) e .left-below in
-      let r : getD (a .right) u 0 < u = children-below a text u (good-at a text n g u h) e .right-below in
-      ap (λ (b : Bool). cond b (leaf (labelAt a text u)) (node (treeAt u a text (getD (a .left) u 0)) (treeAt u a text (getD (a .right) u 0)))) e
-      ∙ ap₂ node
-      (any-room (getD (a .left) u 0) (omega arith) u (suc (getD (a .left) u 0)) l (lt-suc-self (getD (a .left) u 0)))
-      (any-room (getD (a .right) u 0) (omega arith) u (suc (getD (a .right) u 0)) r (lt-suc-self (getD (a .right) u 0)))
+      let x : ℕ = getD (a .left) u 0 in
+      let y : ℕ = getD (a .right) u 0 in
+      let l : x < u = children-below a text u (good-at a text n g u h) e .left-below in
+      let r : y < u = children-below a text u (good-at a text n g u h) e .right-below in
+      ap decoded (treeAt-node u a text u e)
+      ∙ decoded-node (treeAt u a text x) (treeAt u a text y)
+      ∙ ap₂ (λ (v w : Tree). node (decoded v) (decoded w)) (any-room x (omega arith) u (suc x) l (lt-suc-self x))
+      (any-room y (omega arith) u (suc y) r (lt-suc-self y))
 
-pub below-leaf : (a : TreeArrays) (text : List ℕ) (u : ℕ) → isLeaf a u ≡ true → below a text u ≡ leaf (labelAt a text u)
-unfolding below treeAt
-below-leaf a text u e = rw e
+pub below-leaf : (a : TreeArrays) (text : List ℕ) (u : ℕ) → isLeaf a u ≡ true → below a text u ≡ leaf (spelling (labelAt a text u))
+unfolding below
+below-leaf a text u e = ap decoded (treeAt-leaf u a text u e) ∙ decoded-leaf (labelAt a text u)

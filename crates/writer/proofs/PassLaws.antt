@@ -8,18 +8,20 @@ use mathlib.Core.List.{List, [], _∷_, _++_}
 use native.Mathlib.Nat.{le-of-suc-le-suc, not-suc-le-zero, eq-or-lt-of-le}
 use native.Mathlib.Numerals.{add-one}
 use native.Mathlib.Omega.{arith}
-use borrow.Author.Tests.{ne-eqb, le-leb}
-use lib.ListN.{length, getD, set, replicate, length-append, length-set, length-take, length-drop, getD-replicate}
+use borrow.Author.Tests.{ne-eqb}
+use lib.ListN.{length, getD, set, replicate, length-append, length-set, getD-replicate}
 use lib.Seq.{getD-set-same, getD-set-other}
 use Rattle.trees.specs.declared.TreeArrays.{TreeArrays}
 use Rattle.trees.specs.Label.{Label, labelLess}
-use Rattle.trees.specs.Tree.{Tree, leaf, node, leaves, smallest, normal}
+use Rattle.trees.specs.Token.{spelling, tokenOf, tokenLimit}
+use Rattle.trees.specs.Tree.{Tree, leaf, node, leaves, relabel, smallest, normal}
 use Rattle.trees.specs.Text.{written}
 use Rattle.trees.specs.Arrays.{isLeaf, labelAt, goodNodes}
-use Rattle.trees.specs.Stored.{partOf, leafLabel}
 use Rattle.trees.proofs.Bools.{bool-cases}
-use Rattle.trees.proofs.ArrayLaws.{good-at, label-inside, children-below}
-use Rattle.writer.specs.Passes.{pass, sumAt, goesFirst, leastAt, below, nodeText, Leasts}
+use Rattle.trees.proofs.ArrayLaws.{good-at, label-inside, children-below, shown-label}
+use Rattle.trees.proofs.StoredLaws.{stored-back, shown-back}
+use Rattle.trees.proofs.TokenLaws.{token-short}
+use Rattle.writer.specs.Passes.{pass, leafSpelling, leafToken, weightAt, weightCap, sumAt, goesFirst, leastAt, below, shownText, nodeText, Leasts}
 use Rattle.writer.proofs.NodeLaws.{by-number, below-leaf, below-node}
 
 abbrev in-order : Bool → Tree → Tree → Tree
@@ -62,7 +64,7 @@ pass-holds P f t (suc n) l step u h =
 module _ (a : TreeArrays) (text : List ℕ) (n : ℕ) (g : goodNodes a text n ≡ true) where
   -- a measure of trees that adds up at nodes is found by a pass of sums, at most the cap
   pub sums-found : (f : Tree → ℕ) (w : List ℕ) (plus cap : ℕ)
-      → ((u : ℕ) → u < n → isLeaf a u ≡ true → f (leaf (labelAt a text u)) ≡ getD w u 0 + plus)
+      → ((u : ℕ) → u < n → isLeaf a u ≡ true → f (leaf (spelling (labelAt a text u))) ≡ getD w u 0 + plus)
       → ((x y : Tree) → f (node x y) ≡ f x + f y)
       → (t : List ℕ) → n ≤ length t
       → (u : ℕ) → u < n → getD (pass (sumAt (a .left) (a .right) w plus cap) t n) u 0 ≡ min cap (f (below a text u))
@@ -84,16 +86,20 @@ module _ (a : TreeArrays) (text : List ℕ) (n : ℕ) (g : goodNodes a text n �
           ap f (below-node a text n g u h e) ∙ at-node (below a text x) (below a text y) in
           rw e (omega arith)
 
-  label-length : (u : ℕ) → u < n → isLeaf a u ≡ true → length (labelAt a text u) ≡ getD (a .size) u 0
-  unfolding labelAt
-  label-length u h e =
-      simp (length-take, length-drop) (omega (arith, label-inside a text u (good-at a text n g u h) e .inside))
+  -- a leaf's label lies in the text, and what the leaf writes is the label's written form
+  pub label-part : (u : ℕ) → u < n → isLeaf a u ≡ true → leafSpelling text (a .start) (a .size) u ≡ spelling (labelAt a text u)
+  label-part u h e = ap spelling (shown-label a text u (good-at a text n g u h) e)
 
-  -- a leaf's label lies in the text
-  pub label-part : (u : ℕ) → u < n → isLeaf a u ≡ true → leafLabel text (a .start) (a .size) u ≡ labelAt a text u
-  unfolding partOf labelAt
-  label-part u h e =
-      rw (le-leb (getD (a .start) u 0 + getD (a .size) u 0) (length text) (label-inside a text u (good-at a text n g u h) e .inside)) refl
+  pub label-token : (u : ℕ) → u < n → isLeaf a u ≡ true → leafToken text (a .start) (a .size) u ≡ tokenOf (spelling (labelAt a text u))
+  unfolding leafToken
+  label-token u h e =
+      let short = label-inside a text u (good-at a text n g u h) e .short in
+      rw (label-part u h e, stored-back (spelling (labelAt a text u)) short) (shown-back (spelling (labelAt a text u)) short)
+
+  label-weight : (u : ℕ) → u < n → isLeaf a u ≡ true
+      → length (tokenOf (spelling (labelAt a text u))) ≡ weightAt text (a .left) (a .start) (a .size) u
+  unfolding weightAt isLeaf
+  label-weight u h e = rw e (ap length (sym (label-token u h e)))
 
   pub leaves-found : (t : List ℕ) → n ≤ length t → n ≤ 159
       → (u : ℕ) → u < n
@@ -104,24 +110,35 @@ module _ (a : TreeArrays) (text : List ℕ) (n : ℕ) (g : goodNodes a text n �
       (λ u h e. ap (λ (k : ℕ). k + 1) (sym (getD-replicate 159 u 0 0 (omega arith))))
       (λ x y. length-append (leaves x) (leaves y)) t l
 
-  pub lengths-found : (t : List ℕ) → n ≤ length t
+  -- w tells how many bytes each leaf writes
+  pub lengths-found : (w : List ℕ) → ((u : ℕ) → u < n → getD w u 0 ≡ weightAt text (a .left) (a .start) (a .size) u)
+      → (t : List ℕ) → n ≤ length t
       → (u : ℕ) → u < n
-      → getD (pass (sumAt (a .left) (a .right) (a .size) 3 1521) t n) u 0 ≡ min 1521 (length (written (below a text u)) + 3)
-  unfolding written
-  lengths-found t l =
-      sums-found (λ x. length (written x) + 3) (a .size) 3 1521 (λ u h e. ap (λ (k : ℕ). k + 3) (label-length u h e))
-      (λ x y. omega (arith, pair-length (written x) (written y))) t l
+      → getD (pass (sumAt (a .left) (a .right) w 3 weightCap) t n) u 0
+      ≡ min weightCap (length (shownText (below a text u)) + 3)
+  unfolding written relabel
+  lengths-found w weights t l =
+      sums-found (λ x. length (shownText x) + 3) w 3 weightCap
+      (λ u h e. ap (λ (k : ℕ). k + 3) (label-weight u h e ∙ sym (weights u h)))
+      (λ x y. omega (arith, pair-length (shownText x) (shownText y))) t l
 
-  -- at most 16 bytes a leaf, and at most three more
-  pub written-bound : (u : ℕ) → u < n → length (written (below a text u)) + 3 ≤ 19 * length (leaves (below a text u))
-  unfolding written leaves
-  written-bound = by-number (λ u. u < n → length (written (below a text u)) + 3 ≤ 19 * length (leaves (below a text u)))
+  -- no leaf writes more than the limit, and at most three bytes more
+  pub written-bound : (u : ℕ) → u < n
+      → length (shownText (below a text u)) + 3 ≤ (tokenLimit + 3) * length (leaves (below a text u))
+  unfolding written relabel leaves
+  written-bound =
+      by-number
+      (λ u. u < n → length (shownText (below a text u)) + 3 ≤ (tokenLimit + 3) * length (leaves (below a text u)))
       (λ u all h. go u all h (bool-cases (isLeaf a u)))
     where
-      go : (u : ℕ) → ((k : ℕ) → k < u → k < n → length (written (below a text k)) + 3 ≤ 19 * length (leaves (below a text k)))
+      go : (u : ℕ)
+          → ((k : ℕ) → k < u → k < n
+          → length (shownText (below a text k)) + 3 ≤ (tokenLimit + 3) * length (leaves (below a text k)))
           → u < n → (isLeaf a u ≡ true) ⊎ (isLeaf a u ≡ false)
-          → length (written (below a text u)) + 3 ≤ 19 * length (leaves (below a text u))
-      go u all h (inl e) = rw (below-leaf a text u e) (omega (arith, label-length u h e, label-inside a text u (good-at a text n g u h) e .short))
+          → length (shownText (below a text u)) + 3 ≤ (tokenLimit + 3) * length (leaves (below a text u))
+      go u all h (inl e) =
+          rw (below-leaf a text u e)
+          (omega (arith, token-short (spelling (labelAt a text u)) (label-inside a text u (good-at a text n g u h) e .short)))
       go u all h (inr e) =
           let x : Tree = below a text (getD (a .left) u 0) in
           let y : Tree = below a text (getD (a .right) u 0) in
@@ -133,34 +150,34 @@ module _ (a : TreeArrays) (text : List ℕ) (n : ℕ) (g : goodNodes a text n �
             all (getD (a .left) u 0) l (omega arith),
             all (getD (a .right) u 0) r (omega arith),
             length-append (leaves x) (leaves y),
-            pair-length (written x) (written y),
+            pair-length (shownText x) (shownText y),
           ))
 
   pub leasts-found : (t : List ℕ) → n ≤ length t → Leasts a text (pass (leastAt text (a .left) (a .right) (a .start) (a .size)) t n) n
   unfolding leastAt isLeaf smallest goesFirst
   leasts-found t l =
-      pass-holds (λ u v. leafLabel text (a .start) (a .size) v ≡ smallest (below a text u))
+      pass-holds (λ u v. leafSpelling text (a .start) (a .size) v ≡ smallest (below a text u))
       (leastAt text (a .left) (a .right) (a .start) (a .size)) t n l
       (λ s u h all. go s u h all (bool-cases (isLeaf a u)))
     where
-      pair : (i j : ℕ) (x y : Label) (b : Bool) → leafLabel text (a .start) (a .size) i ≡ x → leafLabel text (a .start) (a .size) j ≡ y
-          → leafLabel text (a .start) (a .size) (cond b i j) ≡ cond b x y
+      pair : (i j : ℕ) (x y : Label) (b : Bool) → leafSpelling text (a .start) (a .size) i ≡ x → leafSpelling text (a .start) (a .size) j ≡ y
+          → leafSpelling text (a .start) (a .size) (cond b i j) ≡ cond b x y
       pair i j x y true p q = p
       pair i j x y false p q = q
 
-      go : (s : List ℕ) (u : ℕ) → u < n → ((k : ℕ) → k < u → leafLabel text (a .start) (a .size) (getD s k 0) ≡ smallest (below a text k))
+      go : (s : List ℕ) (u : ℕ) → u < n → ((k : ℕ) → k < u → leafSpelling text (a .start) (a .size) (getD s k 0) ≡ smallest (below a text k))
           → (isLeaf a u ≡ true) ⊎ (isLeaf a u ≡ false)
-          → leafLabel text (a .start) (a .size) (leastAt text (a .left) (a .right) (a .start) (a .size) s u) ≡ smallest (below a text u)
+          → leafSpelling text (a .start) (a .size) (leastAt text (a .left) (a .right) (a .start) (a .size) s u) ≡ smallest (below a text u)
       go s u h all (inl e) = rw (e, below-leaf a text u e) (label-part u h e)
       go s u h all (inr e) =
           let x : ℕ = getD (a .left) u 0 in
           let y : ℕ = getD (a .right) u 0 in
-          let p : leafLabel text (a .start) (a .size) (getD s x 0) ≡ smallest (below a text x) =
+          let p : leafSpelling text (a .start) (a .size) (getD s x 0) ≡ smallest (below a text x) =
           all x (children-below a text u (good-at a text n g u h) e .left-below) in
-          let q : leafLabel text (a .start) (a .size) (getD s y 0) ≡ smallest (below a text y) =
+          let q : leafSpelling text (a .start) (a .size) (getD s y 0) ≡ smallest (below a text y) =
           all y (children-below a text u (good-at a text n g u h) e .right-below) in
-          let b : Bool = labelLess (leafLabel text (a .start) (a .size) (getD s x 0)) (leafLabel text (a .start) (a .size) (getD s y 0)) in
-          ap (λ (d : Bool). leafLabel text (a .start) (a .size) (cond d u (cond b (getD s x 0) (getD s y 0)))) e
+          let b : Bool = labelLess (leafSpelling text (a .start) (a .size) (getD s x 0)) (leafSpelling text (a .start) (a .size) (getD s y 0)) in
+          ap (λ (d : Bool). leafSpelling text (a .start) (a .size) (cond d u (cond b (getD s x 0) (getD s y 0)))) e
           ∙ pair (getD s x 0) (getD s y 0) (smallest (below a text x)) (smallest (below a text y)) b p q
           ∙ ap (λ (d : Bool). cond d (smallest (below a text x)) (smallest (below a text y))) (ap₂ labelLess p q)
           ∙ sym (ap smallest (below-node a text n g u h e))
@@ -171,39 +188,40 @@ module _ (a : TreeArrays) (text : List ℕ) (n : ℕ) (g : goodNodes a text n �
       → nodeText a text u
       ≡ 40 ∷ (nodeText a text (cond b (getD (a .left) u 0) (getD (a .right) u 0))
       ++ (44 ∷ (nodeText a text (cond b (getD (a .right) u 0) (getD (a .left) u 0)) ++ (41 ∷ []))))
-  unfolding nodeText normal written goesFirst
+  unfolding nodeText normal relabel written goesFirst
   node-written t least u h e b d =
       let x : ℕ = getD (a .left) u 0 in
       let y : ℕ = getD (a .right) u 0 in
-      let p : leafLabel text (a .start) (a .size) (getD t x 0) ≡ smallest (below a text x) =
+      let p : leafSpelling text (a .start) (a .size) (getD t x 0) ≡ smallest (below a text x) =
       least x (omega (arith, children-below a text u (good-at a text n g u h) e .left-below)) in
-      let q : leafLabel text (a .start) (a .size) (getD t y 0) ≡ smallest (below a text y) =
+      let q : leafSpelling text (a .start) (a .size) (getD t y 0) ≡ smallest (below a text y) =
       least y (omega (arith, children-below a text u (good-at a text n g u h) e .right-below)) in
-      ap (λ (s : Tree). written (normal s)) (below-node a text n g u h e)
-      ∙ ap (λ (c : Bool). written (in-order c (normal (below a text x)) (normal (below a text y))))
+      ap (λ (s : Tree). shownText (normal s)) (below-node a text n g u h e)
+      ∙ ap (λ (c : Bool). shownText (in-order c (normal (below a text x)) (normal (below a text y))))
       (sym (d ∙ ap₂ labelLess p q))
       ∙ go x y b
     where
       go : (x y : ℕ) (c : Bool)
-          → written (in-order c (normal (below a text x)) (normal (below a text y)))
-          ≡ 40 ∷ (written (normal (below a text (cond c x y))) ++ (44 ∷ (written (normal (below a text (cond c y x))) ++ (41 ∷ []))))
+          → shownText (in-order c (normal (below a text x)) (normal (below a text y)))
+          ≡ 40 ∷ (shownText (normal (below a text (cond c x y)))
+          ++ (44 ∷ (shownText (normal (below a text (cond c y x))) ++ (41 ∷ []))))
       go x y true = refl
       go x y false = refl
 
-pub leaf-written : (a : TreeArrays) (text : List ℕ) (u : ℕ) → isLeaf a u ≡ true → nodeText a text u ≡ labelAt a text u
-unfolding nodeText normal written
+pub leaf-written : (a : TreeArrays) (text : List ℕ) (u : ℕ) → isLeaf a u ≡ true → nodeText a text u ≡ tokenOf (spelling (labelAt a text u))
+unfolding nodeText normal relabel written
 leaf-written a text u e = rw (below-leaf a text u e)
 
 -- the order of the children does not change the length
-pub normal-length : (t : Tree) → length (written (normal t)) ≡ length (written t)
-unfolding normal written
+pub normal-length : (t : Tree) → length (shownText (normal t)) ≡ length (shownText t)
+unfolding normal relabel written
 normal-length (leaf x) = refl
 normal-length (node x y) = go (labelLess (smallest x) (smallest y)) (normal-length x) (normal-length y)
   where
-    go : (b : Bool) → length (written (normal x)) ≡ length (written x) → length (written (normal y)) ≡ length (written y)
-        → length (written (in-order b (normal x) (normal y))) ≡ length (written (node x y))
-    go true p q = omega (arith, pair-length (written (normal x)) (written (normal y)), pair-length (written x) (written y))
-    go false p q = omega (arith, pair-length (written (normal y)) (written (normal x)), pair-length (written x) (written y))
+    go : (b : Bool) → length (shownText (normal x)) ≡ length (shownText x) → length (shownText (normal y)) ≡ length (shownText y)
+        → length (shownText (in-order b (normal x) (normal y))) ≡ length (shownText (node x y))
+    go true p q = omega (arith, pair-length (shownText (normal x)) (shownText (normal y)), pair-length (shownText x) (shownText y))
+    go false p q = omega (arith, pair-length (shownText (normal y)) (shownText (normal x)), pair-length (shownText x) (shownText y))
 
 -- an inner node with its children in the order of writing
 pub record Pair (a : TreeArrays) (text : List ℕ) (u f s : ℕ) : Type 0 where

@@ -10,15 +10,15 @@ use lib.ListN.{length, getD, set, replicate, length-append, length-set, length-r
 use lib.Seq.{sets, getD-set-same, getD-set-other}
 use borrow.Author.Tests.{eq-eqb, ne-eqb, eqb-true, eqb-false, lt-ltb, le-ltb, ltb-true}
 use Rattle.trees.specs.declared.TreeArrays.{TreeArrays}
+use Rattle.trees.specs.Token.{spelling}
 use Rattle.trees.specs.Tree.{Tree, leaf, leaves}
 use Rattle.trees.specs.Arrays.{goodNodes, isLeaf, labelAt}
-use Rattle.trees.specs.Stored.{leafLabel}
 use Rattle.trees.proofs.TreeLaws.{leaves-node, leaves-some}
 use Rattle.trees.proofs.Bools.{bool-cases}
-use Rattle.writer.specs.Passes.{goesFirst, firstAt, below, nodeText, Leasts, Child, own, pair, otherOf, Children}
+use Rattle.writer.specs.Passes.{leafToken, goesFirst, firstAt, below, nodeText, Leasts, Child, own, pair, otherOf, Children}
 use Rattle.writer.specs.Passes.{markOf, thingText, ownText, goesOn, depthAfter, stackAfter, stackText, thingSteps, stackSteps}
 use Rattle.writer.proofs.NodeLaws.{below-leaf, below-node}
-use Rattle.writer.proofs.PassLaws.{pair-of, leaf-written, label-part}
+use Rattle.writer.proofs.PassLaws.{pair-of, leaf-written, label-token}
 use Rattle.writer.proofs.WriteLaws.{sets-append}
 
 -- the child that goes first; v is what the code answers
@@ -61,7 +61,7 @@ module _ (a : TreeArrays) (text : List ℕ) (n : ℕ) (g : goodNodes a text n �
       r = getD (a .right) u 0
 
       go : (isLeaf a u ≡ true) ⊎ (isLeaf a u ≡ false) → Child a text u (getD first u 0) (otherOf (a .left) (a .right) (getD first u 0) u)
-      go (inl e) = own (found u h ∙ rw e refl) e (leaf-written a text u e ∙ sym (label-part a text n g u h e))
+      go (inl e) = own (found u h ∙ rw e refl) e (leaf-written a text u e ∙ sym (label-token a text n g u h e))
       go (inr e) =
           let b = goesFirst text (a .start) (a .size) t l r in
           let ef : getD first u 0 ≡ cond b l r = found u h ∙ rw e refl in
@@ -232,12 +232,12 @@ module _ (a : TreeArrays) (text first : List ℕ) (n : ℕ) (children : Children
   unfolding ownText stackAfter depthAfter goesOn thingText thingSteps
   step-mark e = record { writes = rw e refl; counts = rw e (omega arith); things = rw e all; long = rw e refl }
 
-  step-leaf : ltb k 159 ≡ true → getD first k 0 ≡ k → isLeaf a k ≡ true → nodeText a text k ≡ leafLabel text (a .start) (a .size) k
+  step-leaf : ltb k 159 ≡ true → getD first k 0 ≡ k → isLeaf a k ≡ true → nodeText a text k ≡ leafToken text (a .start) (a .size) k
       → Step a text first n stack d k
   unfolding ownText stackAfter depthAfter goesOn thingText thingSteps
   step-leaf e f l made =
       let own-leaf = eq-eqb (getD first k 0) k f in
-      let one : length (leaves (below a text k)) ≡ 1 = ap (λ (t : Tree). length (leaves t)) (below-leaf a text k l) ∙ leaf-one (labelAt a text k) in
+      let one : length (leaves (below a text k)) ≡ 1 = ap (λ (t : Tree). length (leaves t)) (below-leaf a text k l) ∙ leaf-one (spelling (labelAt a text k)) in
       record {
         writes = rw (e, own-leaf) (ap (λ (x : List ℕ). x ++ stackText a text stack d) made);
         counts = rw (e, own-leaf) (omega (arith, one));
@@ -305,7 +305,7 @@ module _ (text s z first : List ℕ) (k : ℕ) where
   unfolding ownText
   own-mark h = rw (le-ltb k 159 h) refl
 
-  pub own-label : k < 159 → getD first k 0 ≡ k → ownText text s z first k ≡ leafLabel text s z k
+  pub own-label : k < 159 → getD first k 0 ≡ k → ownText text s z first k ≡ leafToken text s z k
   unfolding ownText
   own-label h e = rw (lt-ltb k 159 h, eq-eqb (getD first k 0) k e) refl
 

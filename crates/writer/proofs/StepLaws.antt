@@ -1,48 +1,43 @@
 -- One test of a node, one entry of a pass: a step of the code against its definition. Assumes nothing.
 use Prim.Native.Nat.{ℕ, _+_, _-_, _≤_, _<_, min}
-use mathlib.Core.Path.{_≡_, sym, _∙_, ap, ap₂}
+use mathlib.Core.Path.{_≡_, refl, sym, _∙_, ap, ap₂}
 use mathlib.Core.Bool.{Bool, true, false, cond}
 use mathlib.Core.Logic.{_⊎_, inl, inr}
-use mathlib.Core.List.{List}
+use mathlib.Core.List.{List, _++_}
 use native.Mathlib.Numerals.{add-one}
 use native.Mathlib.Omega.{arith}
 use lib.Dec.{ltb, leb}
-use lib.ListN.{length, getD}
-use borrow.Author.Tests.{leb-true, leb-false, le-leb, lt-leb, lt-ltb, le-ltb, eq-eqb, ne-eqb}
+use lib.ListN.{length, getD, take, replicate, length-append, length-take, length-replicate}
+use borrow.Author.Tests.{le-leb, lt-leb, lt-ltb, le-ltb, eq-eqb, ne-eqb}
+use Rattle.trees.specs.declared.ShownLabel.{ShownLabel}
+use Rattle.trees.specs.declared.StoredLabel.{StoredLabel}
 use Rattle.trees.specs.declared.TreeArrays.{TreeArrays}
-use Rattle.trees.specs.Arrays.{isLeaf, goodNode, goodNodes}
+use Rattle.trees.specs.Label.{Label, labelLimit}
+use Rattle.trees.specs.Token.{Token, spelling, tokenOf, tokenLimit}
+use Rattle.trees.specs.Arrays.{isLeaf, labelAt, goodNode, goodNodes}
+use Rattle.trees.specs.Stored.{storedBytes, storedOf, shownBytes, shownOf, partOf}
 use Rattle.trees.proofs.Bools.{bool-cases, clash, and-intro}
 use Rattle.trees.proofs.ArrayLaws.{good-at}
-use Rattle.writer.specs.Passes.{sumAt, leastAt, goesFirst}
+use Rattle.writer.specs.Passes.{leafSpelling, leafToken, weightAt, sumAt, leastAt, goesFirst}
 
 -- ---- the test of a node; l, r, s and n are its entries
 
 module _ (a : TreeArrays) (text : List ℕ) (u l : ℕ) (is-left : l ≡ getD (a .left) u 0) where
-  pub long-label : (n : ℕ) → n ≡ getD (a .size) u 0 → l ≡ u → 16 < n → false ≡ goodNode a text u
-  unfolding goodNode isLeaf
-  long-label n e f h = rw (eq-eqb (getD (a .left) u 0) u (sym is-left ∙ f), lt-leb (getD (a .size) u 0) 16 (omega arith))
+  module _ (s n : ℕ) (is-start : s ≡ getD (a .start) u 0) (is-size : n ≡ getD (a .size) u 0) (is-leaf : l ≡ u) where
+    pub past-end : length text < s + n → false ≡ goodNode a text u
+    unfolding goodNode isLeaf
+    past-end h =
+        rw (eq-eqb (getD (a .left) u 0) u (sym is-left ∙ is-leaf), lt-leb (getD (a .start) u 0 + getD (a .size) u 0) (length text) (omega arith)) refl
 
-  short-end : (s n : ℕ) → n ≤ length text → leb s (length text - n) ≡ leb (s + n) (length text)
-  short-end s n h = go (bool-cases (leb s (length text - n)))
-    where
-      go : (leb s (length text - n) ≡ true) ⊎ (leb s (length text - n) ≡ false) → leb s (length text - n) ≡ leb (s + n) (length text)
-      go (inl e) = e ∙ sym (le-leb (s + n) (length text) (omega (arith, leb-true s (length text - n) e)))
-      go (inr e) = e ∙ sym (lt-leb (s + n) (length text) (omega (arith, leb-false s (length text - n) e)))
-
-  leaf-test : (s n : ℕ) → s ≡ getD (a .start) u 0 → n ≡ getD (a .size) u 0 → l ≡ u → n ≤ 16
-      → leb (s + n) (length text) ≡ goodNode a text u
-  unfolding goodNode isLeaf
-  leaf-test s n d e f h =
-      rw (eq-eqb (getD (a .left) u 0) u (sym is-left ∙ f), le-leb (getD (a .size) u 0) 16 (omega arith))
-      (ap₂ (λ (x y : ℕ). leb (x + y) (length text)) d e)
-
-  pub past-end : (s n : ℕ) → s ≡ getD (a .start) u 0 → n ≡ getD (a .size) u 0 → l ≡ u → n ≤ 16 → length text < n
-      → false ≡ goodNode a text u
-  past-end s n d e f h k = sym (lt-leb (s + n) (length text) (omega arith)) ∙ leaf-test s n d e f h
-
-  pub label-inside : (s n : ℕ) → s ≡ getD (a .start) u 0 → n ≡ getD (a .size) u 0 → l ≡ u → n ≤ 16 → n ≤ length text
-      → leb s (length text - n) ≡ goodNode a text u
-  label-inside s n d e f h k = short-end s n k ∙ leaf-test s n d e f h
+    -- x is the part of the text that the entries name
+    pub label-test : s + n ≤ length text → (x : Token) → x ≡ partOf s n text → (k : ℕ) → k ≡ length (spelling x)
+        → leb k labelLimit ≡ goodNode a text u
+    unfolding goodNode isLeaf labelAt partOf
+    label-test h x ex k ek =
+        let inside = le-leb (getD (a .start) u 0 + getD (a .size) u 0) (length text) (omega arith) in
+        let named = ex ∙ ap₂ (λ (i j : ℕ). partOf i j text) is-start is-size in
+        let is : k ≡ length (spelling (labelAt a text u)) = ek ∙ ap (λ (y : Token). length (spelling y)) (rw inside at named) in
+        rw (eq-eqb (getD (a .left) u 0) u (sym is-left ∙ is-leaf), inside) (ap (λ (m : ℕ). leb m labelLimit) is)
 
   pub children-test : (r : ℕ) → r ≡ getD (a .right) u 0 → (l ≡ u → ⊥) → l < u → ltb r u ≡ goodNode a text u
   unfolding goodNode isLeaf
@@ -66,6 +61,38 @@ pub good-more : (a : TreeArrays) (text : List ℕ) (u : ℕ) → goodNodes a tex
     → goodNodes a text (u + 1) ≡ true
 unfolding goodNodes
 good-more a text u g e = rw (add-one u) (and-intro (goodNodes a text u) (goodNode a text u) g e)
+
+-- ---- what a leaf writes; x is its label as it is kept, y as it is shown
+
+-- as many bytes count as are shown
+shown-length : (x : Label) → shownOf x .len ≡ length (shownBytes (shownOf x))
+unfolding shownOf shownBytes
+shown-length x =
+    omega (
+      arith,
+      length-take (min (length (tokenOf x)) tokenLimit) (take tokenLimit (tokenOf x) ++ replicate (tokenLimit - length (tokenOf x)) 0),
+      length-append (take tokenLimit (tokenOf x)) (replicate (tokenLimit - length (tokenOf x)) 0),
+      length-take tokenLimit (tokenOf x),
+      length-replicate {A = ℕ} (tokenLimit - length (tokenOf x)) 0,
+    )
+
+module _ (text s z : List ℕ) (u : ℕ) (x : StoredLabel) (ex : x ≡ storedOf (leafSpelling text s z u)) (y : ShownLabel)
+    (ey : y ≡ shownOf (storedBytes x)) where
+  pub token-bytes : (b : List ℕ) → b ≡ take (y .len) (y .bytes) → b ≡ leafToken text s z u
+  unfolding leafToken shownBytes
+  token-bytes b eb = eb ∙ ap shownBytes ey ∙ ap (λ (k : StoredLabel). shownBytes (shownOf (storedBytes k))) ex
+
+  pub weight-leaf : (l : List ℕ) → getD l u 0 ≡ u → y .len ≡ weightAt text l s z u
+  unfolding weightAt leafToken
+  weight-leaf l e =
+      rw (eq-eqb (getD l u 0) u e)
+      (ap (λ (k : ShownLabel). k .len) ey
+      ∙ shown-length (storedBytes x)
+      ∙ ap (λ (k : StoredLabel). length (shownBytes (shownOf (storedBytes k)))) ex)
+
+pub weight-node : (text l s z : List ℕ) (u : ℕ) → (getD l u 0 ≡ u → ⊥) → 0 ≡ weightAt text l s z u
+unfolding weightAt
+weight-node text l s z u ne = rw (ne-eqb (getD l u 0) u ne) refl
 
 -- ---- an entry of a pass; v is what the code answers
 

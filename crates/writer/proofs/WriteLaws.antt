@@ -3,6 +3,7 @@ use Prim.Native.Nat.{ℕ, suc, _+_, _-_, _≤_, _<_, min}
 use mathlib.Core.Path.{_≡_, refl, sym, _∙_, ap, ap₂, subst}
 use mathlib.Core.Bool.{Bool, true, false, cond, _&&_}
 use mathlib.Core.List.{List, [], _∷_, _++_}
+use mathlib.Core.Option.{Option, none, some}
 use native.Mathlib.Nat.{add-zero, add-suc, suc-add}
 use native.Mathlib.Numerals.{add-one}
 use native.Mathlib.Omega.{arith}
@@ -11,13 +12,14 @@ use lib.ListN.{length, getD, set, take, drop, replicate, length-append, length-t
 use lib.Seq.{sets, sets-eq, take-suc}
 use borrow.Author.Tests.{le-leb, lt-leb, eq-eqb, ne-eqb}
 use Rattle.trees.specs.declared.TreeArrays.{TreeArrays}
-use Rattle.trees.specs.Tree.{Tree, leaves, normal}
-use Rattle.trees.specs.Text.{written, textOf, normalText}
+use Rattle.trees.specs.Tree.{Tree, leaves, decoded, normal}
+use Rattle.trees.specs.Text.{textOf, normalText}
 use Rattle.trees.specs.Arrays.{goodNodes, treeAt, Standing, noLeaf, oneTree, noTree, treeOf}
+use Rattle.trees.proofs.DecodedLaws.{decoded-count}
 use Rattle.writer.specs.declared.WriteAnswer.{WriteAnswer}
 use Rattle.writer.specs.declared.WriteAnswer.the-variants.{Written, Refused, NoTree}
 use Rattle.writer.specs.Write.{standingText, outputTooShort, textAnswer, textOutput, writeAnswer, outputAfter}
-use Rattle.writer.specs.Passes.{rootSum, below}
+use Rattle.writer.specs.Passes.{weightAt, weightCap, rootSum, below, shownText}
 use Rattle.writer.proofs.PassLaws.{leaves-found, lengths-found, written-bound, normal-length}
 
 -- ---- runs of stores
@@ -38,48 +40,64 @@ sets-more x l i k h =
 -- ---- what arrays stand for
 
 -- the text is the root's and `;`
-pub text-length : (t : Tree) → length (normalText t) ≡ length (written (normal t)) + 1
+pub text-length : (t : Tree) → length (normalText t) ≡ length (shownText (normal t)) + 1
 unfolding normalText textOf
-text-length t = length-append (written (normal t)) (59 ∷ [])
+text-length t = length-append (shownText (normal t)) (59 ∷ [])
+
+-- r is two more than the length of the last node's text
+pub record Found (a : TreeArrays) (text : List ℕ) (r : ℕ) : Type 0 where
+  pub some : 2 ≤ r
+  pub exact : length (leaves (below a text (a .nodes - 1))) ≤ 80 → r - 2 ≡ length (normalText (below a text (a .nodes - 1)))
 
 module _ (a : TreeArrays) (text : List ℕ) where
-  pub stands-empty : a .nodes ≡ 0 → treeOf a text ≡ noLeaf
-  unfolding treeOf
-  stands-empty e = rw (eq-eqb (a .nodes) 0 e)
+  pub stands-empty : a .nodes ≡ 0 → standingText (treeOf a text) ≡ some []
+  unfolding treeOf standingText
+  stands-empty e = rw (eq-eqb (a .nodes) 0 e) refl
 
-  pub stands-long : 159 < a .nodes → treeOf a text ≡ noTree
-  unfolding treeOf
-  stands-long h = rw (ne-eqb (a .nodes) 0 (omega arith), lt-leb (a .nodes) 159 h)
+  pub stands-long : 159 < a .nodes → standingText (treeOf a text) ≡ none
+  unfolding treeOf standingText
+  stands-long h = rw (ne-eqb (a .nodes) 0 (omega arith), lt-leb (a .nodes) 159 h) refl
 
-  pub stands-bad : (a .nodes ≡ 0 → ⊥) → goodNodes a text (a .nodes) ≡ false → treeOf a text ≡ noTree
-  unfolding treeOf
+  pub stands-bad : (a .nodes ≡ 0 → ⊥) → goodNodes a text (a .nodes) ≡ false → standingText (treeOf a text) ≡ none
+  unfolding treeOf standingText
   stands-bad h e = go (leb (a .nodes) 159)
     where
       go : (b : Bool)
-          → cond (eqb (a .nodes) 0) noLeaf
+          → standingText (cond (eqb (a .nodes) 0) noLeaf
           (cond (b && goodNodes a text (a .nodes) && leb (length (leaves (treeAt (a .nodes) a text (a .nodes - 1)))) 80)
-          (oneTree (treeAt (a .nodes) a text (a .nodes - 1))) noTree)
-          ≡ noTree
-      go true = rw (ne-eqb (a .nodes) 0 h, e)
-      go false = rw (ne-eqb (a .nodes) 0 h)
+          (oneTree (treeAt (a .nodes) a text (a .nodes - 1))) noTree))
+          ≡ none
+      go true = rw (ne-eqb (a .nodes) 0 h, e) refl
+      go false = rw (ne-eqb (a .nodes) 0 h) refl
 
   module _ (some-node : 0 < a .nodes) (few : a .nodes ≤ 159) (good : goodNodes a text (a .nodes) ≡ true) where
-    root-below : treeAt (a .nodes) a text (a .nodes - 1) ≡ below a text (a .nodes - 1)
-    unfolding below
-    root-below = ap (λ (k : ℕ). treeAt k a text (a .nodes - 1)) (omega arith)
+    -- the tree as it is read, and decoded
+    read : Tree
+    read = treeAt (a .nodes) a text (a .nodes - 1)
 
-    stands-by : treeOf a text
-        ≡ cond (leb (length (leaves (below a text (a .nodes - 1)))) 80) (oneTree (below a text (a .nodes - 1))) noTree
-    unfolding treeOf
-    stands-by =
-        rw (ne-eqb (a .nodes) 0 (omega arith), le-leb (a .nodes) 159 few, good)
-        (ap (λ (t : Tree). cond (leb (length (leaves t)) 80) (oneTree t) noTree) root-below)
+    root-below : decoded read ≡ below a text (a .nodes - 1)
+    unfolding read below
+    root-below = ap (λ (k : ℕ). decoded (treeAt k a text (a .nodes - 1))) (omega arith)
 
-    pub stands-many : 80 < length (leaves (below a text (a .nodes - 1))) → treeOf a text ≡ noTree
-    stands-many h = stands-by ∙ ap (λ (b : Bool). cond b (oneTree (below a text (a .nodes - 1))) noTree) (lt-leb _ 80 h)
+    root-count : length (leaves read) ≡ length (leaves (below a text (a .nodes - 1)))
+    root-count = sym (decoded-count read) ∙ ap (λ (t : Tree). length (leaves t)) root-below
 
-    pub stands-tree : length (leaves (below a text (a .nodes - 1))) ≤ 80 → treeOf a text ≡ oneTree (below a text (a .nodes - 1))
-    stands-tree h = stands-by ∙ ap (λ (b : Bool). cond b (oneTree (below a text (a .nodes - 1))) noTree) (le-leb _ 80 h)
+    stands-by : treeOf a text ≡ cond (leb (length (leaves read)) 80) (oneTree read) noTree
+    unfolding treeOf read
+    stands-by = rw (ne-eqb (a .nodes) 0 (omega arith), le-leb (a .nodes) 159 few, good) refl
+
+    pub stands-many : 80 < length (leaves (below a text (a .nodes - 1))) → standingText (treeOf a text) ≡ none
+    unfolding standingText
+    stands-many h =
+        ap standingText (stands-by ∙ ap (λ (b : Bool). cond b (oneTree read) noTree) (lt-leb (length (leaves read)) 80 (omega (arith, root-count))))
+
+    -- at most 80 leaves: the text of the root's decoded tree belongs in the output
+    pub stands-tree : length (leaves (below a text (a .nodes - 1))) ≤ 80
+        → standingText (treeOf a text) ≡ some (normalText (below a text (a .nodes - 1)))
+    unfolding standingText
+    stands-tree h =
+        ap standingText (stands-by ∙ ap (λ (b : Bool). cond b (oneTree read) noTree) (le-leb (length (leaves read)) 80 (omega (arith, root-count))))
+        ∙ ap (λ (t : Tree). some (normalText t)) root-below
 
     root-last : a .nodes - 1 < a .nodes
     root-last = omega arith
@@ -89,62 +107,75 @@ module _ (a : TreeArrays) (text : List ℕ) where
     unfolding rootSum
     root-leaves = leaves-found a text (a .nodes) good (replicate 159 0) few few (a .nodes - 1) root-last
 
-    pub found-many : 80 < rootSum (a .left) (a .right) (replicate 159 0) 1 81 (a .nodes) → treeOf a text ≡ noTree
+    pub found-many : 80 < rootSum (a .left) (a .right) (replicate 159 0) 1 81 (a .nodes) → standingText (treeOf a text) ≡ none
     found-many h = stands-many (omega (arith, root-leaves))
 
     pub found-few : rootSum (a .left) (a .right) (replicate 159 0) 1 81 (a .nodes) ≤ 80
         → length (leaves (below a text (a .nodes - 1))) ≤ 80
     found-few h = omega (arith, root-leaves)
 
-    pub found-length : length (leaves (below a text (a .nodes - 1))) ≤ 80
-        → rootSum (a .left) (a .right) (a .size) 3 1521 (a .nodes) ≡ length (normalText (below a text (a .nodes - 1))) + 2
+    -- w tells how many bytes each leaf writes, and r is the root's sum
+    pub found-length : (w : List ℕ) → ((u : ℕ) → u < a .nodes → getD w u 0 ≡ weightAt text (a .left) (a .start) (a .size) u)
+        → (r : ℕ) → r ≡ rootSum (a .left) (a .right) w 3 weightCap (a .nodes) → Found a text r
     unfolding rootSum
-    found-length h =
-        omega (
-          arith,
-          lengths-found a text (a .nodes) good (replicate 159 0) few (a .nodes - 1) root-last,
-          written-bound a text (a .nodes) good (a .nodes - 1) root-last,
-          normal-length (below a text (a .nodes - 1)),
-          text-length (below a text (a .nodes - 1)),
-        )
+    found-length w weights r e =
+        let sum = lengths-found a text (a .nodes) good w weights (replicate 159 0) few (a .nodes - 1) root-last in
+        record {
+          some = omega (arith, e, sum);
+          exact = λ (h : length (leaves (below a text (a .nodes - 1))) ≤ 80).
+              omega (
+                arith,
+                h,
+                e,
+                sum,
+                written-bound a text (a .nodes) good (a .nodes - 1) root-last,
+                normal-length (below a text (a .nodes - 1)),
+                text-length (below a text (a .nodes - 1)),
+              );
+        }
 
 -- ---- the answer and the output
 
--- r is the answer and o the output afterwards
+-- r is the answer and o the output afterwards, for the text x, if any
+abbrev TextDone : Option (List ℕ) → List ℕ → WriteAnswer → List ℕ → Type 0
+TextDone x out r o = (r ≡ textAnswer x (length out)) × (o ≡ textOutput x out)
+
 abbrev pub Done : Standing → List ℕ → WriteAnswer → List ℕ → Type 0
 Done s out r o = (r ≡ writeAnswer s (length out)) × (o ≡ outputAfter s out)
 
-pub done-as : (s s′ : Standing) (out : List ℕ) (r : WriteAnswer) (o : List ℕ) → s ≡ s′ → Done s′ out r o → Done s out r o
-done-as s s′ out r o e d = subst (λ (x : Standing). Done x out r o) (sym e) d
+pub done-as : (s : Standing) (x : Option (List ℕ)) (out : List ℕ) (r : WriteAnswer) (o : List ℕ) → standingText s ≡ x → TextDone x out r o
+    → Done s out r o
+unfolding writeAnswer outputAfter
+done-as s x out r o e d = subst (λ (y : Option (List ℕ)). TextDone y out r o) (sym e) d
 
-pub done-none : (out : List ℕ) → Done noTree out NoTree out
-unfolding writeAnswer outputAfter standingText textAnswer textOutput
+pub done-none : (out : List ℕ) → TextDone none out NoTree out
+unfolding textAnswer textOutput
 done-none out = (refl, refl)
 
-pub done-empty : (out : List ℕ) → Done noLeaf out (Written 0) out
-unfolding writeAnswer outputAfter standingText textAnswer textOutput
-done-empty out = (rw (le-leb 0 (length out) (omega arith)), rw (le-leb 0 (length out) (omega arith)))
+pub done-empty : (out : List ℕ) → TextDone (some []) out (Written 0) out
+unfolding textAnswer textOutput
+done-empty out = (rw (le-leb 0 (length out) (omega arith)) refl, rw (le-leb 0 (length out) (omega arith)) refl)
 
-pub done-short : (t : Tree) (out : List ℕ) → length out < length (normalText t) → Done (oneTree t) out (Refused outputTooShort) out
-unfolding writeAnswer outputAfter standingText textAnswer textOutput
-done-short t out h = (rw (lt-leb (length (normalText t)) (length out) h), rw (lt-leb (length (normalText t)) (length out) h))
+module _ (x out : List ℕ) where
+  pub done-short : length out < length x → TextDone (some x) out (Refused outputTooShort) out
+  unfolding textAnswer textOutput
+  done-short h = (rw (lt-leb (length x) (length out) h) refl, rw (lt-leb (length x) (length out) h) refl)
 
-pub done-fits : (t : Tree) (out : List ℕ) → length (normalText t) ≤ length out
-    → Done (oneTree t) out (Written (length (normalText t))) (normalText t ++ drop (length (normalText t)) out)
-unfolding writeAnswer outputAfter standingText textAnswer textOutput
-done-fits t out h = (rw (le-leb (length (normalText t)) (length out) h), rw (le-leb (length (normalText t)) (length out) h))
+  pub done-fits : length x ≤ length out → TextDone (some x) out (Written (length x)) (x ++ drop (length x) out)
+  unfolding textAnswer textOutput
+  done-fits h = (rw (le-leb (length x) (length out) h) refl, rw (le-leb (length x) (length out) h) refl)
 
 -- the node's text stored from 0 to j, and `;` at j
-pub done-stored : (t : Tree) (out o : List ℕ) (j : ℕ) → length (normalText t) ≤ length out → j ≡ 0 + length (written (normal t))
-    → o ≡ sets out 0 (written (normal t)) → Done (oneTree t) out (Written (j + 1)) (set o j 59)
+pub done-stored : (t : Tree) (out o : List ℕ) (j : ℕ) → length (normalText t) ≤ length out → j ≡ 0 + length (shownText (normal t))
+    → o ≡ sets out 0 (shownText (normal t)) → TextDone (some (normalText t)) out (Written (j + 1)) (set o j 59)
 unfolding normalText textOf
 done-stored t out o j h e f =
     let k : j + 1 ≡ length (normalText t) = omega (arith, text-length t) in
     let d : 0 + length (normalText t) ≡ length (normalText t) = omega arith in (
-      ap Written k ∙ done-fits t out h .0,
+      ap Written k ∙ done-fits (normalText t) out h .0,
       ap₂ (λ (l : List ℕ) (i : ℕ). set l i 59) f e
-          ∙ sym (sets-append (written (normal t)) (59 ∷ []) out 0)
+          ∙ sym (sets-append (shownText (normal t)) (59 ∷ []) out 0)
           ∙ sets-eq (normalText t) out 0 (omega arith)
           ∙ ap (λ (i : ℕ). normalText t ++ drop i out) d
-          ∙ done-fits t out h .1,
+          ∙ done-fits (normalText t) out h .1,
     )

@@ -7,10 +7,11 @@ use lib.Dec.{eqb, ltb}
 use lib.ListN.{length, getD, set, replicate}
 use Rattle.trees.specs.declared.TreeArrays.{TreeArrays}
 use Rattle.trees.specs.Label.{Label, labelLess}
-use Rattle.trees.specs.Tree.{Tree, leaves, normal, smallest}
+use Rattle.trees.specs.Token.{Token, spelling, tokenOf, tokenLimit}
+use Rattle.trees.specs.Tree.{Tree, leaves, relabel, decoded, normal, smallest, leafLimit}
 use Rattle.trees.specs.Text.{written}
 use Rattle.trees.specs.Arrays.{treeAt, isLeaf}
-use Rattle.trees.specs.Stored.{leafLabel}
+use Rattle.trees.specs.Stored.{storedBytes, storedOf, shownBytes, shownOf, leafLabel}
 
 abbrev pub arraysFrom : ℕ → List ℕ → List ℕ → List ℕ → List ℕ → TreeArrays
 arraysFrom n l r s z = record { nodes = n; left = l; right = r; start = s; size = z }
@@ -19,6 +20,23 @@ arraysFrom n l r s z = record { nodes = n; left = l; right = r; start = s; size 
 unfoldable pub pass : (List ℕ → ℕ → ℕ) → List ℕ → ℕ → List ℕ
 pass f t zero = t
 pass f t (suc n) = set (pass f t n) n (f (pass f t n) n)
+
+-- the label that leaf u's part of the text stands for
+abbrev pub leafSpelling : (text s z : List ℕ) → ℕ → Label
+leafSpelling text s z u = spelling (leafLabel text s z u)
+
+-- what leaf u writes: that label's written form
+unfoldable pub leafToken : (text s z : List ℕ) → ℕ → Token
+leafToken text s z u = shownBytes (shownOf (storedBytes (storedOf (leafSpelling text s z u))))
+
+-- how many bytes node u writes if it is a leaf
+unfoldable pub weightAt : (text l s z : List ℕ) → ℕ → ℕ
+unfolding leafToken
+weightAt text l s z u = cond (eqb (getD l u 0) u) (length (leafToken text s z u)) 0
+
+-- more than 80 leaves weigh, each three bytes more than it writes
+abbrev pub weightCap : ℕ
+weightCap = leafLimit * (tokenLimit + 3) + 1
 
 -- the sum at node u of what its leaves weigh, at most cap
 unfoldable pub sumAt : List ℕ → List ℕ → List ℕ → ℕ → ℕ → List ℕ → ℕ → ℕ
@@ -32,7 +50,7 @@ rootSum l r w plus cap n = getD (pass (sumAt l r w plus cap) (replicate 159 0) n
 
 -- t names for a node the leaf with the smallest label below it: that of i is less than that of j
 unfoldable pub goesFirst : List ℕ → List ℕ → List ℕ → List ℕ → ℕ → ℕ → Bool
-goesFirst text s z t i j = labelLess (leafLabel text s z (getD t i 0)) (leafLabel text s z (getD t j 0))
+goesFirst text s z t i j = labelLess (leafSpelling text s z (getD t i 0)) (leafSpelling text s z (getD t j 0))
 
 -- the leaf with the smallest label below node u
 unfoldable pub leastAt : List ℕ → List ℕ → List ℕ → List ℕ → List ℕ → List ℕ → ℕ → ℕ
@@ -47,22 +65,26 @@ unfolding goesFirst
 firstAt text l r s z t u =
     cond (eqb (getD l u 0) u) u (cond (goesFirst text s z t (getD l u 0) (getD r u 0)) (getD l u 0) (getD r u 0))
 
--- the tree below node u
+-- the tree below node u, its labels decoded
 unfoldable pub below : TreeArrays → List ℕ → ℕ → Tree
-below a text u = treeAt (suc u) a text u
+below a text u = decoded (treeAt (suc u) a text u)
+
+-- how a tree of decoded labels is written, its children as they stand
+abbrev pub shownText : Tree → List ℕ
+shownText t = written (relabel tokenOf t)
 
 -- how node u is written
 unfoldable pub nodeText : TreeArrays → List ℕ → ℕ → List ℕ
 unfolding below
-nodeText a text u = written (normal (below a text u))
+nodeText a text u = shownText (normal (below a text u))
 
 -- t names the leaf with the smallest label below each of the first n nodes
 abbrev pub Leasts : TreeArrays → List ℕ → List ℕ → ℕ → Type 0
-Leasts a text t n = (u : ℕ) → u < n → leafLabel text (a .start) (a .size) (getD t u 0) ≡ smallest (below a text u)
+Leasts a text t n = (u : ℕ) → u < n → leafSpelling text (a .start) (a .size) (getD t u 0) ≡ smallest (below a text u)
 
 -- node u is a leaf, or has child f written first and child s after it
 pub data Child (a : TreeArrays) (text : List ℕ) (u f s : ℕ) : Type 0 where
-  own : f ≡ u → isLeaf a u ≡ true → nodeText a text u ≡ leafLabel text (a .start) (a .size) u → Child a text u f s
+  own : f ≡ u → isLeaf a u ≡ true → nodeText a text u ≡ leafToken text (a .start) (a .size) u → Child a text u f s
   pair : f < u → s < u
       → nodeText a text u ≡ 40 ∷ (nodeText a text f ++ (44 ∷ (nodeText a text s ++ (41 ∷ []))))
       → length (leaves (below a text u)) ≡ length (leaves (below a text f)) + length (leaves (below a text s))
@@ -87,9 +109,9 @@ thingText a text k = cond (ltb k 159) (nodeText a text k) (markOf k ∷ [])
 
 -- and itself
 unfoldable pub ownText : List ℕ → List ℕ → List ℕ → List ℕ → ℕ → List ℕ
-unfolding markOf
+unfolding markOf leafToken
 ownText text s z first k =
-    cond (ltb k 159) (cond (eqb (getD first k 0) k) (leafLabel text s z k) (40 ∷ [])) (markOf k ∷ [])
+    cond (ltb k 159) (cond (eqb (getD first k 0) k) (leafToken text s z k) (40 ∷ [])) (markOf k ∷ [])
 
 -- a thing after which others come
 unfoldable pub goesOn : List ℕ → ℕ → Bool

@@ -10,15 +10,16 @@ use Rattle.trees.specs.declared.Refusal.{Refusal}
 use Rattle.trees.specs.declared.Reason.the-variants.{TooShort}
 use Rattle.trees.specs.declared.Body.the-variants.{O}
 use Rattle.trees.specs.Refusals.{numberOf, letterOf}
+use Rattle.trees.specs.Tree.{decoded}
 use Rattle.trees.specs.Text.{normalText}
 use Rattle.trees.specs.Arrays.{Standing, noLeaf, oneTree, noTree}
 use Rattle.writer.specs.declared.WriteAnswer.{WriteAnswer}
 use Rattle.writer.specs.declared.WriteAnswer.the-variants.{Written, Refused, NoTree}
 
--- "The empty set of leaves has a text of no bytes"
+-- "The empty set of leaves has a text of no bytes"; a tree has the normal text of what its tokens stand for
 unfoldable pub standingText : Standing → Option (List ℕ)
 standingText noLeaf = some []
-standingText (oneTree t) = some (normalText t)
+standingText (oneTree t) = some (normalText (decoded t))
 standingText noTree = none
 
 -- number 9, O 0

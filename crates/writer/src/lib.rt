@@ -2,8 +2,11 @@
 //
 // No public function has a `requires`: arrays that stand for no tree are answered too, and no entry of them is trusted.
 use trees::Body;
+use trees::LABEL_LIMIT;
+use trees::LEAF_LIMIT;
 use trees::Reason;
 use trees::Refusal;
+use trees::TOKEN_LIMIT;
 use trees::TreeArrays;
 use trees::entry;
 ghost use Prim.Native.Nat.{ℕ, _+_, _-_, _<_, _≤_, min};
@@ -12,9 +15,10 @@ ghost use mathlib.Core.Bool.{true, cond};
 ghost use lib.ListN.{length, getD};
 ghost use lib.Seq.{sets};
 ghost use Rattle.trees.specs.Tree.{leaves};
+ghost use Rattle.trees.specs.Text.{normalText};
 ghost use Rattle.trees.specs.Arrays.{goodNode, goodNodes, treeOf};
 ghost use Rattle.writer.specs.Write.{writeAnswer, outputAfter};
-ghost use Rattle.writer.specs.Passes.{arraysFrom, pass, sumAt, rootSum, goesFirst, leastAt, firstAt, below, nodeText, Children};
+ghost use Rattle.writer.specs.Passes.{arraysFrom, pass, weightAt, sumAt, rootSum, goesFirst, leastAt, firstAt, below, nodeText, Children};
 ghost use Rattle.writer.specs.Passes.{markOf, ownText, depthAfter, stackAfter};
 
 // How many bytes were written, or why none was: the output is too short, or the arrays stand for no tree of at most
@@ -64,13 +68,13 @@ fn good_node(
     if l == u {
         let n = entry(size, u);
         let s = entry(start, u);
-        if 16 < n {
-            return false;
-        }
         if text.len() < n {
             return false;
         }
-        return s <= text.len() - n;
+        if text.len() - n < s {
+            return false;
+        }
+        return trees::spelled_size(trees::part(text, s, n)) <= LABEL_LIMIT;
     }
     let r = entry(right, u);
     if l < u { r < u } else { false }
@@ -158,6 +162,64 @@ fn root_sum(
     let mut sums = [0usize; 159];
     sum_pass(left, right, weight, plus, cap, nodes, &mut sums);
     entry(&sums, nodes - 1)
+}
+
+// How many bytes node u writes if it is a leaf.
+fn weight_at(text: &[u8], left: &[usize], start: &[usize], size: &[usize], u: usize) -> usize
+    ensures { λ r. ⌜ r ≡ weightAt (now (text .entry)) (now (left .entry)) (now (start .entry)) (now (size .entry)) u ⌝ }
+{
+    if entry(left, u) == u {
+        let label = trees::shown(trees::stored_leaf(text, start, size, u));
+        return label.len;
+    }
+    0
+}
+
+// How many bytes each leaf writes.
+fn weight_pass(
+    text: &[u8],
+    left: &[usize],
+    start: &[usize],
+    size: &[usize],
+    nodes: usize,
+    weight: &mut [usize],
+)
+    requires { ⌜ nodes ≤ length (now weight) ⌝ }
+    ensures { λ _.
+        ⌜ ((u : ℕ) → u < nodes → getD (now (weight .exit)) u 0
+        ≡ weightAt (now (text .entry)) (now (left .entry)) (now (start .entry)) (now (size .entry)) u) ⌝ }
+{
+    let mut u: usize = 0;
+    while u < nodes {
+        weight[u] = weight_at(text, left, start, size, u);
+        u += 1;
+    }
+}
+
+// More than the leaves of a tree can weigh, each three bytes more than it writes.
+const WEIGHT_CAP: usize = LEAF_LIMIT * (TOKEN_LIMIT + 3) + 1;
+
+// How many bytes the text of the last node's tree has. A leaf counts three bytes more than it writes, for `(`, `,` and `)`: two too
+// many in all, with `;`.
+fn text_size(
+    text: &[u8],
+    nodes: usize,
+    left: &[usize],
+    right: &[usize],
+    start: &[usize],
+    size: &[usize],
+) -> usize
+    requires { ⌜ (0 < nodes) × (nodes ≤ 159) ⌝ }
+    requires { ⌜ goodNodes (arraysFrom nodes (now left) (now right) (now start) (now size)) (now text) nodes ≡ true ⌝ }
+    ensures { λ r.
+        ⌜ (length (leaves (below (arraysFrom nodes (now (left .entry)) (now (right .entry)) (now (start .entry)) (now (size .entry)))
+        (now (text .entry)) (nodes - 1))) ≤ 80
+        → r ≡ length (normalText (below (arraysFrom nodes (now (left .entry)) (now (right .entry)) (now (start .entry)) (now (size .entry)))
+        (now (text .entry)) (nodes - 1)))) ⌝ }
+{
+    let mut weight = [0usize; 159];
+    weight_pass(text, left, start, size, nodes, &mut weight);
+    root_sum(left, right, &weight, 3, WEIGHT_CAP, nodes) - 2
 }
 
 // Whether the smallest label below node i is less than the one below node j.
@@ -320,8 +382,9 @@ fn put_own(
         return at + 1;
     }
     if entry(first, k) == k {
-        let label = trees::leaf_label(text, start, size, k);
-        return put_bytes(label, out, at);
+        let label = trees::shown(trees::stored_leaf(text, start, size, k));
+        let bytes = label.bytes;
+        return put_bytes(trees::first_bytes(&bytes, label.len), out, at);
     }
     out[at] = b'(';
     at + 1
@@ -423,8 +486,7 @@ fn write_nodes(
     if 80 < root_sum(left, right, &none, 1, 81, nodes) {
         return WriteAnswer::NoTree;
     }
-    // A leaf counts three bytes more than its label has, for `(`, `,` and `)`: two too many in all, with `;`.
-    let bytes = root_sum(left, right, size, 3, 1521, nodes) - 2;
+    let bytes = text_size(text, nodes, left, right, start, size);
     if out.len() < bytes {
         return WriteAnswer::Refused(Refusal {
             reason: Reason::TooShort,
@@ -441,8 +503,8 @@ fn write_nodes(
     WriteAnswer::Written(end + 1)
 }
 
-// Writes the normal text of the tree that the arrays stand for over the text into `out`. On any answer but `Written`
-// the output keeps every byte, and so do its bytes past the text.
+// Writes the normal text of the tree that the arrays stand for over the text into `out`: each label in the one form by which it is
+// written, however it stands in the text. On any answer but `Written` the output keeps every byte, and so do its bytes past the text.
 pub fn write_tree(tree: TreeArrays, text: &[u8], out: &mut [u8]) -> WriteAnswer
     ensures answer { λ r. ⌜ r ≡ writeAnswer (treeOf tree (now (text .entry))) (length (now (out .entry))) ⌝ }
     ensures output { λ _. ⌜ now (out .exit) ≡ outputAfter (treeOf tree (now (text .entry))) (now (out .entry)) ⌝ }

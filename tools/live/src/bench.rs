@@ -1,8 +1,8 @@
 //! The engine beside the oracle's recurrence, both from texts to answer, in one run. Times are the least of several rounds.
 
 use crate::engine::{largest, largest_with, STRICT};
-use oracle::families::{families, long_labels, short_labels, Family};
-use oracle::limits::{LABEL, LEAVES, TREE_TEXT};
+use oracle::families::{all_families, families, short_labels, Family};
+use oracle::limits::{LEAVES, TREE_TEXT};
 use oracle::random::Random;
 use oracle::text::{read_list, read_tree};
 use oracle::{agree::restrict, agree::stray, agree::Answer, fast};
@@ -40,8 +40,8 @@ type Took = (f64, f64);
 
 /// What one family takes: without options, and strict.
 fn times(f: &Family, rounds: usize) -> [Took; 2] {
-    let (first, second, required) = (f.first.text(), f.second.text(), f.list());
-    let texts = [&first[..], &second, &required];
+    let bodies = f.bodies.texts();
+    let texts = bodies.each_ref().map(|x| &x[..]);
     let mut out = vec![0u8; TREE_TEXT];
     let engine: [f64; 2] = in_turn(rounds, |i| {
         black_box(if i == 0 { largest(texts, &mut out) } else { largest_with(STRICT, texts, &mut out) });
@@ -58,8 +58,8 @@ fn row(name: &str, n: usize, (engine, other): Took, random: f64) {
 
 /// What the stages of one call cost, by calls that end after them: a list that cannot be read ends the call when both trees are
 /// read and their leaves looked up; an output of no bytes leaves out the writing.
-fn stages(f: &Family, rounds: usize) {
-    let (first, second) = (f.first.text(), f.second.text());
+fn stages(name: &str, f: &Family, rounds: usize) {
+    let [first, second, _] = f.bodies.texts();
     let mut out = vec![0u8; TREE_TEXT];
     let ends = [(&b","[..], TREE_TEXT), (b"", 0), (b"", TREE_TEXT)];
     let [read, solved, whole] = in_turn(rounds, |i| {
@@ -67,11 +67,11 @@ fn stages(f: &Family, rounds: usize) {
         black_box(largest([&first, &second, list], &mut out[..room]));
     });
     let (solve, write) = ((solved - read).max(0.0), (whole - solved).max(0.0));
-    println!("| {} | {read:.0} | {solve:.0} | {write:.0} | {whole:.0} |", f.name);
+    println!("| {name} | {read:.0} | {solve:.0} | {write:.0} | {whole:.0} |");
 }
 
 /// Smaller trees of the first family, every family of the most leaves, the first of them strict, and last the slowest call of all, strict
-/// ones and the longest labels among them; each beside the random pair of as many leaves.
+/// ones and the longest labels, bare and in quotes, among them; each beside the random pair of as many leaves.
 pub fn run(short: bool) {
     let mut r = Random(80);
     let rounds = if short { 2 } else { 200 };
@@ -81,20 +81,26 @@ pub fn run(short: bool) {
         let [took, _] = times(&families(&mut r, &short_labels(n))[0], rounds);
         row("random, random", n, took, took.0);
     }
-    let all = families(&mut r, &short_labels(LEAVES));
-    let longest = families(&mut r, &long_labels(LEAVES));
-    let mut took: Vec<(String, [Took; 2])> = all.iter().map(|f| (f.name.to_string(), times(f, rounds))).collect();
+    let sorts = all_families(&mut r);
+    let all = &sorts[0].1;
+    let took: Vec<(String, [Took; 2])> =
+        sorts.iter().flat_map(|(sort, fs)| fs.iter().map(move |f| (format!("{}{sort}", f.name), times(f, rounds)))).collect();
     let [random, random_strict] = took[0].1;
-    took.iter().for_each(|(name, [t, _])| row(name, LEAVES, *t, random.0));
+    took[..all.len()].iter().for_each(|(name, [t, _])| row(name, LEAVES, *t, random.0));
     row(&format!("{}, strict", all[0].name), LEAVES, random_strict, random.0);
-    took.extend(longest.iter().map(|f| (format!("{}, labels of {LABEL} bytes", f.name), times(f, rounds))));
-    let calls = took.into_iter().flat_map(|(name, [t, strict])| [(name.clone(), t), (format!("{name}, strict"), strict)]);
+    for (name, [t, _]) in took.iter().step_by(all.len()).skip(1) {
+        row(name, LEAVES, *t, random.0);
+    }
+    let calls = took.iter().flat_map(|(name, [t, strict])| [(name.clone(), t), (format!("{name}, strict"), strict)]);
     let (name, t) = calls.max_by(|a, b| a.1 .0.total_cmp(&b.1 .0)).unwrap();
-    row(&format!("the slowest known: {name}"), LEAVES, t, random.0);
+    row(&format!("the slowest known: {name}"), LEAVES, *t, random.0);
     println!();
     println!("| {LEAVES} leaves, us | read and look up | fill | write | whole |");
     println!("|---|---|---|---|---|");
-    for f in all.iter().filter(|f| f.required.is_empty()) {
-        stages(f, rounds);
+    for f in all.iter().filter(|f| f.bodies.required.is_empty()) {
+        stages(f.name, f, rounds);
+    }
+    for (sort, fs) in &sorts[1..] {
+        stages(&format!("{}{sort}", fs[0].name), &fs[0], rounds);
     }
 }

@@ -1,25 +1,27 @@
 //! Random bodies and jobs through the archive, compared with the oracle: numbers, the text's bytes, and every byte that must stay.
 
 use crate::engine::{self, AgreeResult, FLAGS, STRICT};
-use oracle::bodies::{answer, refused};
-use oracle::families::{families, long_labels, short_labels};
+use oracle::bodies::{answer, joined, refused};
+use oracle::drawn::{alike_bodies, damaged_quoted, large_bodies, large_quoted, small_bodies, small_quoted};
+use oracle::families::all_families;
 use oracle::job::{job, lines, strict};
-use oracle::jobs::{alike_bodies, damaged, large_bodies, small_bodies};
+use oracle::jobs::damaged;
 use oracle::limits::{LEAVES, LINES, TREE_TEXT};
 use oracle::random::Random;
-use oracle::text::is_label_byte;
+use oracle::{agree::Label, text::token};
 
 const FILL: u8 = 0x5a;
 
 /// What a call must come to: the size and the text of an answer, or the line of a refusal.
 type Wanted = Result<(usize, Vec<u8>), String>;
 
-/// The label of the list that begins at a place of a text; the list is the last part of it, after a `;` or alone.
-fn label_at(text: &[u8], at: usize) -> String {
+/// The label of the list whose first byte, or opening quote, stands at a place of a text; the list is the last part of it, after a `;` or
+/// alone.
+fn label_at(text: &[u8], at: usize) -> Label {
     let (before, rest) = text.split_at(at);
-    let begins = !before.last().is_some_and(|&b| is_label_byte(b));
+    let begins = before.last().is_none_or(|b| b",;".contains(b));
     assert!(begins && !rest.contains(&b';'), "no label of the list begins at {at}");
-    rest.iter().take_while(|&&b| is_label_byte(b)).map(|&b| b as char).collect()
+    token(rest, 0).unwrap().label(rest)
 }
 
 /// The line of a refusal, from the numbers that came back for a text; those without a meaning there must be 0.
@@ -27,7 +29,7 @@ fn line(text: &[u8], r: &AgreeResult) -> String {
     let head = refused(r.number.try_into().unwrap(), u8::try_from(r.letter).unwrap() as char, r.place);
     let three = [r.first, r.second, r.third];
     if r.number == 8 && [r.size, r.length] == [0; 2] {
-        return format!("{head} {}", three.map(|at| label_at(text, at)).join(","));
+        return format!("{head} {}", joined(&three.map(|at| label_at(text, at))));
     }
     if [r.size, r.length] == [0; 2] && three == [0; 3] {
         head
@@ -100,22 +102,29 @@ fn check_all(r: &mut Random, bodies: &[Vec<u8>; 3], greatest: usize) {
 pub fn run(count: u64, seed: u64) {
     let mut r = Random(seed);
     for i in 0..count {
-        let mut bodies = if i % 2 == 0 { small_bodies(&mut r) } else { alike_bodies(&mut r, 9) };
+        let (mut bodies, quotes) = match i % 4 {
+            0 => (small_bodies(&mut r), false),
+            1 => (alike_bodies(&mut r, 9), false),
+            _ => (small_quoted(&mut r), true),
+        };
         if r.below(5) == 0 {
             let i = r.below(3);
-            bodies[i] = damaged(&mut r, &bodies[i].clone());
+            bodies[i] = if quotes { damaged_quoted(&mut r, &bodies[i].clone()) } else { damaged(&mut r, &bodies[i].clone()) };
         }
         check_all(&mut r, &bodies, 40);
     }
     for i in 0..count / 10 {
-        let bodies = if i % 2 == 0 { large_bodies(&mut r) } else { alike_bodies(&mut r, LEAVES) };
+        let bodies = match i % 4 {
+            0 => large_bodies(&mut r),
+            1 => alike_bodies(&mut r, LEAVES),
+            _ => large_quoted(&mut r),
+        };
         check_all(&mut r, &bodies, 400);
     }
-    for i in 0..count / 1000 {
-        let xs = if i % 2 == 0 { short_labels(LEAVES) } else { long_labels(LEAVES) };
-        for f in families(&mut r, &xs) {
-            check_all(&mut r, &[f.first.text(), f.second.text(), f.list()], TREE_TEXT);
+    for _ in 0..count / 2000 {
+        for f in all_families(&mut r).iter().flat_map(|(_, fs)| fs) {
+            check_all(&mut r, &f.bodies.texts(), TREE_TEXT);
         }
     }
-    println!("{count} small cases from seed {seed}, {} large ones and {} times each family: the same", count / 10, count / 1000);
+    println!("{count} small cases from seed {seed}, {} large ones and {} times each family: the same", count / 10, count / 2000);
 }

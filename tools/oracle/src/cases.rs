@@ -1,12 +1,14 @@
 //! The stored stream of texts for the readers and the writer: each case is a kind byte (`t` a tree, `l` a list), the length as
 //! two bytes, and the text. What must be printed for it is a line.
 
-use crate::families::long_labels;
+use crate::families::{long_labels, long_quoted};
 use crate::limits::{LABEL, LEAVES, LIST};
+use crate::quotes;
 use crate::random::Random;
-use crate::text::{read_list, read_tree};
+use crate::text::{read_parts, read_tree};
 use crate::trees::{caterpillar, random_tree};
 
+#[derive(Clone)]
 pub struct Case {
     pub kind: u8,
     pub text: Vec<u8>,
@@ -104,10 +106,33 @@ pub fn cases() -> Vec<Case> {
         let l = joined(&names[..n]);
         lists.push(r.damaged(&l, BYTES));
     }
+    [both(trees, lists), quoted_cases()].concat()
+}
+
+fn both(trees: Vec<Vec<u8>>, lists: Vec<Vec<u8>>) -> Vec<Case> {
     let trees = trees.into_iter().map(|text| Case { kind: b't', text });
     let lists = lists.into_iter().map(|text| Case { kind: b'l', text });
     trees.chain(lists).collect()
 }
+
+/// Quotes and underscores. The rest about them is among the jobs, for which there is more room.
+fn quoted_cases() -> Vec<Case> {
+    let mut r = Random(12);
+    let mut trees = quotes::tree_texts();
+    let mut lists = quotes::list_texts();
+    trees.extend(quotes::inside().iter().map(|x| [&x[..], b";"].concat()));
+    trees.extend(quotes::behind());
+    lists.extend(quotes::inside());
+    trees.push(caterpillar(&long_quoted(LEAVES)).text());
+    lists.extend(quotes::full_lists().into_iter().take(6));
+    let [some_trees, some_lists] = quotes::damaged_texts(&mut r, 25);
+    trees.extend(some_trees);
+    lists.extend(some_lists);
+    both(trees, lists)
+}
+
+/// The program that runs the stream takes no more bytes.
+const STREAM: usize = 65_536;
 
 pub fn stream() -> Vec<u8> {
     let mut out = Vec::new();
@@ -116,6 +141,7 @@ pub fn stream() -> Vec<u8> {
         out.extend((c.text.len() as u16).to_be_bytes());
         out.extend(&c.text);
     }
+    assert!(out.len() <= STREAM, "{} bytes", out.len());
     out
 }
 
@@ -138,8 +164,11 @@ pub fn expected() -> Vec<u8> {
         if c.kind == b't' {
             out.extend(normal_line(&c.text));
         } else {
-            match read_list(&c.text) {
-                Ok(xs) => out.extend([format!("list {} ", xs.len()).into_bytes(), joined(&xs)].concat()),
+            match read_parts(&c.text) {
+                Ok((_, parts)) => {
+                    let shown: Vec<Vec<u8>> = parts.iter().map(|p| c.text[p.clone()].to_vec()).collect();
+                    out.extend([format!("list {} ", parts.len()).into_bytes(), joined(&shown)].concat());
+                }
                 Err(f) => out.extend(format!("refused {} K {}", f.number, f.place).bytes()),
             }
         }

@@ -5,23 +5,19 @@ use crate::agree::Label;
 use crate::job::{job, strict};
 use crate::limits::{LABEL, LEAVES};
 use crate::random::Random;
+use crate::spelling::{quoted, Bodies, Form};
 use crate::text::Tree;
 use crate::trees::{balanced, caterpillar, join, leaf, perturbed, random_tree};
 
 pub struct Family {
     pub name: &'static str,
-    pub first: Tree,
-    pub second: Tree,
-    pub required: Vec<Label>,
+    pub bodies: Bodies,
 }
 
 impl Family {
-    pub fn list(&self) -> Vec<u8> {
-        self.required.join(&b","[..])
-    }
-
     pub fn job(&self) -> Vec<u8> {
-        job(&self.first.text(), &self.second.text(), &self.list())
+        let [s, t, k] = self.bodies.texts();
+        job(&s, &t, &k)
     }
 }
 
@@ -29,16 +25,32 @@ pub fn short_labels(n: usize) -> Vec<Label> {
     (0..n).map(|i| format!("taxon{i:02}").into_bytes()).collect()
 }
 
-/// Labels as long as may be that differ in their last two bytes only.
+/// Labels as long as may be that differ in their last two bytes only, bare.
 pub fn long_labels(n: usize) -> Vec<Label> {
-    let head: String = "Label_of_leaf.".chars().cycle().take(LABEL - 2).collect();
+    long_with(n, "Label_of_leaf.")
+}
+
+fn long_with(n: usize, words: &str) -> Vec<Label> {
+    let head: String = words.chars().cycle().take(LABEL - 2).collect();
     (0..n).map(|i| format!("{head}{i:02}").into_bytes()).collect()
 }
 
-/// Labels that stand in no tree of these ones, and differ from them in their last byte only: a digit becomes a letter.
+/// The same labels decoded.
+pub fn long_decoded(n: usize) -> Vec<Label> {
+    long_with(n, "Label of leaf.")
+}
+
+/// Labels like these that hold an underscore, and so stand in quotes wherever they are read or written.
+pub fn long_quoted(n: usize) -> Vec<Label> {
+    long_with(n, "Label_of leaf.").iter().map(|x| quoted(x)).collect()
+}
+
+/// Labels that stand in no tree of these ones, and differ from them in their last digit only: it becomes a letter.
 pub fn strangers(xs: &[Label]) -> Vec<Label> {
     let mut ys = xs.to_vec();
-    ys.iter_mut().for_each(|x| *x.last_mut().unwrap() += b'a' - b'0');
+    for y in &mut ys {
+        *y.iter_mut().rfind(|b| b.is_ascii_digit()).unwrap() += b'a' - b'0';
+    }
     ys
 }
 
@@ -65,7 +77,7 @@ fn put(t: &Tree, x: &Label, part: &Tree) -> Tree {
 fn worst_eight(name: &'static str, rest: &Tree, xs: &[Label]) -> Family {
     let n = xs.len();
     let tree = |other| put(rest, &xs[n - 3], &last_three(&xs[n - 3..], other));
-    Family { name, first: tree(false), second: tree(true), required: xs.to_vec() }
+    Family { name, bodies: Bodies { first: tree(false), second: tree(true), required: xs.to_vec() } }
 }
 
 /// Every family over these labels, at least four of them and in label order.
@@ -91,9 +103,7 @@ pub fn families(r: &mut Random, xs: &[Label]) -> Vec<Family> {
     let others = random_tree(r, &others);
     let family = |name, first: &Tree, second: &Tree, required: &[Label]| Family {
         name,
-        first: first.clone(),
-        second: second.clone(),
-        required: required.to_vec(),
+        bodies: Bodies { first: first.clone(), second: second.clone(), required: required.to_vec() },
     };
     vec![
         family("random, random", &random, &other, &[]),
@@ -117,12 +127,23 @@ pub fn families(r: &mut Random, xs: &[Label]) -> Vec<Family> {
     ]
 }
 
-/// Each family of as many leaves as may be, as a job and as a strict one, with labels of few and of many bytes.
+/// The families of as many leaves as may be, over each sort of labels, which is named.
+pub fn all_families(r: &mut Random) -> Vec<(String, Vec<Family>)> {
+    let short = families(r, &short_labels(LEAVES));
+    let long = families(r, &long_labels(LEAVES));
+    let mut mixed = families(r, &long_decoded(LEAVES));
+    mixed.iter_mut().for_each(|f| f.bodies = f.bodies.spelled(r, [Form::Bare, Form::Quoted, Form::Quoted]));
+    let quoted = families(r, &long_quoted(LEAVES));
+    vec![
+        (String::new(), short),
+        (format!(", labels of {LABEL} bytes"), long),
+        (format!(", labels of {LABEL} bytes, the second tree's in quotes"), mixed),
+        (format!(", labels of {LABEL} bytes in quotes"), quoted),
+    ]
+}
+
+/// Each family as a job and as a strict one.
 pub fn family_jobs() -> Vec<Vec<u8>> {
-    let mut r = Random(80);
-    let mut out = Vec::new();
-    for xs in [short_labels(LEAVES), long_labels(LEAVES)] {
-        out.extend(families(&mut r, &xs).iter().flat_map(|f| [f.job(), strict(&f.job())]));
-    }
-    out
+    let all = all_families(&mut Random(80));
+    all.iter().flat_map(|(_, fs)| fs).flat_map(|f| [f.job(), strict(&f.job())]).collect()
 }

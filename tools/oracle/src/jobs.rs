@@ -1,8 +1,10 @@
 //! The stored stream of jobs: each is its length as two bytes and the job.
 
 use crate::agree::Label;
+use crate::drawn::{labels, small_bodies};
 use crate::job::{job, printed};
 use crate::limits::{DIGITS, JOB, LEAVES, LIST};
+use crate::quoted_jobs::quoted_jobs;
 use crate::random::Random;
 use crate::strict::strict_jobs;
 use crate::trees::{caterpillar, perturbed, random_tree};
@@ -82,15 +84,6 @@ pub fn filled(n: usize, bodies: [&[u8]; 3], body: usize, filler: &[u8]) -> Vec<u
     made
 }
 
-pub fn labels(n: usize) -> Vec<Label> {
-    (0..n).map(|i| format!("t{i}").into_bytes()).collect()
-}
-
-/// Names that begin alike, differ in case only, or are as long as may be.
-fn names() -> Vec<Label> {
-    ["a", "a-", "aa", "A", "_", "-", "Z9", "z", "abcdefghijklmnop", "abcdefghijklmno", "0", "b.c"].iter().map(|x| bytes(x)).collect()
-}
-
 pub fn list(xs: &[Label]) -> Vec<u8> {
     xs.join(&b","[..])
 }
@@ -99,79 +92,6 @@ pub fn list(xs: &[Label]) -> Vec<u8> {
 pub fn small_job(r: &mut Random) -> Vec<u8> {
     let [s, t, k] = small_bodies(r);
     job(&s, &t, &k)
-}
-
-/// Two small trees over some of the names, and a list.
-pub fn small_bodies(r: &mut Random) -> [Vec<u8>; 3] {
-    let mut pool = if r.below(3) == 0 { names() } else { labels(12) };
-    r.shuffle(&mut pool);
-    let n = 1 + r.below(9);
-    let s = random_tree(r, &pool[..n]);
-    let t = match r.below(3) {
-        0 => {
-            let swaps = r.below(4);
-            perturbed(r, &s, swaps)
-        }
-        1 => {
-            r.shuffle(&mut pool[..n]);
-            random_tree(r, &pool[..n])
-        }
-        _ => {
-            let from = r.below(3);
-            let to = from + 1 + r.below(9);
-            let mut some = pool[from..to.min(pool.len())].to_vec();
-            r.shuffle(&mut some);
-            random_tree(r, &some)
-        }
-    };
-    let mut k = if r.below(4) == 0 { pool.clone() } else { s.leaves() };
-    r.shuffle(&mut k);
-    let m = r.below(k.len().min(5) + 1);
-    [s.text(), t.text(), list(&k[..m])]
-}
-
-/// Two trees of up to 80 leaves, some of them shared, and a list that is mostly short.
-pub fn large_bodies(r: &mut Random) -> [Vec<u8>; 3] {
-    let mut pool = labels(100);
-    r.shuffle(&mut pool);
-    let n = 1 + r.below(LEAVES);
-    let from = if r.below(2) == 0 { 0 } else { r.below(100 - n + 1) };
-    let some = pool[from..from + n].to_vec();
-    let s = if r.below(3) == 0 { caterpillar(&pool[..n]) } else { random_tree(r, &pool[..n]) };
-    let t = match r.below(4) {
-        0 => {
-            let swaps = r.below(6);
-            perturbed(r, &s, swaps)
-        }
-        1 => caterpillar(&some),
-        _ => random_tree(r, &some),
-    };
-    let mut k = s.leaves();
-    r.shuffle(&mut k);
-    let m = if r.below(8) == 0 { n } else { r.below(n.min(4) + 1) };
-    [s.text(), t.text(), list(&k[..m])]
-}
-
-/// Two trees over the same labels, at most so many; or one or both over labels of which one was exchanged, added or dropped. And a short
-/// list.
-pub fn alike_bodies(r: &mut Random, most: usize) -> [Vec<u8>; 3] {
-    let mut pool = if most + 2 <= names().len() && r.below(3) == 0 { names() } else { labels(most + 2) };
-    r.shuffle(&mut pool);
-    let n = 1 + r.below(most);
-    let tree = |r: &mut Random, other: &Label| {
-        let mut xs = pool[..n].to_vec();
-        let i = r.below(n);
-        match r.below(9) {
-            0 => xs[i] = other.clone(),
-            1 if n < most => xs.push(other.clone()),
-            2 if n > 1 => drop(xs.remove(i)),
-            _ => (),
-        }
-        random_tree(r, &xs).text()
-    };
-    let (s, t) = (tree(r, &pool[n]), tree(r, &pool[n + 1]));
-    let k = r.below(n.min(4) + 1);
-    [s, t, list(&pool[..k])]
 }
 
 /// A job with a few bytes changed, dropped or added.
@@ -238,6 +158,7 @@ pub fn jobs() -> Vec<Vec<u8>> {
     }
     out.extend(large_jobs(&mut r));
     out.extend(strict_jobs());
+    out.extend(quoted_jobs());
     out
 }
 

@@ -3,12 +3,16 @@
 pub mod agree;
 pub mod bodies;
 pub mod cases;
+pub mod drawn;
 pub mod families;
 pub mod fast;
 pub mod job;
 pub mod jobs;
 pub mod limits;
+pub mod quoted_jobs;
+pub mod quotes;
 pub mod random;
+pub mod spelling;
 pub mod strict;
 pub mod text;
 pub mod trees;

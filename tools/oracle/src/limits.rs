@@ -1,6 +1,6 @@
-//! The limits of the scope paper, and what follows from them.
+//! The limits of the papers, and what follows from them.
 
-/// Bytes of a label.
+/// Bytes of a label, without its quotes.
 pub const LABEL: usize = 16;
 /// Leaves of a tree.
 pub const LEAVES: usize = 80;
@@ -11,7 +11,9 @@ pub const JOB: usize = 8192;
 /// Digits of a length in the contents.
 pub const DIGITS: usize = 4;
 
+/// Bytes of a label in a text: two quotes more.
+pub const TOKEN: usize = LABEL + 2;
 /// Bytes of the longest tree text: the labels, `(`, `,` and `)` of each inner node, and `;`.
-pub const TREE_TEXT: usize = LEAVES * LABEL + 3 * (LEAVES - 1) + 1;
+pub const TREE_TEXT: usize = LEAVES * TOKEN + 3 * (LEAVES - 1) + 1;
 /// Bytes of the longest printed answer.
-pub const LINES: usize = "size 80\nset ".len() + LEAVES * (LABEL + 1) - 1 + "\ntree ".len() + TREE_TEXT + 1;
+pub const LINES: usize = "size 80\nset ".len() + LEAVES * (TOKEN + 1) - 1 + "\ntree ".len() + TREE_TEXT + 1;

@@ -1,9 +1,10 @@
 //! The stored jobs about the contents line `strict`: trees with equal and with unequal leaf sets, and the line where it may not stand.
 
 use crate::agree::{restrict, Label};
+use crate::drawn::{alike_bodies, labels};
 use crate::families::{long_labels, strangers};
 use crate::job::{job, strict};
-use crate::jobs::{alike_bodies, bytes, damaged, damaged_bodies, filled, labels, list, small_job, P, Q, R};
+use crate::jobs::{bytes, damaged, damaged_bodies, filled, list, small_job, P, Q, R};
 use crate::limits::{JOB, LEAVES};
 use crate::random::Random;
 use crate::text::Tree;

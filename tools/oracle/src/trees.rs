@@ -49,15 +49,6 @@ pub fn perturbed(r: &mut Random, t: &Tree, swaps: usize) -> Tree {
         let (i, j) = (r.below(after.len()), r.below(after.len()));
         after.swap(i, j);
     }
-    fn relabel(t: &Tree, next: &mut impl Iterator<Item = Label>) -> Tree {
-        match t {
-            Tree::Leaf(_) => Tree::Leaf(next.next().unwrap()),
-            Tree::Node(a, b) => {
-                let a = relabel(a, next);
-                let b = relabel(b, next);
-                Tree::Node(Box::new(a), Box::new(b))
-            }
-        }
-    }
-    relabel(t, &mut after.into_iter())
+    let mut next = after.into_iter();
+    t.relabelled(&mut |_| next.next().unwrap())
 }

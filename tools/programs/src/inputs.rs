@@ -1,6 +1,6 @@
 //! What the programs are given.
 
-use oracle::families::{family_jobs, long_labels};
+use oracle::families::{family_jobs, long_labels, long_quoted};
 use oracle::job::{job, printed, strict};
 use oracle::limits::{JOB, LABEL, LEAVES, LINES, LIST, TREE_TEXT};
 use oracle::trees::caterpillar;
@@ -19,7 +19,7 @@ fn files(folder: &str, end: &str) -> Vec<Vec<u8>> {
 
 /// A job of just so many bytes whose contents are right: one of the bodies is too long by far.
 fn of_length(n: usize, body: usize) -> Vec<u8> {
-    let filler = [&b"a,"[..], b"a", b"(", b" "][n % 4];
+    let filler = [&b"a,"[..], b"a", b"(", b" ", b"'", b",'a '"][n % 6];
     jobs::filled(n, [b"((a,b),c);", b"((a,c),b);", b"a"], body, filler)
 }
 
@@ -33,11 +33,14 @@ fn stray() -> Vec<u8> {
     strict(&job(b"((a,b),c);", b"((c,(b,a)),x);", b",,"))
 }
 
-/// As many labels of as many bytes as may be, all in the answer: no answer is longer.
+/// All of these labels in both trees, in the list and so in the answer.
+fn all_of(xs: &[Vec<u8>]) -> Vec<u8> {
+    job(&caterpillar(xs).text(), &caterpillar(xs).mirrored().text(), &xs.join(&b","[..]))
+}
+
+/// As many labels of as many bytes as may be, quotes included: no answer is longer.
 fn greatest() -> Vec<u8> {
-    let xs = long_labels(LEAVES);
-    let tree = caterpillar(&xs).text();
-    let made = job(&tree, &caterpillar(&xs).mirrored().text(), &xs.join(&b","[..]));
+    let made = all_of(&long_quoted(LEAVES));
     assert_eq!(printed(&made).len(), LINES);
     made
 }
@@ -75,20 +78,24 @@ fn long_jobs() -> Vec<Vec<u8>> {
 /// Each reason of a body in each body, and those that need more than one.
 fn refusals() -> Vec<Vec<u8>> {
     let (long, deep, many) = ("a".repeat(LABEL + 1), "(".repeat(LEAVES), long_labels(LIST + 1).join(&b","[..]));
+    let (quoted, open) = (format!("'{long}'"), long_quoted(LIST).join(&b","[..]));
     let mut out = Vec::new();
-    for text in ["(a b);", "(a,b)", &long, &deep, "(a,a);"] {
+    for text in ["(a b);", "(a,b)", &long, &deep, "(a,a);", "(a,'');", "(a,'a", &quoted, "(a_b,'a b');"] {
         out.push(job(text.as_bytes(), b"(", b","));
         out.push(job(b"(a,b);", text.as_bytes(), b","));
     }
-    for list in [&b"a b"[..], b"a,", long.as_bytes(), &many, b"a,a"] {
+    let more = [&open[..], b",'"].concat();
+    for list in [&b"a b"[..], b"a,", long.as_bytes(), &many, b"a,a", b"''", b"a,'a", quoted.as_bytes(), &more, b"a_b,'a b'"] {
         out.push(job(b"(a,b);", b"(b,c);", list));
     }
     out.push(job(b"(a,b);", b"(b,c);", b"b,c"));
     out.push(job(b"(a,b);", b"(b,c);", b"b,a,c"));
     out.push(job(b"((a,b),c);", b"((a,c),b);", b"c,b,a"));
+    out.push(job(b"((a_b,'c_d'),'e');", b"(('a b',e),'c_d');", b"'e','c_d',a_b"));
     out.push(b"S 2".to_vec());
     out.push(job(b"((a,b),c);", b"((b,a),x);", b""));
     out.push(job(b"(a,b);", b"((b,x),a);", b"x"));
+    out.push(job(b"('a b',b);", b"((b,'a_b'),a_b);", b"'a_b'"));
     out
 }
 
@@ -97,6 +104,7 @@ pub fn jobs(examples: &str) -> Vec<Vec<u8>> {
     out.push(Vec::new());
     out.push(greatest());
     out.push(strict(&greatest()));
+    out.push(all_of(&long_labels(LEAVES)));
     out.push(stray());
     out.extend(refusals().iter().flat_map(|x| [x.clone(), strict(x)]));
     out.extend(long_jobs());
@@ -123,10 +131,16 @@ pub fn slow_jobs() -> Vec<Vec<u8>> {
     ]
 }
 
+fn greatest_text() -> Vec<u8> {
+    let made = caterpillar(&long_quoted(LEAVES)).mirrored().text();
+    assert_eq!(made.len(), TREE_TEXT);
+    made
+}
+
 /// The greatest tree text, and what may come after it.
 fn long_texts() -> Vec<Vec<u8>> {
-    let greatest = caterpillar(&long_labels(LEAVES)).mirrored().text();
-    let mut out = vec![greatest.clone()];
+    let greatest = greatest_text();
+    let mut out = vec![greatest.clone(), caterpillar(&long_labels(LEAVES)).mirrored().text()];
     for n in [TREE_TEXT + 1, 4095, 4096, 4097, JOB, JOB + 1, 65_536, 3 * MEGABYTE] {
         let mut x = greatest.clone();
         x.resize(n, b' ');
@@ -135,6 +149,8 @@ fn long_texts() -> Vec<Vec<u8>> {
         out.push(vec![b'('; n]);
         out.push(vec![b' '; n]);
         out.push([&b"("[..], &vec![b'a'; n]].concat());
+        out.push(vec![b'\''; n]);
+        out.push([&b"'"[..], &vec![b' '; n]].concat());
     }
     out
 }
@@ -147,6 +163,6 @@ pub fn texts(examples: &str) -> Vec<Vec<u8>> {
 }
 
 pub fn slow_texts() -> Vec<Vec<u8>> {
-    let greatest = caterpillar(&long_labels(LEAVES)).mirrored().text();
+    let greatest = greatest_text();
     vec![Vec::new(), b"((d,c),(b,a));".to_vec(), b"(a,b c);".to_vec(), greatest.clone(), [greatest, b"\n".to_vec()].concat(), vec![b'('; 5000]]
 }

@@ -5,17 +5,19 @@ use mathlib.Core.Path.{_≡_, refl, sym, _∙_}
 use native.Mathlib.Omega.{arith}
 use borrow.Author.Needs.{needs}
 use Rattle.trees.specs.Arrays.{nodeLimit}
+use Rattle.trees.specs.Token.{spelling}
 use Rattle.leaves.specs.Find.{labelled, leafFrom, foundLeaf}
 use Rattle.leaves.proofs.FindLaws.{from-hit, from-miss, from-end}
 use Rattle.leaves.proofs.find_leaf.Statement.{statement}
 use Rattle.leaves.proofs.find_leaf.Tie as tie
 
 abbrev Inv-loop : tie.InvT-loop
-Inv-loop text left start size nodes label end u₀ u =
-    (u ≤ end) × (end ≤ nodeLimit) × (leafFrom (labelled text left start size label) (end - u) u ≡ foundLeaf text left start size label nodes)
+Inv-loop text left start size nodes token end u₀ u =
+    (u ≤ end) × (end ≤ nodeLimit)
+    × (leafFrom (labelled text left start size (spelling token)) (end - u) u ≡ foundLeaf text left start size (spelling token) nodes)
 
 abbrev μ-loop : tie.MeasureT-loop
-μ-loop text left start size nodes label end u₀ u =
+μ-loop text left start size nodes token end u₀ u =
     end - u
 
 least-requires : tie.Need-least-requires Inv-loop μ-loop

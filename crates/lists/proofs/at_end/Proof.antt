@@ -7,15 +7,6 @@ use borrow.Author.Needs.{needs}
 use Rattle.lists.proofs.at_end.Statement.{statement}
 use Rattle.lists.proofs.at_end.Tie as tie
 
-enum-told : tie.Need-enum-told
-enum-told c = search needs
-
-enum-told-2 : tie.Need-enum-told-2
-enum-told-2 c = search needs
-
-enum-known-stage : tie.Need-enum-known-stage
-enum-known-stage c = search needs
-
 keep-requires : tie.Need-keep-requires
 keep-requires c κs =
     rw (c .before .before .before .stage .given .1) at (c .before .before .before .before .before .before .pre)
@@ -24,8 +15,8 @@ returns : tie.Need-returns
 returns c =
     rw (c .before .before .before .before .before .stage .given .1) (end-repeat _ _ _ _ _ _ _ _ _ (c .before .keep .ensures) _ _ (c .if1 .taken))
 
-add-t18 : tie.Need-add-t18
-add-t18 c =
+add-t16 : tie.Need-add-t16
+add-t16 c =
     omega (arith, rw (c .before .before .before .before .before .stage .given .1) at (c .before .before .before .before .before .before .before .before .pre))
 
 returns-2 : tie.Need-returns-2
@@ -36,22 +27,38 @@ returns-2 c =
 returns-3 : tie.Need-returns-3
 unfolding endAt
 returns-3 c =
-    rw (c .enum-told2 .given .1) refl
+    rw (c .before .enum-told2 .given .1, c .too-soon .ensures) refl
 
 returns-4 : tie.Need-returns-4
 returns-4 c =
     rw (c .before .before .before .before .before .stage .given .1) (end-new _ _ _ _ _ _ _ _ _ (c .before .keep .ensures) _ _ (c .if1 .left))
 
+returns-5 : tie.Need-returns-5
+unfolding endAt
+returns-5 c =
+    rw (c .before .enum-told3 .given .1, c .too-soon2 .ensures) refl
+
+returns-6 : tie.Need-returns-6
+unfolding endAt
+returns-6 c =
+    rw (c .before .stage2 .given .1) refl
+
 pub at-end-spec : {M : Type 1} → statement M
 at-end-spec =
     tie.close
     (tie.spec
-    enum-told
-    enum-told-2
-    enum-known-stage
+    (λ c. search needs)
+    (λ c. search needs)
+    (λ c κs. search needs)
+    (λ c. search needs)
     keep-requires
     returns
-    add-t18
+    add-t16
+    (λ c. search needs)
+    (λ c κs. search needs)
+    (λ c. search needs)
     returns-2
     returns-3
-    returns-4)
+    returns-4
+    returns-5
+    returns-6)

@@ -5,24 +5,13 @@ use borrow.Author.Needs.{needs}
 use Rattle.lists.proofs.step.Statement.{statement}
 use Rattle.lists.proofs.step.Tie as tie
 
-enum-told : tie.Need-enum-told
-enum-told c = search needs
-
-due-requires : tie.Need-due-requires
-due-requires c κs = search needs
-
-enum-known-stage : tie.Need-enum-known-stage
-enum-known-stage c = search needs
-
-due-requires-2 : tie.Need-due-requires-2
-due-requires-2 c κs = search needs
-
-enum-known-stage-2 : tie.Need-enum-known-stage-2
-enum-known-stage-2 c = search needs
-
-inside-requires : tie.Need-inside-requires
-inside-requires c κs =
+bare-requires : tie.Need-bare-requires
+bare-requires c κs =
     rw (c .before .before .before .stage2 .given .1) at (c .before .before .before .before .before .before .pre)
+
+quoted-requires : tie.Need-quoted-requires
+quoted-requires c κs =
+    rw (c .before .before .before .stage3 .given .1) at (c .before .before .before .before .before .before .pre)
 
 returns : tie.Need-returns
 unfolding stepOf
@@ -37,18 +26,34 @@ returns-2 c =
 returns-3 : tie.Need-returns-3
 unfolding stepOf
 returns-3 c =
-    rw (c .before .before .before .before .stage2 .given .1) (c .inside .ensures)
+    rw (c .before .before .before .before .stage2 .given .1) (c .bare .ensures)
+
+returns-4 : tie.Need-returns-4
+unfolding stepOf
+returns-4 c =
+    rw (c .before .before .before .before .stage3 .given .1) (c .quoted .ensures)
+
+returns-5 : tie.Need-returns-5
+unfolding stepOf
+returns-5 c =
+    rw (c .before .before .stage4 .given .1, c .after-quote .ensures) refl
 
 pub step-spec : {M : Type 1} → statement M
 step-spec =
     tie.close
     (tie.spec
-    enum-told
-    due-requires
-    enum-known-stage
-    due-requires-2
-    enum-known-stage-2
-    inside-requires
+    (λ c. search needs)
+    (λ c κs. search needs)
+    (λ c. search needs)
+    (λ c κs. search needs)
+    (λ c. search needs)
+    bare-requires
+    (λ c. search needs)
+    quoted-requires
+    (λ c. search needs)
+    (λ c κs. search needs)
     returns
     returns-2
-    returns-3)
+    returns-3
+    returns-4
+    returns-5)

@@ -8,7 +8,7 @@ use types.Run.{OneOf}
 use denote.Enum.Declared.{tagOf}
 use Rattle.newick.specs.declared.Scan.{Scan}
 use Rattle.newick.specs.declared.Mode.{Mode}
-use Rattle.newick.specs.declared.Mode.the-variants.{Due, Inside, After, Done}
+use Rattle.newick.specs.declared.Mode.the-variants.{Due, Inside, Quoted, After, Done}
 use Rattle.trees.specs.declared.Body.{Body}
 use Rattle.trees.specs.declared.Reason.the-variants.{EndsTooSoon}
 use Rattle.newick.specs.Machine.{answerOf, refusal}
@@ -20,13 +20,14 @@ use Rattle.newick.proofs.at_end.Statement.{statement}
 use Rattle.newick.proofs.at_end.Tie as tie
 
 -- the other modes end too soon
-rest : (m : Mode) (text : List ℕ) (body : Body) (st : Scan) (start size : List ℕ) → OneOf (0 ∷ 2 ∷ []) (tagOf the-type m)
+rest : (m : Mode) (text : List ℕ) (body : Body) (st : Scan) (start size : List ℕ) → OneOf (0 ∷ 2 ∷ 3 ∷ []) (tagOf the-type m)
     → refusal body EndsTooSoon (length text) ≡ answerOf m text body st start size
 unfolding answerOf
 rest Due text body st start size h = refl
-rest (Inside first len) text body st start size h = absurd (left-over (0 ∷ 2 ∷ []) 1 refl h)
+rest (Inside first len) text body st start size h = absurd (left-over (0 ∷ 2 ∷ 3 ∷ []) 1 refl h)
+rest (Quoted first len) text body st start size h = refl
 rest (After u) text body st start size h = refl
-rest Done text body st start size h = absurd (left-over (0 ∷ 2 ∷ []) 3 refl h)
+rest Done text body st start size h = absurd (left-over (0 ∷ 2 ∷ 3 ∷ []) 4 refl h)
 
 enum-told : tie.Need-enum-told
 enum-told c = search needs

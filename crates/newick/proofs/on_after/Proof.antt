@@ -8,7 +8,7 @@ use types.Run.{OneOf}
 use denote.Enum.Declared.{tagOf}
 use Rattle.newick.specs.declared.Scan.{Scan}
 use Rattle.trees.specs.declared.Kind.{Kind}
-use Rattle.trees.specs.declared.Kind.the-variants.{Label, Open, Close, Comma, Semicolon, Other}
+use Rattle.trees.specs.declared.Kind.the-variants.{Label, Open, Close, Comma, Semicolon, Quote, Blank, Other}
 use Rattle.trees.specs.declared.Reason.the-variants.{BadByte}
 use Rattle.trees.proofs.Kind.{the-type}
 use Rattle.newick.proofs.Keys.{left-over}
@@ -17,13 +17,15 @@ use Rattle.newick.proofs.on_after.Statement.{statement}
 use Rattle.newick.proofs.on_after.Tie as tie
 
 -- no other kind follows a node
-rest : (st : Scan) (a : Arrays) (u i : ℕ) (k : Kind) → OneOf (0 ∷ 1 ∷ 5 ∷ []) (tagOf the-type k) → halt BadByte i ≡ afterOf st a u i k
+rest : (st : Scan) (a : Arrays) (u i : ℕ) (k : Kind) → OneOf (0 ∷ 1 ∷ 5 ∷ 6 ∷ 7 ∷ []) (tagOf the-type k) → halt BadByte i ≡ afterOf st a u i k
 unfolding afterOf
 rest st a u i Label h = refl
 rest st a u i Open h = refl
-rest st a u i Close h = absurd (left-over (0 ∷ 1 ∷ 5 ∷ []) 2 refl h)
-rest st a u i Comma h = absurd (left-over (0 ∷ 1 ∷ 5 ∷ []) 3 refl h)
-rest st a u i Semicolon h = absurd (left-over (0 ∷ 1 ∷ 5 ∷ []) 4 refl h)
+rest st a u i Close h = absurd (left-over (0 ∷ 1 ∷ 5 ∷ 6 ∷ 7 ∷ []) 2 refl h)
+rest st a u i Comma h = absurd (left-over (0 ∷ 1 ∷ 5 ∷ 6 ∷ 7 ∷ []) 3 refl h)
+rest st a u i Semicolon h = absurd (left-over (0 ∷ 1 ∷ 5 ∷ 6 ∷ 7 ∷ []) 4 refl h)
+rest st a u i Quote h = refl
+rest st a u i Blank h = refl
 rest st a u i Other h = refl
 
 enum-told : tie.Need-enum-told

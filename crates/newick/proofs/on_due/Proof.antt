@@ -7,7 +7,7 @@ use denote.Enum.Declared.{tagOf}
 use Rattle.newick.specs.Machine.{Arrays, halt, dueOf}
 use Rattle.newick.specs.declared.Scan.{Scan}
 use Rattle.trees.specs.declared.Kind.{Kind}
-use Rattle.trees.specs.declared.Kind.the-variants.{Label, Open, Close, Comma, Semicolon, Other}
+use Rattle.trees.specs.declared.Kind.the-variants.{Label, Open, Close, Comma, Semicolon, Quote, Blank, Other}
 use Rattle.trees.specs.declared.Reason.the-variants.{BadByte}
 use Rattle.trees.proofs.Kind.{the-type}
 use Rattle.newick.proofs.Keys.{left-over}
@@ -17,32 +17,16 @@ use Rattle.newick.proofs.on_due.Statement.{statement}
 use Rattle.newick.proofs.on_due.Tie as tie
 
 -- no other kind begins a node
-rest : (st : Scan) (a : Arrays) (i : ℕ) (k : Kind) → OneOf (2 ∷ 3 ∷ 4 ∷ 5 ∷ []) (tagOf the-type k) → halt BadByte i ≡ dueOf st a i k
+rest : (st : Scan) (a : Arrays) (i : ℕ) (k : Kind) → OneOf (2 ∷ 3 ∷ 4 ∷ 6 ∷ 7 ∷ []) (tagOf the-type k) → halt BadByte i ≡ dueOf st a i k
 unfolding dueOf
-rest st a i Label h = absurd (left-over (2 ∷ 3 ∷ 4 ∷ 5 ∷ []) 0 refl h)
-rest st a i Open h = absurd (left-over (2 ∷ 3 ∷ 4 ∷ 5 ∷ []) 1 refl h)
+rest st a i Label h = absurd (left-over (2 ∷ 3 ∷ 4 ∷ 6 ∷ 7 ∷ []) 0 refl h)
+rest st a i Open h = absurd (left-over (2 ∷ 3 ∷ 4 ∷ 6 ∷ 7 ∷ []) 1 refl h)
 rest st a i Close h = refl
 rest st a i Comma h = refl
 rest st a i Semicolon h = refl
+rest st a i Quote h = absurd (left-over (2 ∷ 3 ∷ 4 ∷ 6 ∷ 7 ∷ []) 5 refl h)
+rest st a i Blank h = refl
 rest st a i Other h = refl
-
-enum-told : tie.Need-enum-told
-enum-told c = search needs
-
-enum-told-2 : tie.Need-enum-told-2
-enum-told-2 c = search needs
-
-mul-stack : tie.Need-mul-stack
-mul-stack c = search needs
-
-element-write-stack : tie.Need-element-write-stack
-element-write-stack c = search needs
-
-add-t11 : tie.Need-add-t11
-add-t11 c = search needs
-
-add-t15 : tie.Need-add-t15
-add-t15 c = search needs
 
 returns : tie.Need-returns
 unfolding dueOf
@@ -60,20 +44,16 @@ returns-3 c l r s z =
     rw (c .before .before .enum-told2 .given .1) (rw (le-ltb _ _ (c .if1 .left)))
 
 returns-4 : tie.Need-returns-4
+unfolding dueOf
 returns-4 c l r s z =
-    rest _ _ _ _ (c .match .keys3)
+    rw (c .enum-told3 .given .1)
+
+returns-5 : tie.Need-returns-5
+returns-5 c l r s z =
+    rest _ _ _ _ (c .match .keys4)
 
 pub on-due-spec : {M : Type 1} → statement M
 on-due-spec =
     tie.close
-    (tie.spec
-    enum-told
-    enum-told-2
-    mul-stack
-    element-write-stack
-    add-t11
-    add-t15
-    returns
-    returns-2
-    returns-3
-    returns-4)
+    (tie.spec (λ c. search needs) (λ c. search needs) (λ c. search needs) (λ c. search needs) (λ c. search needs) (λ c. search needs)
+    (λ c. search needs) returns returns-2 returns-3 returns-4 returns-5)

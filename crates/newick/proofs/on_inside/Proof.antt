@@ -8,7 +8,7 @@ use types.Run.{OneOf}
 use denote.Enum.Declared.{tagOf}
 use Rattle.newick.specs.declared.Scan.{Scan}
 use Rattle.trees.specs.declared.Kind.{Kind}
-use Rattle.trees.specs.declared.Kind.the-variants.{Label, Open, Close, Comma, Semicolon, Other}
+use Rattle.trees.specs.declared.Kind.the-variants.{Label, Open, Close, Comma, Semicolon, Quote, Blank, Other}
 use Rattle.trees.proofs.Kind.{the-type}
 use Rattle.newick.proofs.Keys.{left-over}
 use borrow.Author.Needs.{needs}
@@ -16,14 +16,16 @@ use Rattle.newick.proofs.on_inside.Statement.{statement}
 use Rattle.newick.proofs.on_inside.Tie as tie
 
 -- every other kind ends the label
-rest : (text : List ℕ) (st : Scan) (a : Arrays) (first len i : ℕ) (k : Kind) → OneOf (1 ∷ 2 ∷ 3 ∷ 4 ∷ 5 ∷ []) (tagOf the-type k)
+rest : (text : List ℕ) (st : Scan) (a : Arrays) (first len i : ℕ) (k : Kind) → OneOf (1 ∷ 2 ∷ 3 ∷ 4 ∷ 5 ∷ 6 ∷ 7 ∷ []) (tagOf the-type k)
     → labelEnd text st a first len i k ≡ insideOf text st a first len i k
 unfolding insideOf
-rest text st a first len i Label h = absurd (left-over (1 ∷ 2 ∷ 3 ∷ 4 ∷ 5 ∷ []) 0 refl h)
+rest text st a first len i Label h = absurd (left-over (1 ∷ 2 ∷ 3 ∷ 4 ∷ 5 ∷ 6 ∷ 7 ∷ []) 0 refl h)
 rest text st a first len i Open h = refl
 rest text st a first len i Close h = refl
 rest text st a first len i Comma h = refl
 rest text st a first len i Semicolon h = refl
+rest text st a first len i Quote h = refl
+rest text st a first len i Blank h = refl
 rest text st a first len i Other h = refl
 
 enum-told : tie.Need-enum-told

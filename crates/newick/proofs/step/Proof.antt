@@ -1,8 +1,8 @@
 -- `step` takes the step `moveOf` on the byte's kind, which the class table tells. Assumes nothing.
 use mathlib.Core.Path.{sym, ap, _∙_}
 use Rattle.trees.proofs.ByteLaws.{kind-told}
-use Rattle.newick.specs.Machine.{dueOf, insideOf, afterOf}
-use Rattle.newick.proofs.MachineLaws.{ready-as, move-due, move-inside, move-after, move-done}
+use Rattle.newick.specs.Machine.{dueOf, insideOf, quotedOf, afterOf}
+use Rattle.newick.proofs.MachineLaws.{ready-as, move-due, move-inside, move-quoted, move-after, move-done}
 use borrow.Author.Needs.{needs}
 use Rattle.newick.proofs.step.Statement.{statement}
 use Rattle.newick.proofs.step.Tie as tie
@@ -31,10 +31,19 @@ on-inside-requires c κs =
 enum-known-mode-2 : tie.Need-enum-known-mode-2
 enum-known-mode-2 c = search needs
 
+on-quoted-requires : tie.Need-on-quoted-requires
+on-quoted-requires c κs =
+    let m = c .before .before .before .before .before in
+    let h = ready-as _ (m .mode2 .given .1) (m .before .before .before .before .before .pre .1) in
+    (h .0, (h .1, h .2))
+
+enum-known-mode-3 : tie.Need-enum-known-mode-3
+enum-known-mode-3 c = search needs
+
 on-after-requires : tie.Need-on-after-requires
 on-after-requires c κs =
     let m = c .before .before .before .before in
-    let h = ready-as _ (m .mode2 .given .1) (m .before .before .before .before .before .pre .1) in
+    let h = ready-as _ (m .mode3 .given .1) (m .before .before .before .before .before .pre .1) in
     (h .0, (h .1, h .2))
 
 enum-told-2 : tie.Need-enum-told-2
@@ -57,14 +66,22 @@ returns-2 c =
 
 returns-3 : tie.Need-returns-3
 returns-3 c =
-    let p = c .before .before .before .before .before .before .before in
+    let p = c .before .before .before .before .before .before .before .before in
     let b = p .before .shared-slice-known2 .given (p .before .before .before .args .at) in
     let k = kind-told _ _ _ (p .before .before .before .pre .0 .1) (b .fits) (p .kind-in .ensures) in
-    let m = c .before .before .before .before .before .mode2 in
-    c .on-after .ensures _ _ ∙ ap (afterOf _ _ _ _) k ∙ sym (move-after _ _ _ _ _ _ _ (m .given .1))
+    let m = c .before .before .before .before .before .before .mode2 in
+    c .on-quoted .ensures _ ∙ ap (quotedOf _ _ _ _ _ _) k ∙ sym (move-quoted _ _ _ _ _ _ _ _ (m .given .1))
 
 returns-4 : tie.Need-returns-4
 returns-4 c =
+    let p = c .before .before .before .before .before .before .before in
+    let b = p .before .shared-slice-known2 .given (p .before .before .before .args .at) in
+    let k = kind-told _ _ _ (p .before .before .before .pre .0 .1) (b .fits) (p .kind-in .ensures) in
+    let m = c .before .before .before .before .before .mode3 in
+    c .on-after .ensures _ _ ∙ ap (afterOf _ _ _ _) k ∙ sym (move-after _ _ _ _ _ _ _ (m .given .1))
+
+returns-5 : tie.Need-returns-5
+returns-5 c =
     sym (move-done _ _ _ _ _ _ (c .enum-told2 .given .1))
 
 pub step-spec : {M : Type 1} → statement M
@@ -78,9 +95,12 @@ step-spec =
     enum-known-mode
     on-inside-requires
     enum-known-mode-2
+    on-quoted-requires
+    enum-known-mode-3
     on-after-requires
     enum-told-2
     returns
     returns-2
     returns-3
-    returns-4)
+    returns-4
+    returns-5)

@@ -1,12 +1,26 @@
 -- `comes_before` meets its contract: the comparison says less. Assumes nothing.
 use mathlib.Core.Path.{sym, _∙_}
-use Rattle.trees.proofs.LabelLaws.{order-less, equal-before, greater-before}
 use borrow.Author.Needs.{needs}
+use Rattle.trees.specs.Label.{orderOf}
+use Rattle.trees.proofs.LabelLaws.{order-less, equal-before, greater-before}
+use Rattle.trees.proofs.DecodeLaws.{both-told}
 use Rattle.trees.proofs.comes_before.Statement.{statement}
 use Rattle.trees.proofs.comes_before.Tie as tie
 
-compare-requires : tie.Need-compare-requires
-compare-requires c κs = search needs
+inner-requires : tie.Need-inner-requires
+inner-requires c κs = search needs
+
+is-quoted-requires : tie.Need-is-quoted-requires
+is-quoted-requires c κs = search needs
+
+inner-requires-2 : tie.Need-inner-requires-2
+inner-requires-2 c κs = search needs
+
+is-quoted-requires-2 : tie.Need-is-quoted-requires-2
+is-quoted-requires-2 c κs = search needs
+
+compare-read-requires : tie.Need-compare-read-requires
+compare-read-requires c κs = search needs
 
 enum-told : tie.Need-enum-told
 enum-told c = search needs
@@ -19,17 +33,34 @@ enum-told-3 c = search needs
 
 returns : tie.Need-returns
 returns c =
-    sym (order-less _ _ (sym (c .before .before .compare .ensures) ∙ c .enum-told .given .1))
+    let a = c .before .before .before .before .before .before .before .before .before .args in
+    let same = both-told orderOf (a .a .now) (a .b .now) _ _ _ _ (c .before .before .before .before .before .before .inner .ensures) (c .before .before .before .before .before .is-quoted .ensures) (c .before .before .before .before .inner2 .ensures) (c .before .before .before .is-quoted2 .ensures) in
+    sym (order-less _ _ (sym same ∙ sym (c .before .before .compare-read .ensures) ∙ c .enum-told .given .1))
 
 returns-2 : tie.Need-returns-2
 returns-2 c =
-    sym (equal-before _ _ (sym (c .before .before .compare .ensures) ∙ c .enum-told2 .given .1))
+    let a = c .before .before .before .before .before .before .before .before .before .args in
+    let same = both-told orderOf (a .a .now) (a .b .now) _ _ _ _ (c .before .before .before .before .before .before .inner .ensures) (c .before .before .before .before .before .is-quoted .ensures) (c .before .before .before .before .inner2 .ensures) (c .before .before .before .is-quoted2 .ensures) in
+    sym (equal-before _ _ (sym same ∙ sym (c .before .before .compare-read .ensures) ∙ c .enum-told2 .given .1))
 
 returns-3 : tie.Need-returns-3
 returns-3 c =
-    sym (greater-before _ _ (sym (c .before .before .compare .ensures) ∙ c .enum-told3 .given .1))
+    let a = c .before .before .before .before .before .before .before .before .before .args in
+    let same = both-told orderOf (a .a .now) (a .b .now) _ _ _ _ (c .before .before .before .before .before .before .inner .ensures) (c .before .before .before .before .before .is-quoted .ensures) (c .before .before .before .before .inner2 .ensures) (c .before .before .before .is-quoted2 .ensures) in
+    sym (greater-before _ _ (sym same ∙ sym (c .before .before .compare-read .ensures) ∙ c .enum-told3 .given .1))
 
 pub comes-before-spec : {M : Type 1} → statement M
 comes-before-spec =
     tie.close
-    (tie.spec compare-requires enum-told enum-told-2 enum-told-3 returns returns-2 returns-3)
+    (tie.spec
+    inner-requires
+    is-quoted-requires
+    inner-requires-2
+    is-quoted-requires-2
+    compare-read-requires
+    enum-told
+    enum-told-2
+    enum-told-3
+    returns
+    returns-2
+    returns-3)

@@ -1,6 +1,6 @@
 -- `compare_stored` meets its contract: the parts that it compares are the stored labels. Assumes nothing.
-use Rattle.trees.specs.Stored.{storedBytes}
 use borrow.Author.Needs.{needs}
+use Rattle.trees.specs.Stored.{storedBytes}
 use Rattle.trees.proofs.compare_stored.Statement.{statement}
 use Rattle.trees.proofs.compare_stored.Tie as tie
 
@@ -21,7 +21,8 @@ compare-requires c κs = search needs
 
 returns : tie.Need-returns
 unfolding storedBytes
-returns c = cc
+returns c =
+    cc
 
 pub compare-stored-spec : {M : Type 1} → statement M
 compare-stored-spec =

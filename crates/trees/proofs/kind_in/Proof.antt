@@ -37,16 +37,37 @@ returns-5 c =
 returns-6 : tie.Need-returns-6
 unfolding kindOfCode
 returns-6 c =
+    rw (c .match .keys6) refl
+
+returns-7 : tie.Need-returns-7
+unfolding kindOfCode
+returns-7 c =
+    rw (c .match .keys7) refl
+
+returns-8 : tie.Need-returns-8
+unfolding kindOfCode
+returns-8 c =
     let r = c .match .rest in
     simp (
-      ne-eqb _ 1 (r .0 .0 .0 .0 .1),
-      ne-eqb _ 2 (r .0 .0 .0 .1),
-      ne-eqb _ 3 (r .0 .0 .1),
-      ne-eqb _ 4 (r .0 .1),
-      ne-eqb _ 5 (r .1),
+      ne-eqb _ 1 (r .0 .0 .0 .0 .0 .0 .1),
+      ne-eqb _ 2 (r .0 .0 .0 .0 .0 .1),
+      ne-eqb _ 3 (r .0 .0 .0 .0 .1),
+      ne-eqb _ 4 (r .0 .0 .0 .1),
+      ne-eqb _ 5 (r .0 .0 .1),
+      ne-eqb _ 6 (r .0 .1),
+      ne-eqb _ 7 (r .1),
     )
 
 pub kind-in-spec : {M : Type 1} → statement M
 kind-in-spec =
     tie.close
-    (tie.spec element-copy-out-class returns returns-2 returns-3 returns-4 returns-5 returns-6)
+    (tie.spec
+    element-copy-out-class
+    returns
+    returns-2
+    returns-3
+    returns-4
+    returns-5
+    returns-6
+    returns-7
+    returns-8)

@@ -1,22 +1,31 @@
 -- `stored` meets its contract. The loop keeps that the first i bytes are copied and 0 stands after them. Assumes nothing.
-use Rattle.trees.proofs.StoredLaws.{one-more, all-copied}
 use Prim.Native.Nat.{_≤_, _-_, min}
-use mathlib.Core.Path.{_≡_, refl, _∙_}
-use mathlib.Core.List.{_++_}
-use lib.ListN.{length, take, replicate}
-use Rattle.trees.specs.Label.{labelLimit}
+use mathlib.Core.Path.{_≡_, refl, sym, _∙_, ap}
 use native.Mathlib.Omega.{arith}
+use lib.ListN.{length}
 use borrow.Author.Needs.{needs}
+use Rattle.trees.specs.Label.{labelLimit}
+use Rattle.trees.specs.Stored.{readAs, storedOf}
+use Rattle.trees.proofs.StoredLaws.{copied, copy-next, stored-made}
+use Rattle.trees.proofs.DecodeLaws.{read-size, read-at, spelling-told}
 use Rattle.trees.proofs.stored.Statement.{statement}
 use Rattle.trees.proofs.stored.Tie as tie
 
 abbrev Inv-loop : tie.InvT-loop
-Inv-loop label len bytes₀ i₀ bytes i =
-    (i ≤ len) × (len ≡ min (length label) labelLimit) × (bytes ≡ take i label ++ replicate (labelLimit - i) 0)
+Inv-loop token x quoted len bytes₀ i₀ bytes i =
+    (i ≤ len) × (len ≡ min (length x) labelLimit) × (bytes ≡ copied labelLimit (readAs quoted x) i)
 
 abbrev μ-loop : tie.MeasureT-loop
-μ-loop label len bytes₀ i₀ bytes i =
+μ-loop token x quoted len bytes₀ i₀ bytes i =
     len - i
+
+inner-requires : tie.Need-inner-requires Inv-loop μ-loop
+inner-requires c κs =
+    search needs
+
+is-quoted-requires : tie.Need-is-quoted-requires Inv-loop μ-loop
+is-quoted-requires c κs =
+    search needs
 
 least-requires : tie.Need-least-requires Inv-loop μ-loop
 least-requires c κs =
@@ -26,9 +35,13 @@ loop-holds : tie.Need-loop-holds Inv-loop μ-loop
 loop-holds c =
     (omega arith, c .least .ensures, refl)
 
-shared-slice-read-bytes : tie.Need-shared-slice-read-bytes Inv-loop μ-loop
-shared-slice-read-bytes c =
+shared-slice-read-decode : tie.Need-shared-slice-read-decode Inv-loop μ-loop
+shared-slice-read-decode c =
     omega arith
+
+decode-requires : tie.Need-decode-requires Inv-loop μ-loop
+decode-requires c κs =
+    search needs
 
 array-write-bytes : tie.Need-array-write-bytes Inv-loop μ-loop
 array-write-bytes c =
@@ -44,15 +57,22 @@ loop-less c =
 
 loop-again : tie.Need-loop-again Inv-loop μ-loop
 loop-again c =
-    let l = c .before .before .loop in
-    let x = c .before .before .before .before .before .args .label .now in
-    (omega arith, l .inv .1, rw (l .inv .2) (one-more x (l .i) (omega arith) (omega arith)))
+    let l = c .before .before .before .loop in
+    let q = c .before .before .before .before .before .is-quoted .result in
+    let x = c .before .before .before .before .before .before .inner .result .now in
+    let n = read-size q x in
+    (omega arith, l .inv .1, copy-next labelLimit (readAs q x) (l .i) _ (l .bytes) (l .inv .2) (c .decode .ensures ∙ sym (read-at q x (l .i) (omega arith))) (omega arith) (omega arith))
 
 returns : tie.Need-returns Inv-loop μ-loop
 returns c =
     let l = c .before .loop in
+    let q = c .before .before .before .is-quoted .result in
+    let x = c .before .before .before .before .inner .result .now in
+    let n = read-size q x in
     let e : l .i ≡ c .before .before .least .result = omega arith in
-    rw (← e) (all-copied (c .before .before .before .before .args .label .now) (l .i) (l .bytes) (e ∙ l .inv .1) (l .inv .2))
+    rw (← e)
+    (stored-made (readAs q x) (l .i) (l .bytes) (omega arith) (l .inv .2)
+    ∙ ap storedOf (spelling-told _ q x (c .before .before .before .is-quoted .ensures) (c .before .before .before .before .inner .ensures)))
 
 pub stored-spec : {M : Type 1} → statement M
 stored-spec =
@@ -60,9 +80,12 @@ stored-spec =
     (tie.spec
     Inv-loop
     μ-loop
+    inner-requires
+    is-quoted-requires
     least-requires
     loop-holds
-    shared-slice-read-bytes
+    shared-slice-read-decode
+    decode-requires
     array-write-bytes
     add-i
     loop-less

@@ -1,4 +1,4 @@
--- `stored_leaf` meets its contract: what is stored is the part of the text that shows the leaf. Assumes nothing.
+-- `stored_leaf` meets its contract: what is stored is read of the part of the text that shows the leaf. Assumes nothing.
 use borrow.Author.Needs.{needs}
 use Rattle.trees.proofs.stored_leaf.Statement.{statement}
 use Rattle.trees.proofs.stored_leaf.Tie as tie
@@ -10,7 +10,8 @@ stored-requires : tie.Need-stored-requires
 stored-requires c κs = search needs
 
 returns : tie.Need-returns
-returns c = cc
+returns c =
+    cc
 
 pub stored-leaf-spec : {M : Type 1} → statement M
 stored-leaf-spec = tie.close (tie.spec leaf-label-requires stored-requires returns)

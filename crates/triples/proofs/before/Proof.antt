@@ -1,6 +1,7 @@
 -- The outcome of the test of two labels, as a number. Assumes nothing.
 use mathlib.Core.Path.{refl, sym, _∙_, ap₂}
 use Rattle.trees.specs.Label.{labelLess}
+use Rattle.trees.specs.Token.{Token, spelling}
 use Rattle.triples.specs.Loops.{labelIn}
 use borrow.Author.Needs.{needs}
 use Rattle.triples.proofs.before.Statement.{statement}
@@ -42,13 +43,15 @@ comes-before-requires c κs = search needs
 returns : tie.Need-returns
 unfolding labelIn
 returns c =
-    let less = ap₂ labelLess (sym (c .before .before .before .part .ensures)) (sym (c .before .before .part2 .ensures)) in
+    let less = ap₂ (λ (x y : Token). labelLess (spelling x) (spelling y)) (sym (c .before .before .before .part .ensures))
+    (sym (c .before .before .part2 .ensures)) in
     rw (less ∙ sym (c .before .comes-before .ensures) ∙ c .if1 .taken) refl
 
 returns-2 : tie.Need-returns-2
 unfolding labelIn
 returns-2 c =
-    let less = ap₂ labelLess (sym (c .before .before .before .part .ensures)) (sym (c .before .before .part2 .ensures)) in
+    let less = ap₂ (λ (x y : Token). labelLess (spelling x) (spelling y)) (sym (c .before .before .before .part .ensures))
+    (sym (c .before .before .part2 .ensures)) in
     rw (less ∙ sym (c .before .comes-before .ensures) ∙ c .if1 .left) refl
 
 pub before-spec : {M : Type 1} → statement M

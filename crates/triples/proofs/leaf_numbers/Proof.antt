@@ -1,10 +1,10 @@
 -- The invariant: each label passed has its leaf number. Assumes nothing.
 use mathlib.Core.Path.{ap, _≡_, _∙_}
-use mathlib.Core.List.{List}
 use Prim.Native.Nat.{ℕ, _≤_, _<_, _-_}
 use native.Mathlib.Omega.{arith}
 use borrow.Author.Needs.{needs}
 use lib.ListN.{length, getD, length-set, length-replicate}
+use Rattle.trees.specs.Token.{Token, spelling}
 use Rattle.leaves.specs.Find.{foundLeaf}
 use Rattle.triples.specs.Loops.{labelIn}
 use Rattle.trees.proofs.EntryLaws.{store-next}
@@ -76,8 +76,8 @@ loop-again c =
       simp length-set l,
       store-next (λ i x. x ≡ foundLeaf (a .text .now) (a .tree .left) (a .tree .start) (a .tree .size)
           (labelIn (a .list .now) (a .places .start) (a .places .size) i) (a .tree .nodes)) (c6 .loop .leaf) (c6 .loop .k) _ (omega
-          (arith, l)) (c6 .loop .inv .2) (c .find-leaf .ensures ∙ ap (λ (p : List ℕ). foundLeaf (a .text .now) (a .tree .left)
-          (a .tree .start) (a .tree .size) p (a .tree .nodes)) (c4 .part .ensures)),
+          (arith, l)) (c6 .loop .inv .2) (c .find-leaf .ensures ∙ ap (λ (p : Token). foundLeaf (a .text .now) (a .tree .left)
+          (a .tree .start) (a .tree .size) (spelling p) (a .tree .nodes)) (c4 .part .ensures)),
     )
 
 returns : tie.Need-returns Inv-loop μ-loop

@@ -1,6 +1,7 @@
 -- `writer::goes_first` meets its contract. Assumes nothing.
 use mathlib.Core.Path.{_∙_, ap, ap₂}
 use Rattle.trees.specs.Label.{labelLess}
+use Rattle.trees.specs.Token.{Token, spelling}
 use Rattle.trees.specs.Stored.{leafLabel}
 use Rattle.writer.specs.Passes.{goesFirst}
 use borrow.Author.Needs.{needs}
@@ -29,7 +30,7 @@ returns c =
     let a = c4 .before .before .before .before .before .args in
     let label = leafLabel (a .text .now) (a .start .now) (a .size .now) in
     c .comes-before .ensures
-    ∙ ap₂ labelLess (c .before .before .leaf-label .ensures ∙ ap label (c4 .entry .ensures))
+    ∙ ap₂ (λ (x y : Token). labelLess (spelling x) (spelling y)) (c .before .before .leaf-label .ensures ∙ ap label (c4 .entry .ensures))
     (c .before .leaf-label2 .ensures ∙ ap label (c .before .before .before .entry2 .ensures))
 
 pub goes-first-spec : {M : Type 1} → statement M

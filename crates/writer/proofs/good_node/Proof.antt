@@ -1,7 +1,8 @@
 -- `writer::good_node` meets its contract. Assumes nothing.
+use native.Mathlib.Omega.{arith}
 use Rattle.trees.specs.declared.TreeArrays.{TreeArrays}
 use Rattle.writer.specs.Passes.{arraysFrom}
-use Rattle.writer.proofs.StepLaws.{long-label, past-end, label-inside, children-test, children-late}
+use Rattle.writer.proofs.StepLaws.{past-end, label-test, children-test, children-late}
 use borrow.Author.Needs.{needs}
 use Rattle.writer.proofs.good_node.Statement.{statement}
 use Rattle.writer.proofs.good_node.Tie as tie
@@ -20,34 +21,41 @@ entry-requires-3 c κs = search needs
 
 returns : tie.Need-returns
 returns c =
+    let p = c .before .entry3 in
+    let n = c .before .before .entry2 in
     let l = c .before .before .before .before in
     let s = l .before .before .before .before .before .before in
-    let n = c .before .before .entry2 in
-    long-label (arrays s) (s .args .text .now) (s .args .u) (l .entry .result) (l .entry .ensures) (n .result) (n .ensures)
-    (c .before .before .before .if1 .taken) (c .if2 .taken)
+    past-end (arrays s) (s .args .text .now) (s .args .u) (l .entry .result) (l .entry .ensures) (p .result) (n .result) (p .ensures)
+    (n .ensures) (c .before .before .before .if1 .taken) (omega (arith, c .if2 .taken))
+
+sub-if3 : tie.Need-sub-if3
+sub-if3 c = search needs
 
 returns-2 : tie.Need-returns-2
 returns-2 c =
+    let p = c .before .before .entry3 in
+    let n = c .before .before .before .entry2 in
     let l = c .before .before .before .before .before in
     let s = l .before .before .before .before .before .before in
-    let n = c .before .before .before .entry2 in
-    let p = c .before .before .entry3 in
     past-end (arrays s) (s .args .text .now) (s .args .u) (l .entry .result) (l .entry .ensures) (p .result) (n .result) (p .ensures)
-    (n .ensures) (c .before .before .before .before .if1 .taken)
-    (c .before .if2 .left) (c .if3 .taken)
+    (n .ensures) (c .before .before .before .before .if1 .taken) (omega (arith, c .if3 .taken, c .before .if2 .left))
 
-sub-result : tie.Need-sub-result
-sub-result c = search needs
+part-requires : tie.Need-part-requires
+part-requires c κs = search needs
+
+spelled-size-requires : tie.Need-spelled-size-requires
+spelled-size-requires c κs = search needs
 
 returns-3 : tie.Need-returns-3
 returns-3 c =
-    let l = c .before .before .before .before .before in
+    let t = c .before .before in
+    let p = t .before .before .entry3 in
+    let n = t .before .before .before .entry2 in
+    let l = t .before .before .before .before .before in
     let s = l .before .before .before .before .before .before in
-    let n = c .before .before .before .entry2 in
-    let p = c .before .before .entry3 in
-    label-inside (arrays s) (s .args .text .now) (s .args .u) (l .entry .result) (l .entry .ensures) (p .result) (n .result) (p .ensures)
-    (n .ensures) (c .before .before .before .before .if1 .taken)
-    (c .before .if2 .left) (c .if3 .left)
+    label-test (arrays s) (s .args .text .now) (s .args .u) (l .entry .result) (l .entry .ensures) (p .result) (n .result) (p .ensures)
+    (n .ensures) (t .before .before .before .before .if1 .taken) (omega (arith, t .if3 .left, t .before .if2 .left)) _
+    (c .before .part .ensures) (c .spelled-size .result) (c .spelled-size .ensures)
 
 entry-requires-4 : tie.Need-entry-requires-4
 entry-requires-4 c κs = search needs
@@ -75,8 +83,10 @@ good-node-spec =
     entry-requires-2
     entry-requires-3
     returns
+    sub-if3
     returns-2
-    sub-result
+    part-requires
+    spelled-size-requires
     returns-3
     entry-requires-4
     returns-4

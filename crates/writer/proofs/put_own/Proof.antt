@@ -5,10 +5,17 @@ use Prim.Native.Nat.{ℕ, _+_}
 use native.Mathlib.Omega.{arith}
 use lib.ListN.{length, getD}
 use lib.Seq.{sets}
+use Rattle.writer.specs.Passes.{ownText}
+use Rattle.writer.proofs.StepLaws.{token-bytes}
 use Rattle.writer.proofs.StackLaws.{own-mark, own-label, own-open}
 use borrow.Author.Needs.{needs}
 use Rattle.writer.proofs.put_own.Statement.{statement}
 use Rattle.writer.proofs.put_own.Tie as tie
+
+abbrev start-of : tie.After-first-bytes → tie.Start
+start-of c =
+    let i = c .before .before .before .before .before in
+    i .before .before .before .before .before .before .before .before
 
 mark-requires : tie.Need-mark-requires
 mark-requires c κs = search needs
@@ -37,28 +44,41 @@ returns c =
 entry-requires : tie.Need-entry-requires
 entry-requires c κs = search needs
 
-leaf-label-requires : tie.Need-leaf-label-requires
-leaf-label-requires c κs = search needs
+stored-leaf-requires : tie.Need-stored-leaf-requires
+stored-leaf-requires c κs = search needs
+
+shown-requires : tie.Need-shown-requires
+shown-requires c κs = search needs
+
+slice-aggregate-first-bytes : tie.Need-slice-aggregate-first-bytes
+slice-aggregate-first-bytes c = search needs
+
+first-bytes-requires : tie.Need-first-bytes-requires
+first-bytes-requires c κs = search needs
+
+-- the bytes that are stored are what the leaf writes
+leaf-own : (c : tie.After-first-bytes) → let a = start-of c .args in
+    c .first-bytes .result .now ≡ ownText (a .text .now) (a .start .now) (a .size .now) (a .first .now) (a .k)
+leaf-own c =
+    let a = start-of c .args in
+    let k = c .before .before .before in
+    let i = k .before .before in
+    token-bytes (a .text .now) (a .start .now) (a .size .now) (a .k) (k .before .stored-leaf .result) (k .before .stored-leaf .ensures)
+    (k .shown .result) (k .shown .ensures) _ (c .first-bytes .ensures)
+    ∙ sym (own-label (a .text .now) (a .start .now) (a .size .now) (a .first .now) (a .k) (omega (arith, i .before .before .if1 .left))
+    (sym (i .before .entry .ensures) ∙ i .if2 .taken))
 
 put-bytes-requires : tie.Need-put-bytes-requires
-put-bytes-requires c κs =
-    let c2 = c .before .before in
-    let c3 = c2 .before in
-    let a = c3 .before .before .before .before .before .before .before .args in
-    let e = own-label (a .text .now) (a .start .now) (a .size .now) (a .first .now) (a .k) (omega arith) (sym (c3 .entry .ensures) ∙ c2 .if2 .taken) in
-    omega (arith, ap length (c .before .leaf-label .ensures ∙ sym e))
+put-bytes-requires c κs = omega (arith, ap length (leaf-own (c .before)))
 
 same-length-2 : tie.Need-same-length-2
 same-length-2 c = search needs
 
 returns-2 : tie.Need-returns-2
 returns-2 c =
-    let c4 = c .before .before .before .before in
-    let c5 = c4 .before in
-    let c6 = c5 .before in
-    let a = c6 .before .before .before .before .before .before .before .args in
-    let e = own-label (a .text .now) (a .start .now) (a .size .now) (a .first .now) (a .k) (omega arith) (sym (c6 .entry .ensures) ∙ c5 .if2 .taken) in
-    let p = c4 .leaf-label .ensures ∙ sym e in (
+    let f = c .before .before .before .before in
+    let a = start-of f .args in
+    let p = leaf-own f in (
       c .before .before .put-bytes .ensures .0 ∙ ap (λ (x : List ℕ). a .at + length x) p,
       c .before .before .put-bytes .ensures .1 ∙ ap (sets (a .out .now) (a .at)) p,
     )
@@ -97,7 +117,10 @@ put-own-spec =
     same-length
     returns
     entry-requires
-    leaf-label-requires
+    stored-leaf-requires
+    shown-requires
+    slice-aggregate-first-bytes
+    first-bytes-requires
     put-bytes-requires
     same-length-2
     returns-2

@@ -1,20 +1,21 @@
 -- `writer::write_nodes` meets its contract. The root's sums decide, and then its text is stored and closed by `;`. Assumes nothing.
 use Prim.Native.Nat.{ℕ, _+_, _-_, _≤_}
-use mathlib.Core.Path.{_≡_, sym, _∙_, subst}
+use mathlib.Core.Path.{_≡_, sym, subst}
 use mathlib.Core.List.{List}
+use mathlib.Core.Option.{none, some}
 use native.Mathlib.Omega.{arith}
 use lib.ListN.{length, replicate, set}
 use borrow.Author.Needs.{needs}
 use Rattle.trees.specs.declared.TreeArrays.{TreeArrays}
 use Rattle.trees.specs.Tree.{Tree, leaves}
 use Rattle.trees.specs.Text.{normalText}
-use Rattle.trees.specs.Arrays.{Standing, oneTree, noTree, treeOf}
+use Rattle.trees.specs.Arrays.{Standing, treeOf}
 use Rattle.writer.specs.declared.WriteAnswer.the-variants.{Written, Refused, NoTree}
-use Rattle.writer.specs.Write.{outputTooShort}
+use Rattle.writer.specs.Write.{standingText, outputTooShort}
 use Rattle.writer.specs.Passes.{arraysFrom, below, nodeText, Leasts}
 use Rattle.writer.proofs.PassLaws.{leasts-found}
 use Rattle.writer.proofs.StackLaws.{children-found}
-use Rattle.writer.proofs.WriteLaws.{found-many, found-few, found-length, stands-tree, text-length}
+use Rattle.writer.proofs.WriteLaws.{found-many, found-few, stands-tree, text-length}
 use Rattle.writer.proofs.WriteLaws.{done-as, done-none, done-short, done-stored}
 use Rattle.writer.proofs.write_nodes.Statement.{statement}
 use Rattle.writer.proofs.write_nodes.Tie as tie
@@ -29,7 +30,7 @@ stands b = treeOf (arrays b) (b .args .text .now)
 abbrev root : tie.Start → Tree
 root b = below (arrays b) (b .args .text .now) (b .args .nodes - 1)
 
--- at most 80 leaves: the arrays stand for the root's tree
+-- at most 80 leaves: the root's text belongs in the output
 abbrev few-start : tie.Else1 → tie.Start
 few-start c = c .before .before .before .before .before .before .before .before .before
 
@@ -39,17 +40,14 @@ few-at c =
     found-few (arrays b) (b .args .text .now) (b .pre .0 .0) (b .pre .0 .1) (b .pre .1)
     (omega (arith, c .before .root-sum .ensures, c .if1 .left))
 
-tree-at : (c : tie.Else1) → stands (few-start c) ≡ oneTree (root (few-start c))
-tree-at c =
+text-at : (c : tie.Else1) → standingText (stands (few-start c)) ≡ some (normalText (root (few-start c)))
+text-at c =
     let b = few-start c in
     stands-tree (arrays b) (b .args .text .now) (b .pre .0 .0) (b .pre .0 .1) (b .pre .1) (few-at c)
 
 -- the length of its text is known, and the output is long enough
-long-at : (c : tie.After-root-sum2) → c .root-sum2 .result ≡ length (normalText (root (few-start (c .before)))) + 2
-long-at c =
-    let b = few-start (c .before) in
-    c .root-sum2 .ensures
-    ∙ found-length (arrays b) (b .args .text .now) (b .pre .0 .0) (b .pre .0 .1) (b .pre .1) (few-at (c .before))
+long-at : (c : tie.After-text-size) → c .text-size .result ≡ length (normalText (root (few-start (c .before))))
+long-at c = c .text-size .ensures (few-at (c .before))
 
 abbrev fit-start : tie.Else2 → tie.Start
 fit-start c = few-start (c .before .before)
@@ -72,24 +70,21 @@ returns : tie.Need-returns
 returns c =
     let b = c .before .before .before .before .before .before .before .before .before in
     let o = b .args .out .now in
-    done-as (stands b) noTree o NoTree o
+    done-as (stands b) none o NoTree o
     (found-many (arrays b) (b .args .text .now) (b .pre .0 .0) (b .pre .0 .1) (b .pre .1)
     (omega (arith, c .before .root-sum .ensures, c .if1 .taken)))
     (done-none o)
 
-root-sum-requires-2 : tie.Need-root-sum-requires-2
-root-sum-requires-2 c κs = search needs
-
-sub-bytes : tie.Need-sub-bytes
-sub-bytes c = omega (arith, long-at c)
+text-size-requires : tie.Need-text-size-requires
+text-size-requires c κs = search needs
 
 returns-2 : tie.Need-returns-2
 unfolding outputTooShort
 returns-2 c =
     let b = few-start (c .before .before) in
     let o = b .args .out .now in
-    done-as (stands b) (oneTree (root b)) o (Refused outputTooShort) o (tree-at (c .before .before))
-    (done-short (root b) o (omega (arith, c .if2 .taken, long-at (c .before))))
+    done-as (stands b) (some (normalText (root b))) o (Refused outputTooShort) o (text-at (c .before .before))
+    (done-short (normalText (root b)) o (omega (arith, c .if2 .taken, long-at (c .before))))
 
 slice-aggregate-least-pass : tie.Need-slice-aggregate-least-pass
 slice-aggregate-least-pass c = search needs
@@ -147,8 +142,8 @@ returns-3 c =
     let p = c .before .before .put-tree in
     let b = fit-start (fit-of c) in
     let o = b .args .out .now in
-    done-as (stands b) (oneTree (root b)) o (Written (p .result + 1)) (set (p .last .1 .1 .1 .1 .1 .1 .1 .0) (p .result) 59)
-    (tree-at (fit-of c .before .before))
+    done-as (stands b) (some (normalText (root b))) o (Written (p .result + 1)) (set (p .last .1 .1 .1 .1 .1 .1 .1 .0) (p .result) 59)
+    (text-at (fit-of c .before .before))
     (done-stored (root b) o (p .last .1 .1 .1 .1 .1 .1 .1 .0) (p .result) (fits-at (fit-of c)) (p .ensures .0) (p .ensures .1))
 
 pub write-nodes-spec : {M : Type 1} → statement M
@@ -158,8 +153,7 @@ write-nodes-spec =
     slice-aggregate-root-sum
     root-sum-requires
     returns
-    root-sum-requires-2
-    sub-bytes
+    text-size-requires
     returns-2
     slice-aggregate-least-pass
     least-pass-requires

@@ -1,8 +1,10 @@
 -- `writer::write_tree` meets its contract. Arrays that fail a test stand for no tree. Assumes nothing.
 use mathlib.Core.Path.{sym, _∙_}
+use mathlib.Core.List.{[]}
+use mathlib.Core.Option.{none, some}
 use native.Mathlib.Omega.{arith}
 use borrow.Author.Tests.{not-true, not-false}
-use Rattle.trees.specs.Arrays.{noLeaf, noTree, treeOf}
+use Rattle.trees.specs.Arrays.{treeOf}
 use Rattle.writer.specs.declared.WriteAnswer.the-variants.{Written, NoTree}
 use Rattle.writer.proofs.WriteLaws.{stands-empty, stands-long, stands-bad, done-as, done-none, done-empty}
 use borrow.Author.Needs.{needs}
@@ -12,13 +14,13 @@ use Rattle.writer.proofs.write_tree.Tie as tie
 returns : tie.Need-returns
 returns c =
     let a = c .before .before .before .args in
-    done-as (treeOf (a .tree) (a .text .now)) noLeaf (a .out .now) (Written 0) (a .out .now)
+    done-as (treeOf (a .tree) (a .text .now)) (some []) (a .out .now) (Written 0) (a .out .now)
     (stands-empty (a .tree) (a .text .now) (omega arith)) (done-empty (a .out .now))
 
 returns-2 : tie.Need-returns-2
 returns-2 c =
     let a = c .before .before .before .before .args in
-    done-as (treeOf (a .tree) (a .text .now)) noTree (a .out .now) NoTree (a .out .now)
+    done-as (treeOf (a .tree) (a .text .now)) none (a .out .now) NoTree (a .out .now)
     (stands-long (a .tree) (a .text .now) (c .if2 .taken)) (done-none (a .out .now))
 
 slice-aggregate-good-nodes : tie.Need-slice-aggregate-good-nodes
@@ -40,7 +42,7 @@ returns-3 : tie.Need-returns-3
 returns-3 c =
     let d = c .before .before .before .before .before .before .before .before .before .before in
     let a = d .before .before .before .before .args in
-    done-as (treeOf (a .tree) (a .text .now)) noTree (a .out .now) NoTree (a .out .now)
+    done-as (treeOf (a .tree) (a .text .now)) none (a .out .now) NoTree (a .out .now)
     (stands-bad (a .tree) (a .text .now) (d .before .if1 .left)
     (sym (c .before .good-nodes .ensures) ∙ not-true _ (c .if3 .taken)))
     (done-none (a .out .now))

@@ -1,40 +1,40 @@
-use Rattle.trees.specs.Stored.{storedBytes}
+use Rattle.trees.specs.Stored.{shownBytes}
 use Rattle.job.proofs.AreaLaws.{put-as, put-then, item-first, item-later}
 use borrow.Author.Needs.{needs}
 use Rattle.job.proofs.lines.put_item.Statement.{statement}
 use Rattle.job.proofs.lines.put_item.Tie as tie
 
-put-stored-requires : tie.Need-put-stored-requires
-put-stored-requires c κs = search needs
+put-shown-requires : tie.Need-put-shown-requires
+put-shown-requires c κs = search needs
 
 same-length : tie.Need-same-length
 same-length c = search needs
 
 returns : tie.Need-returns
 returns c =
-    put-as _ _ (item-first (c .before .before .before .before .before .before .args .i) (storedBytes (c .before .before .before .before .before .before .args .x)) (c .before .before .before .before .if1 .taken)) (c .before .before .put-stored .ensures)
+    put-as _ _ (item-first (c .before .before .before .before .before .before .args .i) (shownBytes (c .before .before .before .before .before .before .args .x)) (c .before .before .before .before .if1 .taken)) (c .before .before .put-shown .ensures)
 
 put-byte-requires : tie.Need-put-byte-requires
 put-byte-requires c κs = search needs
 
-put-stored-requires-2 : tie.Need-put-stored-requires-2
-put-stored-requires-2 c κs = search needs
+put-shown-requires-2 : tie.Need-put-shown-requires-2
+put-shown-requires-2 c κs = search needs
 
 same-length-2 : tie.Need-same-length-2
 same-length-2 c = search needs
 
 returns-2 : tie.Need-returns-2
 returns-2 c =
-    put-as _ _ (item-later (c .before .before .before .before .before .before .before .before .before .before .args .i) (storedBytes (c .before .before .before .before .before .before .before .before .before .before .args .x)) (c .before .before .before .before .before .before .before .before .if1 .left)) (put-then (c .before .before .before .before .before .before .put-byte .ensures) (c .before .before .put-stored2 .ensures))
+    put-as _ _ (item-later (c .before .before .before .before .before .before .before .before .before .before .args .i) (shownBytes (c .before .before .before .before .before .before .before .before .before .before .args .x)) (c .before .before .before .before .before .before .before .before .if1 .left)) (put-then (c .before .before .before .before .before .before .put-byte .ensures) (c .before .before .put-shown2 .ensures))
 
 pub put-item-spec : {M : Type 1} → statement M
 put-item-spec =
     tie.close
     (tie.spec
-    put-stored-requires
+    put-shown-requires
     same-length
     returns
     put-byte-requires
-    put-stored-requires-2
+    put-shown-requires-2
     same-length-2
     returns-2)

@@ -1,11 +1,14 @@
 -- `job::lines::put_labels` meets its contract. The invariant: the labels passed are put, joined by commas. Assumes nothing.
 use borrow.Author.Needs.{needs}
 use Rattle.job.proofs.AreaLaws.{first-none}
-use Rattle.job.proofs.AreaLaws.{put-as, put-label, item-short, label-short}
+use Rattle.job.proofs.AreaLaws.{put-as, put-label, item-short, form-short}
 use Rattle.job.specs.Areas.{Put, labelsIn, item}
 use Rattle.job.specs.Answered.{labelIn}
+use Rattle.job.specs.Printed.{itemRoom}
+use Rattle.trees.specs.Token.{tokenOf}
 use Rattle.lists.specs.ReadList.{joined}
 use mathlib.Core.Path.{ap}
+use mathlib.Core.List.{map}
 use native.Mathlib.Omega.{arith}
 use lib.ListN.{length, getD}
 use Prim.Native.Nat.{ℕ, _+_, _-_, _*_, _≤_}
@@ -14,7 +17,7 @@ use Rattle.job.proofs.lines.put_labels.Tie as tie
 
 abbrev Inv-loop : tie.InvT-loop
 Inv-loop text start size count area₀ at next₀ i₀ area next i =
-    (i ≤ count) × (next ≤ at + 17 * i) × Put area₀ at (joined (labelsIn text start size i)) next area
+    (i ≤ count) × (next ≤ at + itemRoom * i) × Put area₀ at (joined (map tokenOf (labelsIn text start size i))) next area
 
 abbrev μ-loop : tie.MeasureT-loop
 μ-loop text start size count area₀ at next₀ i₀ area next i =
@@ -51,7 +54,7 @@ put-item-requires c κs =
     omega (
       arith,
       ap (length {A = ℕ}) (c .before .label-in .ensures),
-      label-short (s2 .args .text .now)
+      form-short (s2 .args .text .now)
           (getD (s2 .args .start .now) (s1 .loop .i) 0) (getD (s2 .args .size .now) (s1 .loop .i) 0),
       s1 .loop .inv .2 .whole,
       s1 .loop .inv .1,
@@ -76,10 +79,10 @@ loop-again c =
     let a = s .args in
     let l = s3 .loop in
     let i = l .i in
-    let x = labelIn (a .text .now) (getD (a .start .now) i 0) (getD (a .size .now) i 0) in
+    let x = tokenOf (labelIn (a .text .now) (getD (a .start .now) i 0) (getD (a .size .now) i 0)) in
     let p = put-as _ (item i x) (ap (item i) (s2 .label-in .ensures)) (s1 .put-item .ensures) in (
       omega arith,
-      omega (arith, p .ends, item-short i x, label-short (a .text .now) (getD (a .start .now) i 0) (getD (a .size .now) i 0)),
+      omega (arith, p .ends, item-short i x, form-short (a .text .now) (getD (a .start .now) i 0) (getD (a .size .now) i 0)),
       put-label (a .text .now) (a .start .now) (a .size .now) i (l .inv .2) p,
     )
 
@@ -90,7 +93,7 @@ same-length c =
 returns : tie.Need-returns Inv-loop μ-loop
 returns c =
     let s1 = c .before .before .before .before in
-    (put-as _ _ (ap (λ (k : ℕ). joined (labelsIn (s1 .args .text .now) (s1 .args .start .now) (s1 .args .size .now) k)) (omega arith)) (c .before .loop .inv .2), omega arith)
+    (put-as _ _ (ap (λ (k : ℕ). joined (map tokenOf (labelsIn (s1 .args .text .now) (s1 .args .start .now) (s1 .args .size .now) k))) (omega arith)) (c .before .loop .inv .2), omega arith)
 
 pub put-labels-spec : {M : Type 1} → statement M
 put-labels-spec =

@@ -1,9 +1,11 @@
 -- `bodies::answer_bodies` meets its contract. Assumes nothing.
 use mathlib.Core.Path.{_∙_, sym, ap}
 use native.Mathlib.Omega.{arith}
+use Rattle.trees.specs.Tree.{decoded}
 use Rattle.agreement.specs.Sets.{common}
 use Rattle.agreement.proofs.SetLaws.{common-inc}
 use Rattle.mast.specs.Largest.{Solution, largestOf, outputOf}
+use Rattle.mast.proofs.RankLaws.{own-proper}
 use Rattle.mast.proofs.BodyLaws.{first-few, list-few, most-few, first-missing, all-asked, lack-output}
 use Rattle.mast.proofs.BodyLaws.{in-range, by-rank, some-clash, clash-is, set-solution, eight-solution, clashed-output, some-first, some-second}
 use borrow.Author.Needs.{needs}
@@ -28,7 +30,7 @@ returns c =
     λ b.
     let m = c .before .before .before .before .before .before .order-in .ensures in
     let o = m .1 (b .s) (b .t) (b .one) (b .valid2) (b .bound) (b .partners) in
-    let k = c .before .before .before .mark-required .ensures .1 (b .s) (common (b .s) (b .t)) (b .K) (b .one) (b .own-list) (common-inc (b .s) (b .t) (b .one .valid .different)) (o .count) (o .first) in
+    let k = c .before .before .before .mark-required .ensures .1 (b .s) (common (decoded (b .s)) (decoded (b .t))) (b .K) (b .one) (b .own-list) (common-inc (decoded (b .s)) (decoded (b .t)) (own-proper (b .one) .different)) (o .count) (o .first) in
     let f = first-missing b o (m .0) _ _ k (c .before .if1 .taken) in
     record { result = c .lacks .ensures (b .s) (b .t) (b .K) _ f; output = lack-output (b .s) (b .t) (b .K) _ _ _ _ _ f _ _ }
 
@@ -37,7 +39,7 @@ find-set-requires c κs =
     let b = c .before .before .before .before .before .before .before .before .before .before .before .before .before .before .before .pre in
     let m = c .before .before .before .before .before .before .before .before .before .order-in .ensures in
     let o = m .1 (b .s) (b .t) (b .one) (b .valid2) (b .bound) (b .partners) in
-    let k = c .before .before .before .before .before .before .mark-required .ensures .1 (b .s) (common (b .s) (b .t)) (b .K) (b .one) (b .own-list) (common-inc (b .s) (b .t) (b .one .valid .different)) (o .count) (o .first) in
+    let k = c .before .before .before .before .before .before .mark-required .ensures .1 (b .s) (common (decoded (b .s)) (decoded (b .t))) (b .K) (b .one) (b .own-list) (common-inc (decoded (b .s)) (decoded (b .t)) (own-proper (b .one) .different)) (o .count) (o .first) in
     let a = all-asked b o (m .0) _ _ k (c .before .before .before .before .if1 .left) (c .before .before .before .before .before .before .mark-required .ensures .0) in
     (some-first _ _ _ _ _ _ _ _ _ _ _ a, some-second _ _ _ _ _ _ _ _ _ _ _ a)
 
@@ -46,7 +48,7 @@ solution-requires c κs =
     let b = c .before .before .before .before .before .before .before .before .before .before .before .before .before .before .before .before .before .before .before .before .pre in
     let m = c .before .before .before .before .before .before .before .before .before .before .before .before .before .before .order-in .ensures in
     let o = m .1 (b .s) (b .t) (b .one) (b .valid2) (b .bound) (b .partners) in
-    let k = c .before .before .before .before .before .before .before .before .before .before .before .mark-required .ensures .1 (b .s) (common (b .s) (b .t)) (b .K) (b .one) (b .own-list) (common-inc (b .s) (b .t) (b .one .valid .different)) (o .count) (o .first) in
+    let k = c .before .before .before .before .before .before .before .before .before .before .before .mark-required .ensures .1 (b .s) (common (decoded (b .s)) (decoded (b .t))) (b .K) (b .one) (b .own-list) (common-inc (decoded (b .s)) (decoded (b .t)) (own-proper (b .one) .different)) (o .count) (o .first) in
     let a = all-asked b o (m .0) _ _ k (c .before .before .before .before .before .before .before .before .before .if1 .left) (c .before .before .before .before .before .before .before .before .before .before .before .mark-required .ensures .0) in
     (m .0, in-range _ _ _ _ _ _ _ _ _ _ _ a)
 
@@ -55,7 +57,7 @@ eight-requires c κs =
     let b = c .before .before .before .before .before .before .before .before .before .before .before .before .before .before .before .before .before .before .before .before .pre in
     let m = c .before .before .before .before .before .before .before .before .before .before .before .before .before .before .order-in .ensures in
     let o = m .1 (b .s) (b .t) (b .one) (b .valid2) (b .bound) (b .partners) in
-    let k = c .before .before .before .before .before .before .before .before .before .before .before .mark-required .ensures .1 (b .s) (common (b .s) (b .t)) (b .K) (b .one) (b .own-list) (common-inc (b .s) (b .t) (b .one .valid .different)) (o .count) (o .first) in
+    let k = c .before .before .before .before .before .before .before .before .before .before .before .mark-required .ensures .1 (b .s) (common (decoded (b .s)) (decoded (b .t))) (b .K) (b .one) (b .own-list) (common-inc (decoded (b .s)) (decoded (b .t)) (own-proper (b .one) .different)) (o .count) (o .first) in
     let a = all-asked b o (m .0) _ _ k (c .before .before .before .before .before .before .before .before .before .if1 .left) (c .before .before .before .before .before .before .before .before .before .before .before .mark-required .ensures .0) in
     some-clash _ _ _ _ _ _ _ _ _ _ _ a _ _ (c .before .before .before .before .find-set .ensures _ _ _ (a .asked)) (c .before .before .before .if2 .left)
 
@@ -64,7 +66,7 @@ returns-2 c =
     λ b.
     let m = c .before .before .before .before .before .before .before .before .before .before .before .before .before .before .before .before .before .order-in .ensures in
     let o = m .1 (b .s) (b .t) (b .one) (b .valid2) (b .bound) (b .partners) in
-    let k = c .before .before .before .before .before .before .before .before .before .before .before .before .before .before .mark-required .ensures .1 (b .s) (common (b .s) (b .t)) (b .K) (b .one) (b .own-list) (common-inc (b .s) (b .t) (b .one .valid .different)) (o .count) (o .first) in
+    let k = c .before .before .before .before .before .before .before .before .before .before .before .before .before .before .mark-required .ensures .1 (b .s) (common (decoded (b .s)) (decoded (b .t))) (b .K) (b .one) (b .own-list) (common-inc (decoded (b .s)) (decoded (b .t)) (own-proper (b .one) .different)) (o .count) (o .first) in
     let a = all-asked b o (m .0) _ _ k (c .before .before .before .before .before .before .before .before .before .before .before .before .if1 .left) (c .before .before .before .before .before .before .before .before .before .before .before .before .before .before .mark-required .ensures .0) in
     let r = by-rank _ _ _ _ _ _ _ _ _ _ _ a in
     let w = set-solution _ _ _ _ _ _ _ _ _ _ _ a _ _ _ (c .before .before .before .before .before .before .before .find-set .ensures _ _ _ (a .asked)) (c .before .before .before .before .before .before .if2 .taken) in
@@ -78,7 +80,7 @@ returns-3 c =
     λ b.
     let m = c .before .before .before .before .before .before .before .before .before .before .before .before .before .before .before .order-in .ensures in
     let o = m .1 (b .s) (b .t) (b .one) (b .valid2) (b .bound) (b .partners) in
-    let k = c .before .before .before .before .before .before .before .before .before .before .before .before .mark-required .ensures .1 (b .s) (common (b .s) (b .t)) (b .K) (b .one) (b .own-list) (common-inc (b .s) (b .t) (b .one .valid .different)) (o .count) (o .first) in
+    let k = c .before .before .before .before .before .before .before .before .before .before .before .before .mark-required .ensures .1 (b .s) (common (decoded (b .s)) (decoded (b .t))) (b .K) (b .one) (b .own-list) (common-inc (decoded (b .s)) (decoded (b .t)) (own-proper (b .one) .different)) (o .count) (o .first) in
     let a = all-asked b o (m .0) _ _ k (c .before .before .before .before .before .before .before .before .before .before .if1 .left) (c .before .before .before .before .before .before .before .before .before .before .before .before .mark-required .ensures .0) in
     let q = clash-is _ _ _ _ _ _ _ _ _ _ _ a _ _ (c .before .before .before .before .before .find-set .ensures _ _ _ (a .asked)) (c .before .before .before .before .if2 .left) in
     let w = eight-solution _ _ _ _ _ _ _ _ _ _ _ a (q .0) (q .1) (q .2) _ (q .3) in

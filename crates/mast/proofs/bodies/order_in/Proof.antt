@@ -2,7 +2,8 @@
 use mathlib.Core.Path.{subst}
 use Prim.Native.Nat.{ℕ}
 use Rattle.mast.specs.Ranks.{Partners}
-use Rattle.mast.proofs.RankLaws.{collected-all}
+use Rattle.trees.specs.Tree.{decoded}
+use Rattle.mast.proofs.RankLaws.{own-nodes, collected-all}
 use borrow.Author.Needs.{needs}
 use Rattle.mast.proofs.bodies.order_in.Statement.{statement}
 use Rattle.mast.proofs.bodies.order_in.Tie as tie
@@ -11,8 +12,8 @@ returns : tie.Need-returns
 returns c = (
   c .before .before .before .common-order .ensures .0,
   λ s t one valid2 bound p.
-      collected-all s t _ _ _ _ (c .before .before .before .common-order .ensures .1 s t one valid2 bound p)
-      (subst (λ (n : ℕ). Partners n s t (c .before .before .before .before .before .before .args .partner .now)) (one .nodes-is) p) (c .entries-at .ensures),
+      collected-all (decoded s) (decoded t) _ _ _ _ (c .before .before .before .common-order .ensures .1 s t one valid2 bound p)
+      (subst (λ (n : ℕ). Partners n (decoded s) (decoded t) (c .before .before .before .before .before .before .args .partner .now)) (own-nodes one) p) (c .entries-at .ensures),
 )
 
 pub order-in-spec : {M : Type 1} → statement M

@@ -6,7 +6,7 @@ use mathlib.Core.List.{List}
 use lib.ListN.{length, getD}
 use native.Mathlib.Omega.{arith}
 use Rattle.trees.specs.Label.{Label}
-use Rattle.trees.specs.Tree.{Tree, Valid}
+use Rattle.trees.specs.Tree.{Tree, Proper}
 use Rattle.leaves.specs.Numbered.{Numbered}
 use Rattle.mast.specs.Finish.{Flagged}
 use Rattle.mast.proofs.FinishLaws.{chosenTo, flags-none, flags-next, flags-length, chosen-all}
@@ -15,7 +15,7 @@ use Rattle.mast.proofs.finish.kept_leaves.Tie as tie
 
 abbrev Inv-loop : tie.InvT-loop
 Inv-loop order1 m chosen kept₀ r₀ kept r =
-    (length kept ≡ 159) × ((s : Tree) (C : List Label) → Valid s → m ≡ length C → Numbered s C order1 → Flagged s (chosenTo chosen C r) kept)
+    (length kept ≡ 159) × ((s : Tree) (C : List Label) → Proper s → m ≡ length C → Numbered s C order1 → Flagged s (chosenTo chosen C r) kept)
 
 abbrev μ-loop : tie.MeasureT-loop
 μ-loop order1 m chosen kept₀ r₀ kept r =

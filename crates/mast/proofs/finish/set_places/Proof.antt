@@ -5,7 +5,7 @@ use mathlib.Core.List.{List}
 use lib.ListN.{length}
 use native.Mathlib.Omega.{arith}
 use Rattle.trees.specs.Label.{Label}
-use Rattle.trees.specs.Tree.{Tree, Valid}
+use Rattle.trees.specs.Tree.{Tree, decoded, Valid}
 use Rattle.trees.specs.Arrays.{arraysOf}
 use Rattle.leaves.specs.Numbered.{Numbered}
 use Rattle.mast.specs.Largest.{setPlaces}
@@ -17,7 +17,7 @@ use Rattle.mast.proofs.finish.set_places.Tie as tie
 abbrev Inv-loop : tie.InvT-loop
 Inv-loop order1 m chosen start1 size1 start₀ size₀ count₀ r₀ start size count r =
     (count ≤ r) × ((s : Tree) (C : List Label) → Valid s → start1 ≡ arraysOf s .start → size1 ≡ arraysOf s .size → m ≡ length C
-    → Numbered s C order1 → placesFrom count start size ≡ setPlaces s (chosenTo chosen C r))
+    → Numbered (decoded s) C order1 → placesFrom count start size ≡ setPlaces s (chosenTo chosen C r))
 
 abbrev μ-loop : tie.MeasureT-loop
 μ-loop order1 m chosen start1 size1 start₀ size₀ count₀ r₀ start size count r =

@@ -3,6 +3,8 @@ use mathlib.Core.Path.{sym, _∙_, ap}
 use borrow.Author.Needs.{needs}
 use Rattle.mast.proofs.SolutionLaws.{placed-result, restricted-text, not-written, set-written, set-refused, set-output}
 use Rattle.trees.specs.Arrays.{treeOf}
+use Rattle.trees.specs.Tree.{decoded}
+use Rattle.trees.proofs.TokenLaws.{valid-decoded}
 use Rattle.table.specs.Choice.{chosenFrom}
 use Rattle.mast.proofs.finish.solution.Statement.{statement}
 use Rattle.mast.proofs.finish.solution.Tie as tie
@@ -16,13 +18,15 @@ returns c =
       λ s C k.
           c .without-set .ensures
           ∙ set-refused s (chosenFrom (a .chosen .now) 0 C) (treeOf (q .restrict-tree .result) (a .text .now)) (a .out .now)
-          (restricted-text s C (a .tree) (a .text .now) (a .order1 .now) (a .m) k _ _ (f .kept-leaves .ensures s C (k .valid) (k .count) (k .numbered)) _
+          (restricted-text s C (a .tree) (a .text .now) (a .order1 .now) (a .m) k _ _
+          (f .kept-leaves .ensures (decoded s) C (valid-decoded s (k .valid)) (k .count) (k .numbered)) _
           (q .restrict-tree .ensures .0))
           (λ n e. not-written (p .write-tree .result) (c .before .match .keys2) n (p .write-tree .ensures .0 ∙ e)),
       λ s C k.
           p .write-tree .ensures .1
           ∙ set-output s (chosenFrom (a .chosen .now) 0 C) (treeOf (q .restrict-tree .result) (a .text .now)) (a .out .now)
-          (restricted-text s C (a .tree) (a .text .now) (a .order1 .now) (a .m) k _ _ (f .kept-leaves .ensures s C (k .valid) (k .count) (k .numbered)) _
+          (restricted-text s C (a .tree) (a .text .now) (a .order1 .now) (a .m) k _ _
+          (f .kept-leaves .ensures (decoded s) C (valid-decoded s (k .valid)) (k .count) (k .numbered)) _
           (q .restrict-tree .ensures .0)),
     )
 
@@ -38,13 +42,15 @@ returns-2 c =
           placed-result _ _ (chosenFrom (a .chosen .now) 0 C) _
           (c .set-places .ensures s C (k .valid) (ap (λ t. t .start) (k .arrays-is)) (ap (λ t. t .size) (k .arrays-is)) (k .count) (k .numbered))
           ∙ set-written s (chosenFrom (a .chosen .now) 0 C) (treeOf (q .restrict-tree .result) (a .text .now)) (a .out .now)
-          (restricted-text s C (a .tree) (a .text .now) (a .order1 .now) (a .m) k _ _ (f .kept-leaves .ensures s C (k .valid) (k .count) (k .numbered)) _
+          (restricted-text s C (a .tree) (a .text .now) (a .order1 .now) (a .m) k _ _
+          (f .kept-leaves .ensures (decoded s) C (valid-decoded s (k .valid)) (k .count) (k .numbered)) _
           (q .restrict-tree .ensures .0))
           _ (sym (p .write-tree .ensures .0) ∙ at-written .written .given .1),
       λ s C k.
           p .write-tree .ensures .1
           ∙ set-output s (chosenFrom (a .chosen .now) 0 C) (treeOf (q .restrict-tree .result) (a .text .now)) (a .out .now)
-          (restricted-text s C (a .tree) (a .text .now) (a .order1 .now) (a .m) k _ _ (f .kept-leaves .ensures s C (k .valid) (k .count) (k .numbered)) _
+          (restricted-text s C (a .tree) (a .text .now) (a .order1 .now) (a .m) k _ _
+          (f .kept-leaves .ensures (decoded s) C (valid-decoded s (k .valid)) (k .count) (k .numbered)) _
           (q .restrict-tree .ensures .0)),
     )
 

@@ -2,18 +2,26 @@
 use Prim.Native.Nat.{_+_}
 use native.Mathlib.Omega.{arith}
 use Rattle.mast.specs.Ranks.{commonFrom}
-use Rattle.mast.proofs.RankLaws.{collected-full, collected-none, collected-add, from-inc}
+use Rattle.trees.specs.Tree.{decoded}
+use Rattle.trees.proofs.TokenLaws.{valid-decoded}
+use Rattle.mast.proofs.RankLaws.{own-proper, own-nodes, stored-at, collected-full, collected-none, collected-add, from-inc}
 use borrow.Author.Needs.{needs}
 use Rattle.mast.proofs.ranks.add_common.Statement.{statement}
 use Rattle.mast.proofs.ranks.add_common.Tie as tie
 
 returns : tie.Need-returns
-returns c =
-    (omega arith, λ s t left nodes o vt b h p k. collected-full o vt h p k _ b (c .if1 .taken))
+returns c = (
+  omega arith,
+  λ s t left nodes o vt b h p k.
+      collected-full (own-proper o) (valid-decoded t vt) (rw (← own-nodes o) h) p k _ b (c .if1 .taken),
+)
 
 returns-2 : tie.Need-returns-2
-returns-2 c =
-    (omega arith, λ s t left nodes o vt b h p k. collected-none o vt h p k (c .if2 .taken))
+returns-2 c = (
+  omega arith,
+  λ s t left nodes o vt b h p k.
+      collected-none (own-proper o) (valid-decoded t vt) (rw (← own-nodes o) h) p k (c .if2 .taken),
+)
 
 insert-leaf-requires : tie.Need-insert-leaf-requires
 insert-leaf-requires c κs = search needs
@@ -25,8 +33,8 @@ returns-3 : tie.Need-returns-3
 returns-3 c = (
   omega arith,
   λ s t left nodes o vt b h p k.
-      collected-add o vt h p k (omega (arith, c .before .before .if2 .left)) _
-      (c .insert-leaf .ensures s left nodes (commonFrom s t (c .before .before .before .before .before .args .u + 1)) o (from-inc s t _ (o .valid .different)) (k .count) (k .first) (k .size1)),
+      collected-add (own-proper o) (valid-decoded t vt) (rw (← own-nodes o) h) p k (omega (arith, c .before .before .if2 .left)) _ (stored-at o _) _
+      (c .insert-leaf .ensures s left nodes (commonFrom (decoded s) (decoded t) (c .before .before .before .before .before .args .u + 1)) o (from-inc (decoded s) (decoded t) _ (own-proper o .different)) (k .count) (k .first) (k .size1)),
 )
 
 pub add-common-spec : {M : Type 1} → statement M

@@ -3,17 +3,18 @@ use Prim.Native.Nat.{ℕ, _-_, _+_, _<_, _≤_}
 use mathlib.Core.Path.{_≡_, refl, subst}
 use native.Mathlib.Omega.{arith}
 use borrow.Author.Needs.{needs}
-use Rattle.trees.specs.Tree.{Tree, Valid}
+use Rattle.trees.specs.Tree.{Tree, decoded, Valid}
 use Rattle.mast.specs.Engine.{OwnLeaves}
 use Rattle.mast.specs.Ranks.{Partners, mostCommon, Collected}
-use Rattle.mast.proofs.RankLaws.{collected-start, node-partner}
+use Rattle.mast.proofs.RankLaws.{own-nodes, own-left, collected-start, node-partner}
 use Rattle.mast.proofs.ranks.common_order.Statement.{statement}
 use Rattle.mast.proofs.ranks.common_order.Tie as tie
 
 abbrev Inv-loop : tie.InvT-loop
 Inv-loop text1 partner order1₀ most left1 start1 size1 m₀ u₀ order1 m u =
     (m ≤ most) × (u ≤ u₀) × ((s t : Tree) → OwnLeaves s text1 left1 start1 size1 (u₀) → Valid t
-    → most ≡ mostCommon s t → Partners (u₀) s t partner → Collected s t u order1 m)
+    → most ≡ mostCommon (decoded s) (decoded t) → Partners (u₀) (decoded s) (decoded t) partner
+    → Collected (decoded s) (decoded t) u order1 m)
 
 abbrev μ-loop : tie.MeasureT-loop
 μ-loop text1 partner order1₀ most left1 start1 size1 m₀ u₀ order1 m u =
@@ -21,7 +22,7 @@ abbrev μ-loop : tie.MeasureT-loop
 
 loop-holds : tie.Need-loop-holds Inv-loop μ-loop
 loop-holds c =
-    (omega arith, omega arith, λ s t o vt b p. collected-start s t _ _ (o .nodes-is) refl)
+    (omega arith, omega arith, λ s t o vt b p. collected-start (decoded s) (decoded t) _ _ (own-nodes o) refl)
 
 sub-u : tie.Need-sub-u Inv-loop μ-loop
 sub-u c =
@@ -62,8 +63,8 @@ loop-again c =
       c .add-common .ensures .0,
       omega (arith, i .1),
       λ s t o vt b p.
-          c .add-common .ensures .1 s t _ _ o vt b low (node-partner o t _ p _ _ low (c .before .before .before .before .leaf-partner .ensures))
-          (subst (λ (n : ℕ). Collected s t n (c .before .before .before .before .before .before .before .loop .order1) (c .before .before .before .before .before .before .before .loop .m)) u-is (i .2 s t o vt b p)),
+          c .add-common .ensures .1 s t _ _ o vt b low (node-partner (own-left o) (own-nodes o) (decoded t) _ p _ _ low (c .before .before .before .before .leaf-partner .ensures))
+          (subst (λ (n : ℕ). Collected (decoded s) (decoded t) n (c .before .before .before .before .before .before .before .loop .order1) (c .before .before .before .before .before .before .before .loop .m)) u-is (i .2 s t o vt b p)),
     )
 
 returns : tie.Need-returns Inv-loop μ-loop
@@ -71,7 +72,7 @@ returns c =
     let i = c .before .loop .inv in
     let u-is : c .before .loop .u ≡ 0 = omega (arith, c .loop-test .left) in (
       omega (arith, i .0, c .before .before .before .before .before .before .before .pre .1),
-      λ s t o vt b p. subst (λ (n : ℕ). Collected s t n (c .before .loop .order1) (c .before .loop .m)) u-is (i .2 s t o vt b p),
+      λ s t o vt b p. subst (λ (n : ℕ). Collected (decoded s) (decoded t) n (c .before .loop .order1) (c .before .loop .m)) u-is (i .2 s t o vt b p),
     )
 
 pub common-order-spec : {M : Type 1} → statement M

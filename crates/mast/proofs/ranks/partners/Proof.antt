@@ -1,12 +1,13 @@
 -- `ranks::partners` meets its contract. Assumes nothing.
 use Prim.Native.Nat.{ℕ, _-_, _≤_}
-use mathlib.Core.Path.{_≡_, _∙_, subst}
+use mathlib.Core.Path.{_≡_, _∙_, ap, subst}
 use mathlib.Core.List.{List}
 use lib.ListN.{length, length-set, length-replicate}
 use native.Mathlib.Omega.{arith}
 use borrow.Author.Needs.{needs}
 use Rattle.trees.specs.Label.{Label}
-use Rattle.trees.specs.Tree.{Tree}
+use Rattle.trees.specs.Token.{spelling}
+use Rattle.trees.specs.Tree.{Tree, decoded}
 use Rattle.mast.specs.Engine.{OwnLeaves}
 use Rattle.mast.specs.Ranks.{Partners, PartnerIs}
 use Rattle.mast.proofs.RankLaws.{partners-none, partners-next, own-part, own-leaf-at}
@@ -16,7 +17,7 @@ use Rattle.mast.proofs.ranks.partners.Tie as tie
 abbrev Inv-loop : tie.InvT-loop
 Inv-loop first tree1 second tree2 start1 size1 left2 start2 size2 partner₀ u₀ partner u =
     (u ≤ tree1 .nodes) × (length partner ≡ 159) × ((s t : Tree) (left1 : List ℕ) → OwnLeaves s first left1 start1 size1 (tree1 .nodes)
-    → OwnLeaves t second left2 start2 size2 (tree2 .nodes) → Partners u s t partner)
+    → OwnLeaves t second left2 start2 size2 (tree2 .nodes) → Partners u (decoded s) (decoded t) partner)
 
 abbrev μ-loop : tie.MeasureT-loop
 μ-loop first tree1 second tree2 start1 size1 left2 start2 size2 partner₀ u₀ partner u =
@@ -24,7 +25,7 @@ abbrev μ-loop : tie.MeasureT-loop
 
 loop-holds : tie.Need-loop-holds Inv-loop μ-loop
 loop-holds c =
-    (omega arith, length-replicate {A = ℕ} 159 159, λ s t left1 o q. partners-none s t _)
+    (omega arith, length-replicate {A = ℕ} 159 159, λ s t left1 o q. partners-none (decoded s) (decoded t) _)
 
 slice-aggregate-leaf-label : tie.Need-slice-aggregate-leaf-label Inv-loop μ-loop
 slice-aggregate-leaf-label c =
@@ -64,9 +65,9 @@ loop-again c =
       omega (arith, c .before .before .before .before .before .before .before .if1 .taken),
       length-set {A = ℕ} (c .before .before .before .before .before .before .before .before .before .loop .partner) _ _ ∙ i .1,
       λ s t left1 o q.
-          partners-next (c .before .before .before .before .before .before .before .before .before .loop .u) s t (c .before .before .before .before .before .before .before .before .before .loop .partner) _ (omega (arith, c .before .before .before .before .before .before .before .if1 .taken)) (i .1)
+          partners-next (c .before .before .before .before .before .before .before .before .before .loop .u) (decoded s) (decoded t) (c .before .before .before .before .before .before .before .before .before .loop .partner) _ (omega (arith, c .before .before .before .before .before .before .before .if1 .taken)) (i .1)
           (λ x e.
-          subst (λ (y : Label). PartnerIs t y (c .look-up .result)) (c .before .before .before .before .leaf-label .ensures ∙ own-part o (c .before .before .before .before .before .before .before .before .before .loop .u) x (own-leaf-at o (c .before .before .before .before .before .before .before .before .before .loop .u) x (c .before .before .before .before .before .before .before .if1 .taken) e))
+          subst (λ (y : Label). PartnerIs (decoded t) y (c .look-up .result)) (ap spelling (c .before .before .before .before .leaf-label .ensures) ∙ own-part o (c .before .before .before .before .before .before .before .before .before .loop .u) x (own-leaf-at o (c .before .before .before .before .before .before .before .before .before .loop .u) x (c .before .before .before .before .before .before .before .if1 .taken) e))
           (c .look-up .ensures t q))
           (i .2 s t left1 o q),
     )
@@ -76,7 +77,7 @@ returns c =
     λ s t o q.
     let i = c .before .before .loop .inv in
     let e : c .before .before .loop .u ≡ c .before .before .before .before .before .before .before .before .before .before .args .tree1 .nodes = omega (arith, c .if1 .left, i .0) in
-    subst (λ (n : ℕ). Partners n s t (c .before .before .loop .partner)) e (i .2 s t _ o q)
+    subst (λ (n : ℕ). Partners n (decoded s) (decoded t) (c .before .before .loop .partner)) e (i .2 s t _ o q)
 
 pub partners-spec : {M : Type 1} → statement M
 partners-spec =

@@ -7,7 +7,7 @@ use lib.ListN.{length}
 use native.Mathlib.Omega.{arith}
 use borrow.Author.Needs.{needs}
 use Rattle.trees.specs.Label.{Label, labelLess}
-use Rattle.trees.specs.Tree.{Tree}
+use Rattle.trees.specs.Tree.{Tree, decoded}
 use Rattle.trees.specs.Stored.{storedBytes}
 use Rattle.agreement.specs.Sets.{increasing}
 use Rattle.leaves.specs.Numbered.{Numbered}
@@ -19,7 +19,7 @@ use Rattle.mast.proofs.ranks.place_of.Tie as tie
 abbrev Inv-loop : tie.InvT-loop
 Inv-loop text start size order m label low₀ high₀ low high =
     (low ≤ high) × (high ≤ m) × ((t : Tree) (left : List ℕ) (nodes : ℕ) (C : List Label) → OwnLeaves t text left start size nodes
-    → increasing C ≡ true → m ≡ length C → Numbered t C order → Halved (storedBytes label) C low high)
+    → increasing C ≡ true → m ≡ length C → Numbered (decoded t) C order → Halved (storedBytes label) C low high)
 
 abbrev μ-loop : tie.MeasureT-loop
 μ-loop text start size order m label low₀ high₀ low high =

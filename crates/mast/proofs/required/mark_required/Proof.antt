@@ -1,13 +1,14 @@
 -- `required::mark_required` meets its contract. Assumes nothing.
 use Prim.Native.Nat.{ℕ, _-_, _<_, _≤_}
-use mathlib.Core.Path.{_≡_, _∙_, subst}
+use mathlib.Core.Path.{_≡_, _∙_, ap, subst}
 use mathlib.Core.Bool.{true, false}
-use mathlib.Core.List.{List}
-use lib.ListN.{length}
+use mathlib.Core.List.{List, map}
+use lib.ListN.{length, length-map}
 use native.Mathlib.Omega.{arith}
 use borrow.Author.Needs.{needs}
 use Rattle.trees.specs.Label.{Label, isIn}
-use Rattle.trees.specs.Tree.{Tree}
+use Rattle.trees.specs.Token.{Token, spelling}
+use Rattle.trees.specs.Tree.{Tree, decoded}
 use Rattle.agreement.specs.Sets.{increasing}
 use Rattle.leaves.specs.Numbered.{Numbered}
 use Rattle.mast.specs.Engine.{OwnLeaves, OwnList}
@@ -18,8 +19,10 @@ use Rattle.mast.proofs.required.mark_required.Tie as tie
 
 abbrev Inv-loop : tie.InvT-loop
 Inv-loop text1 order1 m list places number₀ start1 size1 starts sizes k₀ number k =
-    (k ≤ places .count) × ((s : Tree) (left : List ℕ) (nodes : ℕ) (C K : List Label) → OwnLeaves s text1 left start1 size1 nodes
-    → OwnList K list starts sizes (places .count) → increasing C ≡ true → m ≡ length C → Numbered s C order1 → Marks k C K number)
+    (k ≤ places .count) × ((s : Tree) (left : List ℕ) (nodes : ℕ) (C : List Label) (K : List Token)
+    → OwnLeaves s text1 left start1 size1 nodes
+    → OwnList K list starts sizes (places .count) → increasing C ≡ true → m ≡ length C → Numbered (decoded s) C order1
+    → Marks k C (map spelling K) number)
 
 abbrev μ-loop : tie.MeasureT-loop
 μ-loop text1 order1 m list places number₀ start1 size1 starts sizes k₀ number k =
@@ -27,7 +30,7 @@ abbrev μ-loop : tie.MeasureT-loop
 
 loop-holds : tie.Need-loop-holds Inv-loop μ-loop
 loop-holds c =
-    (omega arith, λ s left nodes C K o l i e n. marks-none C K)
+    (omega arith, λ s left nodes C K o l i e n. marks-none C (map spelling K))
 
 rank-in-requires : tie.Need-rank-in-requires Inv-loop μ-loop
 rank-in-requires c κs =
@@ -38,7 +41,7 @@ returns c = (
   omega arith,
   λ s C K o l i e n.
       let h : c .before .before .before .before .before .before .before .loop .k < c .before .before .before .before .before .before .before .before .before .before .before .before .before .before .before .args .places .count = c .before .before .before .before .before .if1 .taken in
-      let x = c .before .before .part .ensures ∙ list-part l (c .before .before .before .before .before .before .before .loop .k) h in
+      let x = ap spelling (c .before .before .part .ensures) ∙ list-part l (c .before .before .before .before .before .before .before .loop .k) h in
       record {
         marks = c .before .before .before .before .before .before .before .loop .inv .1 s _ _ C K o l i e n;
         stopped = λ q.
@@ -56,11 +59,11 @@ loop-again c = (
   omega arith,
   λ s left nodes C K o l i e n.
       let h : c .before .before .before .before .before .before .before .before .loop .k < c .before .before .before .before .before .before .before .before .before .before .before .before .before .before .before .before .args .places .count = c .before .before .before .before .before .before .if1 .taken in
-      let x = c .before .before .before .part .ensures ∙ list-part l (c .before .before .before .before .before .before .before .before .loop .k) h in
+      let x = ap spelling (c .before .before .before .part .ensures) ∙ list-part l (c .before .before .before .before .before .before .before .before .loop .k) h in
       let low : c .before .before .rank-in .result < length C = omega (arith, c .before .before .rank-in .ensures .0, c .before .if2 .left) in
       let f = c .before .before .rank-in .ensures .1 s left nodes C o e n in
-      marks-next (c .before .before .before .before .before .before .before .before .loop .k) C K (c .before .before .before .before .before .before .before .before .loop .number) (c .before .before .rank-in .result) _ i (l .different) (omega (arith, c .before .before .before .before .before .before .before .before .before .before .before .before .before .before .before .before .pre .0))
-      (omega (arith, l .count-is)) (omega (arith, c .before .before .before .before .before .before .before .before .before .before .before .before .before .before .before .before .pre .1)) low (f .at low ∙ x) (c .narrow .ensures) (c .before .before .before .before .before .before .before .before .loop .inv .1 s left nodes C K o l i e n),
+      marks-next (c .before .before .before .before .before .before .before .before .loop .k) C (map spelling K) (c .before .before .before .before .before .before .before .before .loop .number) (c .before .before .rank-in .result) _ i (l .different) (omega (arith, c .before .before .before .before .before .before .before .before .before .before .before .before .before .before .before .before .pre .0))
+      (omega (arith, l .count-is, length-map K spelling)) (omega (arith, c .before .before .before .before .before .before .before .before .before .before .before .before .before .before .before .before .pre .1)) low (f .at low ∙ x) (c .narrow .ensures) (c .before .before .before .before .before .before .before .before .loop .inv .1 s left nodes C K o l i e n),
 )
 
 returns-2 : tie.Need-returns-2 Inv-loop μ-loop

@@ -6,7 +6,8 @@ use lib.ListN.{length, getD}
 use native.Mathlib.Omega.{arith}
 use borrow.Author.Needs.{needs}
 use Rattle.trees.specs.Label.{Label, sameLabel}
-use Rattle.trees.specs.Tree.{Tree}
+use Rattle.trees.specs.Token.{spelling}
+use Rattle.trees.specs.Tree.{Tree, decoded}
 use Rattle.trees.proofs.EntryLaws.{below-next}
 use Rattle.leaves.specs.Numbered.{Numbered}
 use Rattle.mast.specs.Engine.{OwnLeaves}
@@ -15,12 +16,12 @@ use Rattle.mast.proofs.required.rank_in.Statement.{statement}
 use Rattle.mast.proofs.required.rank_in.Tie as tie
 
 abbrev Inv-loop : tie.InvT-loop
-Inv-loop text1 start1 size1 order1 m label r₀ r =
+Inv-loop text1 start1 size1 order1 m token r₀ r =
     (r ≤ m) × ((s : Tree) (left : List ℕ) (nodes : ℕ) (C : List Label) → OwnLeaves s text1 left start1 size1 nodes
-    → m ≡ length C → Numbered s C order1 → (q : ℕ) → q < r → getD C q [] ≡ label → ⊥)
+    → m ≡ length C → Numbered (decoded s) C order1 → (q : ℕ) → q < r → getD C q [] ≡ spelling token → ⊥)
 
 abbrev μ-loop : tie.MeasureT-loop
-μ-loop text1 start1 size1 order1 m label r₀ r =
+μ-loop text1 start1 size1 order1 m token r₀ r =
     m - r
 
 loop-holds : tie.Need-loop-holds Inv-loop μ-loop
@@ -33,8 +34,8 @@ returns c =
       omega arith,
       λ s left nodes C o e n.
           let h : c .before .before .before .before .before .before .before .loop .r < length C = omega (arith, c .before .before .before .before .before .before .loop-test .taken) in
-          rank-here o C (a .order1 .now) n (a .label .now) (c .before .before .before .before .before .before .before .loop .r) h
-          (ap (λ (x : Label). sameLabel x (a .label .now)) (sym (c .before .before .leaf-label .ensures)) ∙ sym (c .before .same-label .ensures) ∙ c .if1 .taken),
+          rank-here o C (a .order1 .now) n (spelling (a .token .now)) (c .before .before .before .before .before .before .before .loop .r) h
+          (ap (λ (x : Label). sameLabel (spelling x) (spelling (a .token .now))) (sym (c .before .before .leaf-label .ensures)) ∙ sym (c .before .same-label .ensures) ∙ c .if1 .taken),
     )
 
 loop-again : tie.Need-loop-again Inv-loop μ-loop
@@ -43,9 +44,9 @@ loop-again c =
       omega arith,
       λ s left nodes C o e n.
           let h : c .before .before .before .before .before .before .before .loop .r < length C = omega (arith, c .before .before .before .before .before .before .loop-test .taken) in
-          below-next (λ q. getD C q [] ≡ a .label .now → ⊥) (c .before .before .before .before .before .before .before .loop .r) (c .before .before .before .before .before .before .before .loop .inv .1 s left nodes C o e n)
-          (not-here o C (a .order1 .now) n (a .label .now) (c .before .before .before .before .before .before .before .loop .r) h
-          (ap (λ (x : Label). sameLabel x (a .label .now)) (sym (c .before .before .leaf-label .ensures)) ∙ sym (c .before .same-label .ensures) ∙ c .if1 .left)),
+          below-next (λ q. getD C q [] ≡ spelling (a .token .now) → ⊥) (c .before .before .before .before .before .before .before .loop .r) (c .before .before .before .before .before .before .before .loop .inv .1 s left nodes C o e n)
+          (not-here o C (a .order1 .now) n (spelling (a .token .now)) (c .before .before .before .before .before .before .before .loop .r) h
+          (ap (λ (x : Label). sameLabel (spelling x) (spelling (a .token .now))) (sym (c .before .before .leaf-label .ensures)) ∙ sym (c .before .same-label .ensures) ∙ c .if1 .left)),
     )
 
 returns-2 : tie.Need-returns-2 Inv-loop μ-loop

@@ -1,11 +1,10 @@
 -- `strict::turned_round` meets its contract. Assumes nothing.
-use Prim.Native.Nat.{ℕ, _+_, _-_, _≤_}
-use mathlib.Core.Path.{sym, subst}
-use mathlib.Core.List.{List}
+use Prim.Native.Nat.{_+_, _-_, _≤_}
+use mathlib.Core.Path.{_≡_, sym, subst}
 use native.Mathlib.Omega.{arith}
 use borrow.Author.Needs.{needs}
-use Rattle.trees.specs.Tree.{Tree, Valid}
-use Rattle.mast.specs.Engine.{OwnLeaves}
+use Rattle.trees.specs.Tree.{Tree, Proper}
+use Rattle.trees.specs.Arrays.{nodesOf, arraysOf}
 use Rattle.mast.specs.Ranks.{Partners}
 use Rattle.mast.proofs.RankLaws.{node-partner}
 use Rattle.mast.proofs.StrayLaws.{Turned, turned-start, turned-next, turned-all}
@@ -14,7 +13,7 @@ use Rattle.mast.proofs.strict.turned_round.Tie as tie
 
 abbrev Inv-loop : tie.InvT-loop
 Inv-loop left1 nodes1 partner back₀ u₀ back u =
-    (u ≤ nodes1) × ((s t : Tree) (text start size : List ℕ) → OwnLeaves s text left1 start size nodes1 → Valid t → Partners nodes1 s t partner
+    (u ≤ nodes1) × ((s t : Tree) → left1 ≡ arraysOf s .left → nodes1 ≡ nodesOf s → Proper t → Partners nodes1 s t partner
     → Turned s t u back)
 
 abbrev μ-loop : tie.MeasureT-loop
@@ -23,22 +22,22 @@ abbrev μ-loop : tie.MeasureT-loop
 
 loop-holds : tie.Need-loop-holds Inv-loop μ-loop
 loop-holds c =
-    (omega arith, λ s t text start size o v p. turned-start s t v)
+    (omega arith, λ s t left-is nodes-is v p. turned-start s t v)
 
 loop-again : tie.Need-loop-again Inv-loop μ-loop
 loop-again c = (
   omega arith,
-  λ s t text start size o v p.
-      let i = c .before .before .before .before .before .before .loop .inv .1 s t text start size o v p in
+  λ s t left-is nodes-is v p.
+      let i = c .before .before .before .before .before .before .loop .inv .1 s t left-is nodes-is v p in
       let h = c .before .before .before .before .before .loop-test .taken in
       subst (Turned s t (c .before .before .before .before .before .before .loop .u + 1)) (sym (c .put-at .ensures (i .size)))
-      (turned-next v (rw (← o .nodes-is) h) (node-partner o t _ p _ _ h (c .before .leaf-partner .ensures)) i),
+      (turned-next v (rw (← nodes-is) h) (node-partner left-is nodes-is t _ p _ _ h (c .before .leaf-partner .ensures)) i),
 )
 
 returns : tie.Need-returns Inv-loop μ-loop
 returns c =
-    λ s t text start size o v p.
-    turned-all (omega (arith, c .before .loop .inv .0, c .loop-test .left, o .nodes-is)) (c .before .loop .inv .1 s t text start size o v p)
+    λ s t left-is nodes-is v p.
+    turned-all (omega (arith, c .before .loop .inv .0, c .loop-test .left, nodes-is)) (c .before .loop .inv .1 s t left-is nodes-is v p)
 
 pub turned-round-spec : {M : Type 1} → statement M
 turned-round-spec =

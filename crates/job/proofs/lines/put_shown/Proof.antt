@@ -2,11 +2,11 @@ use Prim.Native.Nat.{ℕ}
 use mathlib.Core.Path.{ap}
 use native.Mathlib.Omega.{arith}
 use lib.ListN.{length}
-use Rattle.trees.specs.Stored.{storedBytes}
+use Rattle.trees.specs.Stored.{shownBytes}
 use Rattle.job.proofs.AreaLaws.{put-as}
 use borrow.Author.Needs.{needs}
-use Rattle.job.proofs.lines.put_stored.Statement.{statement}
-use Rattle.job.proofs.lines.put_stored.Tie as tie
+use Rattle.job.proofs.lines.put_shown.Statement.{statement}
+use Rattle.job.proofs.lines.put_shown.Tie as tie
 
 slice-aggregate-first-bytes : tie.Need-slice-aggregate-first-bytes
 slice-aggregate-first-bytes c = search needs
@@ -15,7 +15,7 @@ first-bytes-requires : tie.Need-first-bytes-requires
 first-bytes-requires c κs = search needs
 
 put-bytes-requires : tie.Need-put-bytes-requires
-unfolding storedBytes
+unfolding shownBytes
 put-bytes-requires c κs =
     omega (arith, ap (length {A = ℕ}) (c .before .first-bytes .ensures), c .before .before .before .before .before .pre)
 
@@ -23,12 +23,12 @@ same-length : tie.Need-same-length
 same-length c = search needs
 
 returns : tie.Need-returns
-unfolding storedBytes
+unfolding shownBytes
 returns c =
     put-as _ _ (c .before .before .before .before .first-bytes .ensures) (c .before .before .put-bytes .ensures)
 
-pub put-stored-spec : {M : Type 1} → statement M
-put-stored-spec =
+pub put-shown-spec : {M : Type 1} → statement M
+put-shown-spec =
     tie.close
     (tie.spec
     slice-aggregate-first-bytes

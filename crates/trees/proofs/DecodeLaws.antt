@@ -1,0 +1,339 @@
+-- How the code reads tokens byte by byte and writes labels: what it reads of a token is the token's spelling, and what it writes of a
+-- label is the label's written form. Assumes nothing.
+use Prim.Native.Nat.{ℕ, suc, _+_, _-_, _<_, _≤_}
+use mathlib.Core.Path.{_≡_, refl, sym, _∙_, ap, ap₂}
+use mathlib.Core.Bool.{Bool, true, false, _||_}
+use mathlib.Core.Logic.{_⊎_, inl, inr}
+use mathlib.Core.List.{List, [], _∷_, _++_, map}
+use native.Mathlib.Omega.{arith}
+use native.Mathlib.Numerals.{add-one}
+use lib.Dec.{eqb}
+use lib.ListN.{length, getD, take, drop, length-append, length-map, length-take, length-drop, drop-of-length-le, List·getD-append, List·getD-eq-default}
+use lib.Seq.{drop-cons, getD-at, getD-take, getD-drop}
+use borrow.Author.Tests.{eq-eqb, ne-eqb}
+use Rattle.trees.specs.Bytes.{quoteByte, blankByte, underscoreByte}
+use Rattle.trees.specs.Label.{Label, sameLabel, orderOf}
+use Rattle.trees.specs.declared.Order.the-variants.{Less, Equal, Greater}
+use Rattle.trees.specs.Token.{Token, bareByte, spelling, writtenByte, holdsUnderscore, tokenOf}
+use Rattle.trees.specs.Reading.{quoteFirst}
+use Rattle.trees.specs.Stored.{byteOf, innerBytes, readAs, lastRead, formOf}
+use Rattle.trees.proofs.Bools.{bool-cases}
+use Rattle.trees.proofs.LabelLaws.{lengths-differ, bytes-differ, all-same, byte-agrees}
+use Rattle.trees.proofs.LabelLaws.{both-end, first-ends, second-ends, byte-less, byte-greater, byte-same}
+use Rattle.trees.proofs.RelabelLaws.{map-at}
+use Rattle.trees.proofs.TokenLaws.{token-quoted, token-plain}
+
+-- ---- one byte
+
+module _ (q : Bool) (b : ℕ) where
+  pub byte-plain : (b ≡ underscoreByte → ⊥) → b ≡ byteOf q b
+  unfolding byteOf bareByte
+  byte-plain h = go q
+    where
+      go : (r : Bool) → b ≡ byteOf r b
+      go true = refl
+      go false = rw (ne-eqb b underscoreByte h) refl
+
+  pub byte-under : b ≡ underscoreByte → q ≡ true → underscoreByte ≡ byteOf q b
+  unfolding byteOf
+  byte-under h e = rw (e, h) refl
+
+  pub byte-blank : b ≡ underscoreByte → q ≡ false → blankByte ≡ byteOf q b
+  unfolding byteOf bareByte
+  byte-blank h e = rw (e, eq-eqb b underscoreByte h) refl
+
+-- ---- bytes read as a label
+
+pub read-plain : (x : List ℕ) → readAs true x ≡ x
+unfolding byteOf
+read-plain [] = refl
+read-plain (b ∷ x) = ap (_∷_ b) (read-plain x)
+
+read-bare : (x : List ℕ) → readAs false x ≡ map bareByte x
+unfolding byteOf
+read-bare [] = refl
+read-bare (b ∷ x) = ap (_∷_ (bareByte b)) (read-bare x)
+
+pub read-size : (q : Bool) (x : List ℕ) → length (readAs q x) ≡ length x
+read-size q x = length-map x (byteOf q)
+
+pub read-at : (q : Bool) (x : List ℕ) (i : ℕ) → i < length x → getD (readAs q x) i 0 ≡ byteOf q (getD x i 0)
+read-at q x i h = map-at (byteOf q) x i 0 0 h
+
+-- ---- a token
+
+pub first-none : (x : Token) → length x ≡ 0 → false ≡ quoteFirst x
+unfolding quoteFirst
+first-none [] h = refl
+first-none (b ∷ x) h = absurd (omega arith)
+
+pub first-byte : (x : Token) → (length x ≡ 0 → ⊥) → eqb (getD x 0 0) quoteByte ≡ quoteFirst x
+unfolding quoteFirst
+first-byte [] h = absurd (h refl)
+first-byte (b ∷ x) h = refl
+
+pub inner-bare : (x : Token) → quoteFirst x ≡ false → x ≡ innerBytes x
+unfolding innerBytes
+inner-bare x e = rw e refl
+
+inner-quoted : (x : Token) → quoteFirst x ≡ true → take (length x - 2) (drop 1 x) ≡ innerBytes x
+unfolding innerBytes
+inner-quoted x e = rw e refl
+
+pub inner-short : (x : Token) → quoteFirst x ≡ true → length x < 2 → [] ≡ innerBytes x
+inner-short x e h =
+    let n : length x - 2 ≡ 0 = omega arith in
+    sym (ap (λ (k : ℕ). take k (drop 1 x)) n) ∙ inner-quoted x e
+
+pub inner-cut : (x : Token) → quoteFirst x ≡ true → take (length x - 1 - 1) (drop 1 x) ≡ innerBytes x
+inner-cut x e =
+    let n : length x - 1 - 1 ≡ length x - 2 = omega arith in
+    ap (λ (k : ℕ). take k (drop 1 x)) n ∙ inner-quoted x e
+
+inner-size : (x : Token) → (length (innerBytes x) ≡ length x) ⊎ (length (innerBytes x) ≡ length x - 2)
+inner-size x = go (bool-cases (quoteFirst x))
+  where
+    go : (quoteFirst x ≡ true) ⊎ (quoteFirst x ≡ false) → (length (innerBytes x) ≡ length x) ⊎ (length (innerBytes x) ≡ length x - 2)
+    go (inl e) =
+        inr (sym (ap length (inner-quoted x e)) ∙ simp (length-take, length-drop) (omega arith))
+    go (inr e) = inl (sym (ap length (inner-bare x e)))
+
+-- what is read of a token is its spelling
+pub spelling-read : (x : Token) → readAs (quoteFirst x) (innerBytes x) ≡ spelling x
+unfolding innerBytes spelling quoteFirst
+spelling-read [] = refl
+spelling-read (b ∷ rest) = go (bool-cases (eqb b quoteByte))
+  where
+    go : (eqb b quoteByte ≡ true) ⊎ (eqb b quoteByte ≡ false) → readAs (quoteFirst (b ∷ rest)) (innerBytes (b ∷ rest)) ≡ spelling (b ∷ rest)
+    go (inl e) =
+        let n : length (b ∷ rest) - 2 ≡ length rest - 1 = omega arith in
+        rw e (read-plain (take (length (b ∷ rest) - 2) rest) ∙ ap (λ (k : ℕ). take k rest) n)
+    go (inr e) = rw e (read-bare (b ∷ rest))
+
+pub spelling-told : (t : Token) (q : Bool) (x : List ℕ) → q ≡ quoteFirst t → x ≡ innerBytes t → readAs q x ≡ spelling t
+spelling-told t q x e f = rw (e, f) (spelling-read t)
+
+-- of two tokens at once
+pub both-told : {A : Type 0} (f : Label → Label → A) (s t : Token) (q r : Bool) (x y : List ℕ) → x ≡ innerBytes s → q ≡ quoteFirst s
+    → y ≡ innerBytes t → r ≡ quoteFirst t → f (readAs q x) (readAs r y) ≡ f (spelling s) (spelling t)
+both-told f s t q r x y d e g h = ap₂ f (spelling-told s q x e d) (spelling-told t r y h g)
+
+pub spelling-size : (x : Token) → length (innerBytes x) ≡ length (spelling x)
+spelling-size x = sym (read-size (quoteFirst x) (innerBytes x)) ∙ ap length (spelling-read x)
+
+-- as long as the token, or shorter by two quotes
+pub spelling-sizes : (x : Token) → (length (spelling x) ≡ length x) ⊎ (length (spelling x) ≡ length x - 2)
+spelling-sizes x = rw (spelling-size x) at (inner-size x)
+
+-- ---- two runs of bytes compared
+
+module _ (q r : Bool) (a b : List ℕ) where
+  pub read-lengths : (length a ≡ length b → ⊥) → sameLabel (readAs q a) (readAs r b) ≡ false
+  read-lengths h =
+      lengths-differ (readAs q a) (readAs r b)
+      (λ (e : length (readAs q a) ≡ length (readAs r b)). h (sym (read-size q a) ∙ e ∙ read-size r b))
+
+  pub read-differ : (i : ℕ) → i < length a → i < length b → (byteOf q (getD a i 0) ≡ byteOf r (getD b i 0) → ⊥)
+      → sameLabel (readAs q a) (readAs r b) ≡ false
+  read-differ i h k n =
+      bytes-differ (readAs q a) (readAs r b) i
+      (λ (e : getD (readAs q a) i 0 ≡ getD (readAs r b) i 0). n (sym (read-at q a i h) ∙ e ∙ read-at r b i k))
+
+  -- the rests from place i on
+  abbrev pub SameFrom : ℕ → Type 0
+  SameFrom i = sameLabel (drop i (readAs q a)) (drop i (readAs r b)) ≡ sameLabel (readAs q a) (readAs r b)
+
+  pub read-same : (i : ℕ) → SameFrom i → length a ≤ i → length b ≤ i → true ≡ sameLabel (readAs q a) (readAs r b)
+  read-same i so-far h k =
+      all-same (readAs q a) (readAs r b) i so-far (omega (arith, read-size q a)) (omega (arith, read-size r b))
+
+  pub read-agrees : (i : ℕ) → SameFrom i → i < length a → i < length b → byteOf q (getD a i 0) ≡ byteOf r (getD b i 0) → SameFrom (i + 1)
+  read-agrees i so-far h k e =
+      byte-agrees (readAs q a) (readAs r b) i so-far (omega (arith, read-size q a)) (omega (arith, read-size r b))
+      (read-at q a i h ∙ e ∙ sym (read-at r b i k))
+
+  abbrev pub OrderFrom : ℕ → Type 0
+  OrderFrom i = orderOf (drop i (readAs q a)) (drop i (readAs r b)) ≡ orderOf (readAs q a) (readAs r b)
+
+  module _ (i : ℕ) (so-far : OrderFrom i) where
+    pub read-both-end : length a ≤ i → length b ≤ i → Equal ≡ orderOf (readAs q a) (readAs r b)
+    read-both-end h k =
+        both-end (readAs q a) (readAs r b) i so-far (omega (arith, read-size q a)) (omega (arith, read-size r b))
+
+    pub read-first-ends : length a ≤ i → i < length b → Less ≡ orderOf (readAs q a) (readAs r b)
+    read-first-ends h k =
+        first-ends (readAs q a) (readAs r b) i so-far (omega (arith, read-size q a)) (omega (arith, read-size r b))
+
+    pub read-second-ends : i < length a → length b ≤ i → Greater ≡ orderOf (readAs q a) (readAs r b)
+    read-second-ends h k =
+        second-ends (readAs q a) (readAs r b) i so-far (omega (arith, read-size q a)) (omega (arith, read-size r b))
+
+    -- the byte at i decides, or the rest does
+    module _ (h : i < length a) (k : i < length b) where
+      pub read-less : byteOf q (getD a i 0) < byteOf r (getD b i 0) → Less ≡ orderOf (readAs q a) (readAs r b)
+      read-less l =
+          byte-less (readAs q a) (readAs r b) i so-far (omega (arith, read-size q a)) (omega (arith, read-size r b))
+          (rw (read-at q a i h, read-at r b i k) l)
+
+      pub read-greater : byteOf r (getD b i 0) < byteOf q (getD a i 0) → Greater ≡ orderOf (readAs q a) (readAs r b)
+      read-greater l =
+          byte-greater (readAs q a) (readAs r b) i so-far (omega (arith, read-size q a)) (omega (arith, read-size r b))
+          (rw (read-at q a i h, read-at r b i k) l)
+
+      pub read-level : byteOf q (getD a i 0) ≡ byteOf r (getD b i 0) → OrderFrom (i + 1)
+      read-level e =
+          byte-same (readAs q a) (readAs r b) i so-far (omega (arith, read-size q a)) (omega (arith, read-size r b))
+          (read-at q a i h ∙ e ∙ sym (read-at r b i k))
+
+-- ---- bytes compared with a token whose size is known
+
+spelled-bare : (y : Token) → quoteFirst y ≡ false → readAs false y ≡ spelling y
+spelled-bare y e = spelling-told y false y (sym e) (inner-bare y e)
+
+spelled-quoted : (y : Token) → quoteFirst y ≡ true → take (length y - 2) (drop 1 y) ≡ spelling y
+spelled-quoted y e = sym (read-plain (take (length y - 2) (drop 1 y))) ∙ spelling-told y true (take (length y - 2) (drop 1 y)) (sym e) (inner-quoted y e)
+
+quoted-short : (y : Token) → quoteFirst y ≡ true → length (spelling y) ≡ length y - 2
+quoted-short y e = sym (ap length (spelled-quoted y e)) ∙ simp (length-take, length-drop) (omega arith)
+
+bare-long : (y : Token) → quoteFirst y ≡ false → length (spelling y) ≡ length y
+bare-long y e = sym (ap length (spelled-bare y e)) ∙ read-size false y
+
+-- the first byte tells
+is-first : (y : Token) → 1 ≤ length y → getD y 0 0 ≡ quoteByte → quoteFirst y ≡ true
+is-first y h e = sym (first-byte y (λ (z : length y ≡ 0). omega arith)) ∙ eq-eqb (getD y 0 0) quoteByte e
+
+not-first : (y : Token) → 1 ≤ length y → (getD y 0 0 ≡ quoteByte → ⊥) → quoteFirst y ≡ false
+not-first y h e = sym (first-byte y (λ (z : length y ≡ 0). omega arith)) ∙ ne-eqb (getD y 0 0) quoteByte e
+
+module _ (q : Bool) (a : List ℕ) (y : Token) (some : 1 ≤ length a) where
+  other-size : (length (spelling y) ≡ length a → ⊥) → sameLabel (readAs q a) (spelling y) ≡ false
+  other-size h =
+      lengths-differ (readAs q a) (spelling y)
+      (λ (e : length (readAs q a) ≡ length (spelling y)). h (sym e ∙ read-size q a))
+
+  -- a token of as many bytes is bare
+  module _ (size : length y ≡ length a) where
+    pub bare-quote : getD y 0 0 ≡ quoteByte → sameLabel (readAs q a) (spelling y) ≡ false
+    bare-quote e =
+        other-size (λ (d : length (spelling y) ≡ length a). omega (arith, quoted-short y (is-first y (omega arith) e)))
+
+    pub bare-last : (byteOf false (getD y (length a - 1) 0) ≡ lastRead q a → ⊥) → sameLabel (readAs q a) (spelling y) ≡ false
+    bare-last h = go (bool-cases (quoteFirst y))
+      where
+        go : (quoteFirst y ≡ true) ⊎ (quoteFirst y ≡ false) → sameLabel (readAs q a) (spelling y) ≡ false
+        go (inl e) = other-size (λ (d : length (spelling y) ≡ length a). omega (arith, quoted-short y e))
+        go (inr e) =
+            rw (← spelled-bare y e)
+            (read-differ q false a y (length a - 1) (omega arith) (omega arith)
+            (λ (d : byteOf q (getD a (length a - 1) 0) ≡ byteOf false (getD y (length a - 1) 0)). h (sym d)))
+
+    pub bare-differ : sameLabel (readAs q a) (readAs false y) ≡ false → sameLabel (readAs q a) (spelling y) ≡ false
+    bare-differ h = go (bool-cases (quoteFirst y))
+      where
+        go : (quoteFirst y ≡ true) ⊎ (quoteFirst y ≡ false) → sameLabel (readAs q a) (spelling y) ≡ false
+        go (inl e) = other-size (λ (d : length (spelling y) ≡ length a). omega (arith, quoted-short y e))
+        go (inr e) = rw (← spelled-bare y e) h
+
+    pub bare-same : (getD y 0 0 ≡ quoteByte → ⊥) → readAs false y ≡ spelling y
+    bare-same e = spelled-bare y (not-first y (omega arith) e)
+
+  -- a token of two bytes more is quoted
+  module _ (size : length y ≡ length a + 2) where
+    pub quoted-not : (getD y 0 0 ≡ quoteByte → ⊥) → sameLabel (readAs q a) (spelling y) ≡ false
+    quoted-not e =
+        other-size (λ (d : length (spelling y) ≡ length a). omega (arith, bare-long y (not-first y (omega arith) e)))
+
+    -- its last byte before the closing quote
+    quoted-at : quoteFirst y ≡ true → getD (spelling y) (length a - 1) 0 ≡ getD y (length a) 0
+    quoted-at e =
+        let n : 1 + (length a - 1) ≡ length a = omega arith in
+        sym (ap (λ (l : List ℕ). getD l (length a - 1) 0) (spelled-quoted y e))
+        ∙ getD-take (length y - 2) (drop 1 y) (length a - 1) 0 (omega arith) ∙ getD-drop 1 y (length a - 1) 0
+        ∙ ap (λ (k : ℕ). getD y k 0) n
+
+    pub quoted-last : (getD y (length a) 0 ≡ lastRead q a → ⊥) → sameLabel (readAs q a) (spelling y) ≡ false
+    quoted-last h = go (bool-cases (quoteFirst y))
+      where
+        go : (quoteFirst y ≡ true) ⊎ (quoteFirst y ≡ false) → sameLabel (readAs q a) (spelling y) ≡ false
+        go (inl e) =
+            bytes-differ (readAs q a) (spelling y) (length a - 1)
+            (λ (d : getD (readAs q a) (length a - 1) 0 ≡ getD (spelling y) (length a - 1) 0).
+            h (sym (quoted-at e) ∙ sym d ∙ read-at q a (length a - 1) (omega arith)))
+        go (inr e) = other-size (λ (d : length (spelling y) ≡ length a). omega (arith, bare-long y e))
+
+    pub quoted-same : getD y 0 0 ≡ quoteByte → readAs true (take (length a + 1 - 1) (drop 1 y)) ≡ spelling y
+    quoted-same e =
+        let n : length a + 1 - 1 ≡ length y - 2 = omega arith in
+        read-plain (take (length a + 1 - 1) (drop 1 y)) ∙ ap (λ (k : ℕ). take k (drop 1 y)) n
+        ∙ spelled-quoted y (is-first y (omega arith) e)
+
+-- ---- the written form
+
+form-token : (x : Label) → formOf (holdsUnderscore x) x ≡ tokenOf x
+unfolding formOf
+form-token x = go (bool-cases (holdsUnderscore x))
+  where
+    go : (holdsUnderscore x ≡ true) ⊎ (holdsUnderscore x ≡ false) → formOf (holdsUnderscore x) x ≡ tokenOf x
+    go (inl e) = rw (token-quoted x e, e) refl
+    go (inr e) = rw (token-plain x e, e) refl
+
+pub form-told : (x y : Label) (q : Bool) → q ≡ holdsUnderscore y → y ≡ x → formOf q y ≡ tokenOf x
+form-told x y q e f = rw (e, f) (form-token x)
+
+pub quoted-size : (x : Label) → length (formOf true x) ≡ length x + 2
+unfolding formOf
+quoted-size x = omega (arith, length-append x (quoteByte ∷ []))
+
+pub plain-size : (x : Label) → length (formOf false x) ≡ length x
+unfolding formOf
+plain-size x = length-map x writtenByte
+
+-- the bytes of a label between quotes
+module _ (x : Label) (i : ℕ) where
+  pub quote-first : i ≡ 0 → quoteByte ≡ getD (formOf true x) i 0
+  unfolding formOf
+  quote-first e = rw e refl
+
+  later : 1 ≤ i → getD (formOf true x) i 0 ≡ getD (x ++ (quoteByte ∷ [])) (i - 1) 0
+  unfolding formOf
+  later h =
+      let e : i ≡ suc (i - 1) = omega arith in
+      ap (λ (k : ℕ). getD (quoteByte ∷ (x ++ (quoteByte ∷ []))) k 0) e
+
+  pub quote-inside : 1 ≤ i → i - 1 < length x → getD x (i - 1) 0 ≡ getD (formOf true x) i 0
+  quote-inside h k = sym (later h ∙ List·getD-append x (quoteByte ∷ []) 0 (i - 1) k)
+
+  pub quote-last : 1 ≤ i → i - 1 ≡ length x → quoteByte ≡ getD (formOf true x) i 0
+  quote-last h e = sym (later h ∙ getD-at x quoteByte [] 0 (i - 1) (sym e))
+
+  pub form-past : (q : Bool) → length (formOf q x) ≤ i → 0 ≡ getD (formOf q x) i 0
+  form-past q h = sym (List·getD-eq-default (formOf q x) 0 h)
+
+  plain-at : i < length x → getD (formOf false x) i 0 ≡ writtenByte (getD x i 0)
+  unfolding formOf
+  plain-at h = map-at writtenByte x i 0 0 h
+
+  pub plain-blank : i < length x → getD x i 0 ≡ blankByte → underscoreByte ≡ getD (formOf false x) i 0
+  unfolding writtenByte
+  plain-blank h e = sym (plain-at h ∙ rw (eq-eqb (getD x i 0) blankByte e) refl)
+
+  pub plain-other : i < length x → (getD x i 0 ≡ blankByte → ⊥) → getD x i 0 ≡ getD (formOf false x) i 0
+  unfolding writtenByte
+  plain-other h n = sym (plain-at h ∙ rw (ne-eqb (getD x i 0) blankByte n) refl)
+
+-- an underscore looked for from the front
+module _ (x : Label) (i : ℕ) (so-far : holdsUnderscore (drop i x) ≡ holdsUnderscore x) where
+  pub under-none : length x ≤ i → false ≡ holdsUnderscore x
+  unfolding holdsUnderscore
+  under-none h = rw (← so-far, drop-of-length-le x h) refl
+
+  here : i < length x → holdsUnderscore x ≡ (eqb (getD x i 0) underscoreByte || holdsUnderscore (drop (suc i) x))
+  unfolding holdsUnderscore
+  here h = sym so-far ∙ rw (drop-cons x i 0 h) refl
+
+  pub under-found : i < length x → getD x i 0 ≡ underscoreByte → true ≡ holdsUnderscore x
+  under-found h e = sym (here h ∙ rw (eq-eqb (getD x i 0) underscoreByte e) refl)
+
+  pub under-later : i < length x → (getD x i 0 ≡ underscoreByte → ⊥) → holdsUnderscore (drop (i + 1) x) ≡ holdsUnderscore x
+  under-later h n = rw (add-one i) (sym (here h ∙ rw (ne-eqb (getD x i 0) underscoreByte n) refl))

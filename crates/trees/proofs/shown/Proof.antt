@@ -1,0 +1,89 @@
+-- `shown` meets its contract. The loop keeps that the first i bytes of the form are written and 0 stands after them. Assumes nothing.
+use Prim.Native.Nat.{_≤_, _-_, min}
+use mathlib.Core.Path.{_≡_, refl, _∙_}
+use native.Mathlib.Omega.{arith}
+use lib.ListN.{length}
+use borrow.Author.Needs.{needs}
+use Rattle.trees.specs.Token.{tokenLimit}
+use Rattle.trees.specs.Stored.{storedBytes, formOf}
+use Rattle.trees.proofs.StoredLaws.{copied, copy-next, shown-made}
+use Rattle.trees.proofs.DecodeLaws.{form-told}
+use Rattle.trees.proofs.shown.Statement.{statement}
+use Rattle.trees.proofs.shown.Tie as tie
+
+abbrev Inv-loop : tie.InvT-loop
+Inv-loop x quoted len bytes₀ i₀ bytes i =
+    (i ≤ len) × (len ≡ min (length (formOf quoted x)) tokenLimit) × (bytes ≡ copied tokenLimit (formOf quoted x) i)
+
+abbrev μ-loop : tie.MeasureT-loop
+μ-loop x quoted len bytes₀ i₀ bytes i =
+    len - i
+
+slice-aggregate-first-bytes : tie.Need-slice-aggregate-first-bytes Inv-loop μ-loop
+slice-aggregate-first-bytes c =
+    search needs
+
+first-bytes-requires : tie.Need-first-bytes-requires Inv-loop μ-loop
+first-bytes-requires c κs =
+    search needs
+
+holds-underscore-requires : tie.Need-holds-underscore-requires Inv-loop μ-loop
+holds-underscore-requires c κs =
+    search needs
+
+form-size-requires : tie.Need-form-size-requires Inv-loop μ-loop
+form-size-requires c κs =
+    search needs
+
+loop-holds : tie.Need-loop-holds Inv-loop μ-loop
+loop-holds c =
+    (omega arith, c .form-size .ensures, refl)
+
+form-byte-requires : tie.Need-form-byte-requires Inv-loop μ-loop
+form-byte-requires c κs =
+    search needs
+
+array-write-bytes : tie.Need-array-write-bytes Inv-loop μ-loop
+array-write-bytes c =
+    omega arith
+
+add-i : tie.Need-add-i Inv-loop μ-loop
+add-i c =
+    omega arith
+
+loop-less : tie.Need-loop-less Inv-loop μ-loop
+loop-less c =
+    omega arith
+
+loop-again : tie.Need-loop-again Inv-loop μ-loop
+loop-again c =
+    let l = c .before .before .loop in
+    let form = formOf (c .before .before .before .before .holds-underscore .result) (c .before .before .before .before .before .first-bytes .result .now) in
+    (omega arith, l .inv .1, copy-next tokenLimit form (l .i) _ (l .bytes) (l .inv .2) (c .form-byte .ensures) (omega arith) (omega arith))
+
+returns : tie.Need-returns Inv-loop μ-loop
+unfolding storedBytes
+returns c =
+    let l = c .before .loop in
+    let form = formOf (c .before .before .before .holds-underscore .result) (c .before .before .before .before .first-bytes .result .now) in
+    let told = form-told (storedBytes (c .before .before .before .before .before .before .before .args .label)) _ _ (c .before .before .before .holds-underscore .ensures) (c .before .before .before .before .first-bytes .ensures) in
+    let e : l .i ≡ c .before .before .form-size .result = omega arith in
+    rw (← e) (shown-made (storedBytes (c .before .before .before .before .before .before .before .args .label)) form (l .bytes) (l .i) told (e ∙ l .inv .1) (l .inv .2))
+
+pub shown-spec : {M : Type 1} → statement M
+shown-spec =
+    tie.close
+    (tie.spec
+    Inv-loop
+    μ-loop
+    slice-aggregate-first-bytes
+    first-bytes-requires
+    holds-underscore-requires
+    form-size-requires
+    loop-holds
+    form-byte-requires
+    array-write-bytes
+    add-i
+    loop-less
+    loop-again
+    returns)

@@ -1,0 +1,17 @@
+-- `spelled_size` meets its contract: each byte that counts is one of the label. Assumes nothing.
+use mathlib.Core.Path.{_∙_, ap}
+use lib.ListN.{length}
+use borrow.Author.Needs.{needs}
+use Rattle.trees.proofs.DecodeLaws.{spelling-size}
+use Rattle.trees.proofs.spelled_size.Statement.{statement}
+use Rattle.trees.proofs.spelled_size.Tie as tie
+
+inner-requires : tie.Need-inner-requires
+inner-requires c κs = search needs
+
+returns : tie.Need-returns
+returns c =
+    ap length (c .inner .ensures) ∙ spelling-size _
+
+pub spelled-size-spec : {M : Type 1} → statement M
+spelled-size-spec = tie.close (tie.spec inner-requires returns)

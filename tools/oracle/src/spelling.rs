@@ -1,0 +1,70 @@
+//! Labels in the forms in which they may stand in a text.
+
+use crate::agree::Label;
+use crate::random::Random;
+use crate::text::{shown, Tree};
+
+/// How a body has its labels. One that holds an underscore can stand in quotes only.
+#[derive(Clone, Copy, Debug)]
+pub enum Form {
+    Bare,
+    Quoted,
+    /// One or the other, at random.
+    Either,
+}
+
+pub fn quoted(x: &[u8]) -> Vec<u8> {
+    [b"'", x, b"'"].concat()
+}
+
+/// The label as it may stand in a text.
+pub fn spelled(r: &mut Random, form: Form, x: &[u8]) -> Vec<u8> {
+    match form {
+        Form::Quoted => quoted(x),
+        Form::Either if r.below(2) == 0 => quoted(x),
+        Form::Bare | Form::Either => shown(x),
+    }
+}
+
+/// Two trees and a list. The labels are decoded, or as they shall stand in the texts.
+#[derive(Clone, Debug)]
+pub struct Bodies {
+    pub first: Tree,
+    pub second: Tree,
+    pub required: Vec<Label>,
+}
+
+impl Bodies {
+    /// The texts, with the labels as they are.
+    pub fn texts(&self) -> [Vec<u8>; 3] {
+        [self.first.text(), self.second.text(), self.required.join(&b","[..])]
+    }
+
+    /// The same with each body's labels, decoded so far, in its form.
+    pub fn spelled(&self, r: &mut Random, [s, t, k]: [Form; 3]) -> Bodies {
+        Bodies {
+            first: self.first.relabelled(&mut |x| spelled(r, s, x)),
+            second: self.second.relabelled(&mut |x| spelled(r, t, x)),
+            required: self.required.iter().map(|x| spelled(r, k, x)).collect(),
+        }
+    }
+}
+
+/// Forms for the three bodies: some pair bare labels with quoted ones.
+pub fn forms(r: &mut Random) -> [Form; 3] {
+    match r.below(4) {
+        0 => [Form::Bare, Form::Quoted, Form::Either],
+        1 => [Form::Quoted, Form::Bare, Form::Either],
+        _ => [Form::Either; 3],
+    }
+}
+
+/// Decoded labels that are easily taken for one another: with blanks and underscores, of blanks only, of as many bytes as may be.
+pub fn confusable() -> Vec<Label> {
+    let all = [
+        "a b", "a_b", "a-b", "ab", "a", "a ", "a_", "a-", "a.", "aZ", "aa", " a", "_a", " ", "_", "-", "  ", "__", " _", "_ ", "A", "Z_", "b c_d",
+        "b c d", "                ", "________________", "abcdefgh ijklmno", "abcdefgh_ijklmno", "abcdefgh-ijklmno", "abcdefgh ijklmn_",
+        "_bcdefgh ijklmn_", "               a",
+    ];
+    all.iter().map(|x| x.as_bytes().to_vec()).collect()
+}
