@@ -23,7 +23,7 @@ extern "C" {
 #endif
 
 /* Bytes of stack that a call takes at most, whatever it is given. It is not proved: tools/stack.c holds it against the worst of many
- * inputs (measured: about 80,000 bytes for two trees and a list, 88,000 for a job). A thread needs what it takes for itself besides. */
+ * inputs (measured: about 80,000 bytes for two trees and a list, 89,000 for a job). A thread needs what it takes for itself besides. */
 #define AGREE_STACK 98304
 
 /* What comes back.

@@ -6,11 +6,13 @@ use trees::Kind;
 use trees::LABEL_LIMIT;
 use trees::Reason;
 use trees::Refusal;
+use trees::SLOTS;
 ghost use mathlib.Core.Path.{_≡_};
 ghost use Prim.Native.Nat.{_+_, _<_, _≤_};
 ghost use lib.ListN.{length, set};
 ghost use Rattle.lists.specs.ReadList.{listLimit, listRead, readList};
 ghost use Rattle.trees.specs.Label.{labelLimit};
+ghost use Rattle.trees.specs.Slots.{Marked};
 ghost use Rattle.trees.specs.declared.Reason.the-variants.{EndsTooSoon};
 ghost use Rattle.lists.specs.declared.Stage.the-variants.{Quoted};
 ghost use Rattle.lists.specs.declared.ListAnswer.the-variants.{Refused};
@@ -112,6 +114,7 @@ fn due(kind: Kind, at: usize, count: usize) -> Outcome
 }
 
 // Keeps the place of a label that has ended, and says whether one of the `count` before it is the same.
+// A label whose slot has no mark is compared with nothing.
 fn keep(
     text: &[u8],
     first: usize,
@@ -119,13 +122,19 @@ fn keep(
     count: usize,
     start: &mut [usize; LIST_LIMIT],
     size: &mut [usize; LIST_LIMIT],
+    seen: &mut [u8; SLOTS],
 ) -> bool
     requires { ⌜ count < listLimit ⌝ }
+    requires { ⌜ Marked listLimit (now text) (now start) (now size) (now seen) ⌝ }
     ensures { λ r. ⌜ r ≡ repeatOf (now (text .entry)) (now (start .entry)) (now (size .entry)) count first len ⌝ }
     ensures { λ r. ⌜ now (start .exit) ≡ set (now (start .entry)) count first ⌝ }
     ensures { λ r. ⌜ now (size .exit) ≡ set (now (size .entry)) count len ⌝ }
+    ensures { λ r. ⌜ Marked listLimit (now (text .entry)) (now (start .exit)) (now (size .exit)) (now (seen .exit)) ⌝ }
 {
-    let found = trees::is_among(text, start, size, count, trees::part(text, first, len));
+    let token = trees::part(text, first, len);
+    let slot = trees::slot(token);
+    let found = trees::is_met(text, start, size, count, token, seen, slot);
+    seen[slot] = 1;
     start[count] = first;
     size[count] = len;
     found
@@ -139,15 +148,18 @@ fn close(
     count: usize,
     start: &mut [usize; LIST_LIMIT],
     size: &mut [usize; LIST_LIMIT],
+    seen: &mut [u8; SLOTS],
     following: Outcome,
 ) -> Outcome
     requires { ⌜ count < listLimit ⌝ }
+    requires { ⌜ Marked listLimit (now text) (now start) (now size) (now seen) ⌝ }
     ensures { λ r. ⌜
         after r (now (start .exit)) (now (size .exit))
         ≡ closeOf (now (text .entry)) (now (start .entry)) (now (size .entry)) count first len following
         ⌝ }
+    ensures { λ r. ⌜ Marked listLimit (now (text .entry)) (now (start .exit)) (now (size .exit)) (now (seen .exit)) ⌝ }
 {
-    if keep(text, first, len, count, start, size) {
+    if keep(text, first, len, count, start, size, seen) {
         return Outcome::Stop(Reason::Repeated, first);
     }
     following
@@ -163,12 +175,15 @@ fn bare(
     count: usize,
     start: &mut [usize; LIST_LIMIT],
     size: &mut [usize; LIST_LIMIT],
+    seen: &mut [u8; SLOTS],
 ) -> Outcome
     requires { ⌜ count < listLimit ⌝ }
+    requires { ⌜ Marked listLimit (now text) (now start) (now size) (now seen) ⌝ }
     ensures { λ r. ⌜
         after r (now (start .exit)) (now (size .exit))
         ≡ bareOf (now (text .entry)) kind at first len count (now (start .entry)) (now (size .entry))
         ⌝ }
+    ensures { λ r. ⌜ Marked listLimit (now (text .entry)) (now (start .exit)) (now (size .exit)) (now (seen .exit)) ⌝ }
 {
     let bad = Outcome::Stop(Reason::BadByte, at);
     match kind {
@@ -190,14 +205,15 @@ fn bare(
             count,
             start,
             size,
+            seen,
             Outcome::Next(Stage::Due { count: count + 1 }),
         ),
-        Kind::Quote => close(text, first, len, count, start, size, bad),
-        Kind::Open => close(text, first, len, count, start, size, bad),
-        Kind::Close => close(text, first, len, count, start, size, bad),
-        Kind::Semicolon => close(text, first, len, count, start, size, bad),
-        Kind::Blank => close(text, first, len, count, start, size, bad),
-        Kind::Other => close(text, first, len, count, start, size, bad),
+        Kind::Quote => close(text, first, len, count, start, size, seen, bad),
+        Kind::Open => close(text, first, len, count, start, size, seen, bad),
+        Kind::Close => close(text, first, len, count, start, size, seen, bad),
+        Kind::Semicolon => close(text, first, len, count, start, size, seen, bad),
+        Kind::Blank => close(text, first, len, count, start, size, seen, bad),
+        Kind::Other => close(text, first, len, count, start, size, seen, bad),
     }
 }
 
@@ -225,19 +241,22 @@ fn quote(
     count: usize,
     start: &mut [usize; LIST_LIMIT],
     size: &mut [usize; LIST_LIMIT],
+    seen: &mut [u8; SLOTS],
 ) -> Outcome
     requires { ⌜ count < listLimit ⌝ }
     requires { ⌜ len ≤ labelLimit ⌝ }
+    requires { ⌜ Marked listLimit (now text) (now start) (now size) (now seen) ⌝ }
     ensures { λ r. ⌜
         after r (now (start .exit)) (now (size .exit))
         ≡ quoteOf (now (text .entry)) at first len count (now (start .entry)) (now (size .entry))
         ⌝ }
+    ensures { λ r. ⌜ Marked listLimit (now (text .entry)) (now (start .exit)) (now (size .exit)) (now (seen .exit)) ⌝ }
 {
     if len == 0 {
         return Outcome::Stop(Reason::BadByte, at);
     }
     let next = Outcome::Next(Stage::Closed { count: count + 1 });
-    close(text, first, len + 2, count, start, size, next)
+    close(text, first, len + 2, count, start, size, seen, next)
 }
 
 // A byte after an opening quote. Nothing but label bytes, blanks and a quote may stand there, also where a label is too long.
@@ -250,18 +269,21 @@ fn quoted(
     count: usize,
     start: &mut [usize; LIST_LIMIT],
     size: &mut [usize; LIST_LIMIT],
+    seen: &mut [u8; SLOTS],
 ) -> Outcome
     requires { ⌜ count < listLimit ⌝ }
     requires { ⌜ len ≤ labelLimit ⌝ }
+    requires { ⌜ Marked listLimit (now text) (now start) (now size) (now seen) ⌝ }
     ensures { λ r. ⌜
         after r (now (start .exit)) (now (size .exit))
         ≡ quotedOf (now (text .entry)) kind at first len count (now (start .entry)) (now (size .entry))
         ⌝ }
+    ensures { λ r. ⌜ Marked listLimit (now (text .entry)) (now (start .exit)) (now (size .exit)) (now (seen .exit)) ⌝ }
 {
     match kind {
         Kind::Label => more(at, first, len, count),
         Kind::Blank => more(at, first, len, count),
-        Kind::Quote => quote(text, at, first, len, count, start, size),
+        Kind::Quote => quote(text, at, first, len, count, start, size, seen),
         Kind::Open => Outcome::Stop(Reason::BadByte, at),
         Kind::Close => Outcome::Stop(Reason::BadByte, at),
         Kind::Comma => Outcome::Stop(Reason::BadByte, at),
@@ -294,17 +316,30 @@ fn step(
     stage: Stage,
     start: &mut [usize; LIST_LIMIT],
     size: &mut [usize; LIST_LIMIT],
+    seen: &mut [u8; SLOTS],
 ) -> Outcome
     requires { ⌜ Room stage ⌝ }
+    requires { ⌜ Marked listLimit (now text) (now start) (now size) (now seen) ⌝ }
     ensures { λ r. ⌜
         after r (now (start .exit)) (now (size .exit))
         ≡ stepOf (now (text .entry)) kind at stage (now (start .entry)) (now (size .entry))
         ⌝ }
+    ensures { λ r. ⌜ Marked listLimit (now (text .entry)) (now (start .exit)) (now (size .exit)) (now (seen .exit)) ⌝ }
 {
     match stage {
         Stage::Start => due(kind, at, 0),
         Stage::Due { count } => due(kind, at, count),
-        Stage::Bare { first, len, count } => bare(text, kind, at, first, len, count, start, size),
+        Stage::Bare { first, len, count } => bare(
+            text,
+            kind,
+            at,
+            first,
+            len,
+            count,
+            start,
+            size,
+            seen,
+        ),
         Stage::Quoted { first, len, count } => quoted(
             text,
             kind,
@@ -314,6 +349,7 @@ fn step(
             count,
             start,
             size,
+            seen,
         ),
         Stage::Closed { count } => after_quote(kind, at, count),
     }
@@ -337,8 +373,10 @@ fn at_end(
     stage: Stage,
     start: &mut [usize; LIST_LIMIT],
     size: &mut [usize; LIST_LIMIT],
+    seen: &mut [u8; SLOTS],
 ) -> ListAnswer
     requires { ⌜ Room stage ⌝ }
+    requires { ⌜ Marked listLimit (now text) (now start) (now size) (now seen) ⌝ }
     ensures { λ r. ⌜
         ended r (now (start .exit)) (now (size .exit))
         ≡ endAt (now (text .entry)) body stage (length (now (text .entry))) (now (start .entry)) (now (size .entry))
@@ -348,7 +386,7 @@ fn at_end(
         Stage::Start => ListAnswer::Labels(0),
         Stage::Due { count: _ } => too_soon(text, body),
         Stage::Bare { first, len, count } => {
-            if keep(text, first, len, count, start, size) {
+            if keep(text, first, len, count, start, size, seen) {
                 return ListAnswer::Refused(Refusal {
                     reason: Reason::Repeated,
                     body,
@@ -396,11 +434,12 @@ pub fn read_list(text: &[u8], body: Body) -> ListRead
     let table = trees::classes();
     let mut start = [0usize; LIST_LIMIT];
     let mut size = [0usize; LIST_LIMIT];
+    let mut seen = trees::first_marks();
     let mut stage = Stage::Start;
     let mut i: usize = 0;
     while i < text.len() {
         let kind = trees::kind_in(&table, text[i]);
-        match step(text, kind, i, stage, &mut start, &mut size) {
+        match step(text, kind, i, stage, &mut start, &mut size, &mut seen) {
             Outcome::Next(next) => {
                 stage = next;
             }
@@ -418,6 +457,6 @@ pub fn read_list(text: &[u8], body: Body) -> ListRead
         }
         i += 1;
     }
-    let answer = at_end(text, body, stage, &mut start, &mut size);
+    let answer = at_end(text, body, stage, &mut start, &mut size, &mut seen);
     told(answer, start, size)
 }

@@ -8,6 +8,7 @@ use trees::LEAF_LIMIT;
 use trees::NODE_LIMIT;
 use trees::Reason;
 use trees::Refusal;
+use trees::SLOTS;
 use trees::TreeArrays;
 ghost use Prim.Native.Nat.{ℕ, _+_, _*_, _≤_, _<_};
 ghost use mathlib.Core.Path.{_≡_};
@@ -16,6 +17,7 @@ ghost use lib.ListN.{length, getD};
 ghost use Rattle.trees.specs.Bytes.{kindOf, classTable};
 ghost use Rattle.trees.specs.Label.{labelLimit};
 ghost use Rattle.trees.specs.Arrays.{nodeLimit};
+ghost use Rattle.trees.specs.Slots.{Marked};
 ghost use Rattle.newick.specs.ReadTree.{readTree, treeRead};
 ghost use Rattle.newick.specs.declared.Mode.the-variants.{Due};
 ghost use Rattle.newick.specs.Machine.{repeatOf, arrays, outcome, Room, Ready};
@@ -214,17 +216,23 @@ fn on_leaf(
     right: &mut [usize; NODE_LIMIT],
     start: &mut [usize; NODE_LIMIT],
     size: &mut [usize; NODE_LIMIT],
+    seen: &mut [u8; SLOTS],
 ) -> Move
     requires { ⌜ Room st ⌝ }
     requires { ⌜ st .nodes + st .depth ≤ 2 * st .opens ⌝ }
+    requires { ⌜ Marked nodeLimit (now text) (now start) (now size) (now seen) ⌝ }
     ensures { λ m. ⌜ ((k : List ℕ) → outcome m (arrays k (now (left .exit)) (now (right .exit)) (now (start .exit)) (now (size .exit)))
         ≡ leafOf (now (text .entry)) st
         (arrays k (now (left .entry)) (now (right .entry)) (now (start .entry)) (now (size .entry))) first len) ⌝ }
+    ensures { λ m. ⌜ Marked nodeLimit (now (text .entry)) (now (start .exit)) (now (size .exit)) (now (seen .exit)) ⌝ }
 {
     let nodes = st.nodes;
-    if repeated(text, start, size, nodes, first, len) {
+    let token = trees::part(text, first, len);
+    let slot = trees::slot(token);
+    if trees::is_met(text, start, size, nodes, token, seen, slot) {
         return Move::Stop(Reason::Repeated, first);
     }
+    seen[slot] = 1;
     left[nodes] = nodes;
     right[nodes] = nodes;
     start[nodes] = first;
@@ -250,15 +258,18 @@ fn on_label_end(
     right: &mut [usize; NODE_LIMIT],
     start: &mut [usize; NODE_LIMIT],
     size: &mut [usize; NODE_LIMIT],
+    seen: &mut [u8; SLOTS],
 ) -> Move
     requires { ⌜ Room st ⌝ }
     requires { ⌜ st .nodes + st .depth ≤ 2 * st .opens ⌝ }
+    requires { ⌜ Marked nodeLimit (now text) (now start) (now size) (now seen) ⌝ }
     ensures { λ m. ⌜ outcome m (arrays (now (stack .exit)) (now (left .exit)) (now (right .exit)) (now (start .exit)) (now (size .exit)))
         ≡ labelEnd (now (text .entry)) st
         (arrays (now (stack .entry)) (now (left .entry)) (now (right .entry)) (now (start .entry)) (now (size .entry)))
         first len at kind ⌝ }
+    ensures { λ m. ⌜ Marked nodeLimit (now (text .entry)) (now (start .exit)) (now (size .exit)) (now (seen .exit)) ⌝ }
 {
-    let moved = on_leaf(text, st, first, len, left, right, start, size);
+    let moved = on_leaf(text, st, first, len, left, right, start, size, seen);
     let Move::On(next) = moved else {
         return moved;
     };
@@ -278,13 +289,16 @@ fn on_inside(
     right: &mut [usize; NODE_LIMIT],
     start: &mut [usize; NODE_LIMIT],
     size: &mut [usize; NODE_LIMIT],
+    seen: &mut [u8; SLOTS],
 ) -> Move
     requires { ⌜ Room st ⌝ }
     requires { ⌜ st .nodes + st .depth ≤ 2 * st .opens ⌝ }
+    requires { ⌜ Marked nodeLimit (now text) (now start) (now size) (now seen) ⌝ }
     ensures { λ m. ⌜ outcome m (arrays (now (stack .exit)) (now (left .exit)) (now (right .exit)) (now (start .exit)) (now (size .exit)))
         ≡ insideOf (now (text .entry)) st
         (arrays (now (stack .entry)) (now (left .entry)) (now (right .entry)) (now (start .entry)) (now (size .entry)))
         first len at kind ⌝ }
+    ensures { λ m. ⌜ Marked nodeLimit (now (text .entry)) (now (start .exit)) (now (size .exit)) (now (seen .exit)) ⌝ }
 {
     match kind {
         Kind::Label => {
@@ -311,6 +325,7 @@ fn on_inside(
             right,
             start,
             size,
+            seen,
         ),
     }
 }
@@ -343,12 +358,15 @@ fn on_quoted(
     right: &mut [usize; NODE_LIMIT],
     start: &mut [usize; NODE_LIMIT],
     size: &mut [usize; NODE_LIMIT],
+    seen: &mut [u8; SLOTS],
 ) -> Move
     requires { ⌜ Room st ⌝ }
     requires { ⌜ (st .nodes + st .depth ≤ 2 * st .opens) × (len ≤ labelLimit) ⌝ }
+    requires { ⌜ Marked nodeLimit (now text) (now start) (now size) (now seen) ⌝ }
     ensures { λ m. ⌜ ((k : List ℕ) → outcome m (arrays k (now (left .exit)) (now (right .exit)) (now (start .exit)) (now (size .exit)))
         ≡ quotedOf (now (text .entry)) st
         (arrays k (now (left .entry)) (now (right .entry)) (now (start .entry)) (now (size .entry))) first len at kind) ⌝ }
+    ensures { λ m. ⌜ Marked nodeLimit (now (text .entry)) (now (start .exit)) (now (size .exit)) (now (seen .exit)) ⌝ }
 {
     match kind {
         Kind::Label => on_inner(st, first, len, at),
@@ -357,7 +375,7 @@ fn on_quoted(
             if len == 0 {
                 return Move::Stop(Reason::BadByte, at);
             }
-            on_leaf(text, st, first, len + 2, left, right, start, size)
+            on_leaf(text, st, first, len + 2, left, right, start, size, seen)
         }
         _ => Move::Stop(Reason::BadByte, at),
     }
@@ -374,13 +392,16 @@ fn step(
     right: &mut [usize; NODE_LIMIT],
     start: &mut [usize; NODE_LIMIT],
     size: &mut [usize; NODE_LIMIT],
+    seen: &mut [u8; SLOTS],
 ) -> Move
     requires { ⌜ (at < length (now text)) × (now table ≡ classTable) ⌝ }
     requires { ⌜ Ready (st .mode) st ⌝ }
+    requires { ⌜ Marked nodeLimit (now text) (now start) (now size) (now seen) ⌝ }
     ensures { λ m. ⌜ outcome m (arrays (now (stack .exit)) (now (left .exit)) (now (right .exit)) (now (start .exit)) (now (size .exit)))
         ≡ moveOf (st .mode) (now (text .entry)) st
         (arrays (now (stack .entry)) (now (left .entry)) (now (right .entry)) (now (start .entry)) (now (size .entry)))
         at (kindOf (getD (now (text .entry)) at 0)) ⌝ }
+    ensures { λ m. ⌜ Marked nodeLimit (now (text .entry)) (now (start .exit)) (now (size .exit)) (now (seen .exit)) ⌝ }
 {
     let kind = trees::kind_in(table, text[at]);
     let mode = st.mode;
@@ -398,9 +419,22 @@ fn step(
             right,
             start,
             size,
+            seen,
         ),
         Mode::Quoted(first, len) => {
-            on_quoted(text, st, first, len, kind, at, left, right, start, size)
+            on_quoted(
+                text,
+                st,
+                first,
+                len,
+                kind,
+                at,
+                left,
+                right,
+                start,
+                size,
+                seen,
+            )
         }
         Mode::After(u) => on_after(st, u, kind, at, stack, left, right),
         Mode::Done => Move::Stop(Reason::BadByte, at),
@@ -505,6 +539,7 @@ pub fn read_tree(text: &[u8], body: Body) -> TreeRead
     let mut right = [0usize; NODE_LIMIT];
     let mut start = [0usize; NODE_LIMIT];
     let mut size = [0usize; NODE_LIMIT];
+    let mut seen = trees::first_marks();
     let mut st = beginning();
     let mut i: usize = 0;
     while i < text.len() {
@@ -518,6 +553,7 @@ pub fn read_tree(text: &[u8], body: Body) -> TreeRead
             &mut right,
             &mut start,
             &mut size,
+            &mut seen,
         );
         match moved {
             Move::Stop(reason, place) => return turned_down(refuse(body, reason, place)),

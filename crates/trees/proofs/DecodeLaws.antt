@@ -8,15 +8,15 @@ use mathlib.Core.List.{List, [], _∷_, _++_, map}
 use native.Mathlib.Omega.{arith}
 use native.Mathlib.Numerals.{add-one}
 use lib.Dec.{eqb}
-use lib.ListN.{length, getD, take, drop, length-append, length-map, length-take, length-drop, drop-of-length-le, List·getD-append, List·getD-eq-default}
-use lib.Seq.{drop-cons, getD-at, getD-take, getD-drop}
+use lib.ListN.{length, getD, take, drop, length-append, length-map, drop-of-length-le, List·getD-append, List·getD-eq-default}
+use lib.Seq.{drop-cons, getD-at}
 use borrow.Author.Tests.{eq-eqb, ne-eqb}
 use Rattle.trees.specs.Bytes.{quoteByte, blankByte, underscoreByte}
 use Rattle.trees.specs.Label.{Label, sameLabel, orderOf}
 use Rattle.trees.specs.declared.Order.the-variants.{Less, Equal, Greater}
 use Rattle.trees.specs.Token.{Token, bareByte, spelling, writtenByte, holdsUnderscore, tokenOf}
 use Rattle.trees.specs.Reading.{quoteFirst}
-use Rattle.trees.specs.Stored.{byteOf, innerBytes, readAs, lastRead, formOf}
+use Rattle.trees.specs.Stored.{byteOf, innerBytes, readAs, formOf}
 use Rattle.trees.proofs.Bools.{bool-cases}
 use Rattle.trees.proofs.LabelLaws.{lengths-differ, bytes-differ, all-same, byte-agrees}
 use Rattle.trees.proofs.LabelLaws.{both-end, first-ends, second-ends, byte-less, byte-greater, byte-same}
@@ -90,14 +90,6 @@ inner-cut x e =
     let n : length x - 1 - 1 ≡ length x - 2 = omega arith in
     ap (λ (k : ℕ). take k (drop 1 x)) n ∙ inner-quoted x e
 
-inner-size : (x : Token) → (length (innerBytes x) ≡ length x) ⊎ (length (innerBytes x) ≡ length x - 2)
-inner-size x = go (bool-cases (quoteFirst x))
-  where
-    go : (quoteFirst x ≡ true) ⊎ (quoteFirst x ≡ false) → (length (innerBytes x) ≡ length x) ⊎ (length (innerBytes x) ≡ length x - 2)
-    go (inl e) =
-        inr (sym (ap length (inner-quoted x e)) ∙ simp (length-take, length-drop) (omega arith))
-    go (inr e) = inl (sym (ap length (inner-bare x e)))
-
 -- what is read of a token is its spelling
 pub spelling-read : (x : Token) → readAs (quoteFirst x) (innerBytes x) ≡ spelling x
 unfolding innerBytes spelling quoteFirst
@@ -120,10 +112,6 @@ both-told f s t q r x y d e g h = ap₂ f (spelling-told s q x e d) (spelling-to
 
 pub spelling-size : (x : Token) → length (innerBytes x) ≡ length (spelling x)
 spelling-size x = sym (read-size (quoteFirst x) (innerBytes x)) ∙ ap length (spelling-read x)
-
--- as long as the token, or shorter by two quotes
-pub spelling-sizes : (x : Token) → (length (spelling x) ≡ length x) ⊎ (length (spelling x) ≡ length x - 2)
-spelling-sizes x = rw (spelling-size x) at (inner-size x)
 
 -- ---- two runs of bytes compared
 
@@ -184,89 +172,6 @@ module _ (q r : Bool) (a b : List ℕ) where
       read-level e =
           byte-same (readAs q a) (readAs r b) i so-far (omega (arith, read-size q a)) (omega (arith, read-size r b))
           (read-at q a i h ∙ e ∙ sym (read-at r b i k))
-
--- ---- bytes compared with a token whose size is known
-
-spelled-bare : (y : Token) → quoteFirst y ≡ false → readAs false y ≡ spelling y
-spelled-bare y e = spelling-told y false y (sym e) (inner-bare y e)
-
-spelled-quoted : (y : Token) → quoteFirst y ≡ true → take (length y - 2) (drop 1 y) ≡ spelling y
-spelled-quoted y e = sym (read-plain (take (length y - 2) (drop 1 y))) ∙ spelling-told y true (take (length y - 2) (drop 1 y)) (sym e) (inner-quoted y e)
-
-quoted-short : (y : Token) → quoteFirst y ≡ true → length (spelling y) ≡ length y - 2
-quoted-short y e = sym (ap length (spelled-quoted y e)) ∙ simp (length-take, length-drop) (omega arith)
-
-bare-long : (y : Token) → quoteFirst y ≡ false → length (spelling y) ≡ length y
-bare-long y e = sym (ap length (spelled-bare y e)) ∙ read-size false y
-
--- the first byte tells
-is-first : (y : Token) → 1 ≤ length y → getD y 0 0 ≡ quoteByte → quoteFirst y ≡ true
-is-first y h e = sym (first-byte y (λ (z : length y ≡ 0). omega arith)) ∙ eq-eqb (getD y 0 0) quoteByte e
-
-not-first : (y : Token) → 1 ≤ length y → (getD y 0 0 ≡ quoteByte → ⊥) → quoteFirst y ≡ false
-not-first y h e = sym (first-byte y (λ (z : length y ≡ 0). omega arith)) ∙ ne-eqb (getD y 0 0) quoteByte e
-
-module _ (q : Bool) (a : List ℕ) (y : Token) (some : 1 ≤ length a) where
-  other-size : (length (spelling y) ≡ length a → ⊥) → sameLabel (readAs q a) (spelling y) ≡ false
-  other-size h =
-      lengths-differ (readAs q a) (spelling y)
-      (λ (e : length (readAs q a) ≡ length (spelling y)). h (sym e ∙ read-size q a))
-
-  -- a token of as many bytes is bare
-  module _ (size : length y ≡ length a) where
-    pub bare-quote : getD y 0 0 ≡ quoteByte → sameLabel (readAs q a) (spelling y) ≡ false
-    bare-quote e =
-        other-size (λ (d : length (spelling y) ≡ length a). omega (arith, quoted-short y (is-first y (omega arith) e)))
-
-    pub bare-last : (byteOf false (getD y (length a - 1) 0) ≡ lastRead q a → ⊥) → sameLabel (readAs q a) (spelling y) ≡ false
-    bare-last h = go (bool-cases (quoteFirst y))
-      where
-        go : (quoteFirst y ≡ true) ⊎ (quoteFirst y ≡ false) → sameLabel (readAs q a) (spelling y) ≡ false
-        go (inl e) = other-size (λ (d : length (spelling y) ≡ length a). omega (arith, quoted-short y e))
-        go (inr e) =
-            rw (← spelled-bare y e)
-            (read-differ q false a y (length a - 1) (omega arith) (omega arith)
-            (λ (d : byteOf q (getD a (length a - 1) 0) ≡ byteOf false (getD y (length a - 1) 0)). h (sym d)))
-
-    pub bare-differ : sameLabel (readAs q a) (readAs false y) ≡ false → sameLabel (readAs q a) (spelling y) ≡ false
-    bare-differ h = go (bool-cases (quoteFirst y))
-      where
-        go : (quoteFirst y ≡ true) ⊎ (quoteFirst y ≡ false) → sameLabel (readAs q a) (spelling y) ≡ false
-        go (inl e) = other-size (λ (d : length (spelling y) ≡ length a). omega (arith, quoted-short y e))
-        go (inr e) = rw (← spelled-bare y e) h
-
-    pub bare-same : (getD y 0 0 ≡ quoteByte → ⊥) → readAs false y ≡ spelling y
-    bare-same e = spelled-bare y (not-first y (omega arith) e)
-
-  -- a token of two bytes more is quoted
-  module _ (size : length y ≡ length a + 2) where
-    pub quoted-not : (getD y 0 0 ≡ quoteByte → ⊥) → sameLabel (readAs q a) (spelling y) ≡ false
-    quoted-not e =
-        other-size (λ (d : length (spelling y) ≡ length a). omega (arith, bare-long y (not-first y (omega arith) e)))
-
-    -- its last byte before the closing quote
-    quoted-at : quoteFirst y ≡ true → getD (spelling y) (length a - 1) 0 ≡ getD y (length a) 0
-    quoted-at e =
-        let n : 1 + (length a - 1) ≡ length a = omega arith in
-        sym (ap (λ (l : List ℕ). getD l (length a - 1) 0) (spelled-quoted y e))
-        ∙ getD-take (length y - 2) (drop 1 y) (length a - 1) 0 (omega arith) ∙ getD-drop 1 y (length a - 1) 0
-        ∙ ap (λ (k : ℕ). getD y k 0) n
-
-    pub quoted-last : (getD y (length a) 0 ≡ lastRead q a → ⊥) → sameLabel (readAs q a) (spelling y) ≡ false
-    quoted-last h = go (bool-cases (quoteFirst y))
-      where
-        go : (quoteFirst y ≡ true) ⊎ (quoteFirst y ≡ false) → sameLabel (readAs q a) (spelling y) ≡ false
-        go (inl e) =
-            bytes-differ (readAs q a) (spelling y) (length a - 1)
-            (λ (d : getD (readAs q a) (length a - 1) 0 ≡ getD (spelling y) (length a - 1) 0).
-            h (sym (quoted-at e) ∙ sym d ∙ read-at q a (length a - 1) (omega arith)))
-        go (inr e) = other-size (λ (d : length (spelling y) ≡ length a). omega (arith, bare-long y e))
-
-    pub quoted-same : getD y 0 0 ≡ quoteByte → readAs true (take (length a + 1 - 1) (drop 1 y)) ≡ spelling y
-    quoted-same e =
-        let n : length a + 1 - 1 ≡ length y - 2 = omega arith in
-        read-plain (take (length a + 1 - 1) (drop 1 y)) ∙ ap (λ (k : ℕ). take k (drop 1 y)) n
-        ∙ spelled-quoted y (is-first y (omega arith) e)
 
 -- ---- the written form
 

@@ -18,6 +18,7 @@ pub mod RawRuns
 pub mod ReadingLaws
 pub mod RelabelLaws
 pub mod SameLaws
+pub mod SlotLaws
 pub mod StoredLaws
 pub mod TokenForms
 pub mod TokenLaws

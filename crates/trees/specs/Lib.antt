@@ -6,6 +6,7 @@ pub mod Plain
 pub mod Postorder
 pub mod Reading
 pub mod Refusals
+pub mod Slots
 pub mod Stored
 pub mod Text
 pub mod Token

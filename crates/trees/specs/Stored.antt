@@ -64,10 +64,6 @@ innerBytes x = cond (quoteFirst x) (take (length x - 2) (drop 1 x)) x
 abbrev pub readAs : (quoted : Bool) → List ℕ → Label
 readAs quoted x = map (byteOf quoted) x
 
--- the last of them
-abbrev pub lastRead : (quoted : Bool) → List ℕ → ℕ
-lastRead quoted x = byteOf quoted (getD x (length x - 1) 0)
-
 -- a label's form with quotes, and without
 unfoldable pub formOf : (quoted : Bool) → Label → Token
 formOf true x = quoteByte ∷ (x ++ (quoteByte ∷ []))

@@ -2,17 +2,17 @@
 //
 // No public function has a `requires`: each answers for all inputs.
 ghost use mathlib.Core.Path.{_≡_};
-ghost use mathlib.Core.Bool.{true};
-ghost use mathlib.Core.List.{[]};
-ghost use Prim.Native.Nat.{_+_, _%_, _≤_, min};
+ghost use mathlib.Core.Bool.{true, _&&_};
+ghost use Prim.Native.Nat.{_%_, min};
 ghost use lib.ListN.{length, getD, take};
 ghost use Rattle.trees.specs.Bytes.{classTable, kindOfCode};
 ghost use Rattle.trees.specs.Label.{orderOf, labelLess, sameLabel};
 ghost use Rattle.trees.specs.Reading.{quoteFirst};
 ghost use Rattle.trees.specs.Refusals.{numberOf, letterOf};
 ghost use Rattle.trees.specs.Stored.{storedBytes, storedOf, shownOf, partOf, leafLabel, isAmong};
-ghost use Rattle.trees.specs.Stored.{byteOf, innerBytes, readAs, lastRead, formOf};
+ghost use Rattle.trees.specs.Stored.{byteOf, innerBytes, readAs, formOf};
 ghost use Rattle.trees.specs.Token.{spelling, holdsUnderscore, tokenLimit};
+ghost use Rattle.trees.specs.Slots.{slotOf, isMarked, firstMarks};
 
 // The most bytes of a label.
 pub const LABEL_LIMIT: usize = 16;
@@ -28,6 +28,9 @@ pub const NODE_LIMIT: usize = 2 * LEAF_LIMIT - 1;
 
 // The most bytes of a tree's text: its labels, `(`, `,` and `)` for each inner node, and `;`.
 pub const TREE_ROOM: usize = LEAF_LIMIT * TOKEN_LIMIT + 3 * (LEAF_LIMIT - 1) + 1;
+
+// How many slots a reader has for marks of the labels that it has met.
+pub const SLOTS: usize = 1024;
 
 // The bytes that a label's spelling turns on.
 const QUOTE: u8 = 39;
@@ -619,120 +622,67 @@ pub fn leaf_label<'a>(text: &'a [u8], start: &[usize], size: &[usize], u: usize)
     part(text, entry(start, u), entry(size, u))
 }
 
-// Whether the part from `from` on, of as many bytes as these, stands for the label that they are read as, the last one as `last`: then it
-// is bare. `room` is the last place where so many bytes can begin.
-fn bare_part(text: &[u8], room: usize, from: usize, bytes: &[u8], quoted: bool, last: u8) -> bool
-    requires { ⌜ (1 ≤ length (now bytes)) × (room + length (now bytes) ≡ length (now text)) ⌝ }
-    ensures { λ r.
-        ⌜ (last ≡ lastRead quoted (now (bytes .entry))
-        → r ≡ sameLabel (readAs quoted (now (bytes .entry))) (spelling (partOf from (length (now (bytes .entry))) (now (text .entry))))) ⌝ }
-{
-    let n = bytes.len();
-    if room < from {
-        return false;
-    }
-    let token = &text[from..from + n];
-    if decode(false, token[n - 1]) != last {
-        return false;
-    }
-    if !same_all(bytes, quoted, token, false) {
-        return false;
-    }
-    if token[0] == QUOTE {
-        return false;
-    }
-    true
-}
-
-// The same for a part of two bytes more: then it is quoted.
-fn quoted_part(text: &[u8], room: usize, from: usize, bytes: &[u8], quoted: bool, last: u8) -> bool
-    requires { ⌜ (1 ≤ length (now bytes)) × (room + length (now bytes) ≡ length (now text)) ⌝ }
-    ensures { λ r.
-        ⌜ (last ≡ lastRead quoted (now (bytes .entry))
-        → r ≡ sameLabel (readAs quoted (now (bytes .entry))) (spelling (partOf from (length (now (bytes .entry)) + 2) (now (text .entry))))) ⌝ }
-{
-    let n = bytes.len();
-    if room < 2 {
-        return false;
-    }
-    if room - 2 < from {
-        return false;
-    }
-    let token = &text[from..from + (n + 2)];
-    if token[n] != last {
-        return false;
-    }
-    if token[0] != QUOTE {
-        return false;
-    }
-    same_all(bytes, quoted, &token[1..n + 1], true)
-}
-
-// Whether the part of `whole` bytes from entry u of the starts stands for the label that these bytes are read as. This is the readers'
-// innermost test: the size comes first, then the last byte.
-fn is_part(
-    text: &[u8],
-    room: usize,
-    start: &[usize],
-    u: usize,
-    whole: usize,
-    bytes: &[u8],
-    quoted: bool,
-    last: u8,
-) -> bool
-    requires { ⌜ (1 ≤ length (now bytes)) × (room + length (now bytes) ≡ length (now text)) ⌝ }
-    ensures { λ r.
-        ⌜ (last ≡ lastRead quoted (now (bytes .entry))
-        → r ≡ sameLabel (readAs quoted (now (bytes .entry))) (spelling (partOf (getD (now (start .entry)) u 0) whole (now (text .entry))))) ⌝ }
-{
-    let n = bytes.len();
-    if whole == n {
-        return bare_part(text, room, entry(start, u), bytes, quoted, last);
-    }
-    if whole == n + 2 {
-        return quoted_part(text, room, entry(start, u), bytes, quoted, last);
-    }
-    false
-}
-
-// Whether one of the first `count` parts stands for the label of no bytes.
-fn empty_among(text: &[u8], start: &[usize], size: &[usize], count: usize) -> bool
-    ensures { λ r. ⌜ r ≡ isAmong (now (text .entry)) (now (start .entry)) (now (size .entry)) count [] ⌝ }
+// Whether one of the first `count` parts that starts and sizes name stands for the same label as the token.
+pub fn is_among(text: &[u8], start: &[usize], size: &[usize], count: usize, token: &[u8]) -> bool
+    ensures { λ r. ⌜ r ≡ isAmong (now (text .entry)) (now (start .entry)) (now (size .entry)) count (now (token .entry)) ⌝ }
 {
     let mut u = count;
     while 0 < u {
         u -= 1;
-        if spelled_size(leaf_label(text, start, size, u)) == 0 {
+        if same_label(token, leaf_label(text, start, size, u)) {
             return true;
         }
     }
     false
 }
 
-// Whether one of the first `count` parts that starts and sizes name stands for the same label as the token. What is the same for each
-// part is found once, before the loop; past the sizes there are only parts of no bytes.
-pub fn is_among(text: &[u8], start: &[usize], size: &[usize], count: usize, token: &[u8]) -> bool
-    ensures { λ r. ⌜ r ≡ isAmong (now (text .entry)) (now (start .entry)) (now (size .entry)) count (now (token .entry)) ⌝ }
+// The slot of a token's label: equal labels have one slot, and few others share it. The factor spreads labels that differ in two bytes.
+pub fn slot(token: &[u8]) -> usize
+    ensures { λ r. ⌜ r ≡ slotOf (spelling (now (token .entry))) ⌝ }
 {
-    let bytes = inner(token);
+    let x = inner(token);
     let quoted = is_quoted(token);
-    let n = bytes.len();
-    if n == 0 {
-        return empty_among(text, start, size, count);
+    let mut n: usize = 0;
+    let mut i: usize = 0;
+    while i < x.len() {
+        let b = decode(quoted, x[i]);
+        n = (n * 139 + wide(b)) % SLOTS;
+        i += 1;
     }
-    if text.len() < n {
+    n
+}
+
+// The marks of a reader that has met no label.
+pub fn first_marks() -> [u8; SLOTS]
+    ensures { λ r. ⌜ r ≡ firstMarks ⌝ }
+{
+    let mut seen = [0u8; SLOTS];
+    seen[0] = 1;
+    seen
+}
+
+// Whether the slot has a mark and one of the first `count` parts stands for the same label as the token. With the token's slot, and marks
+// for the slots of all parts, this is `is_among`: without a mark nothing is compared.
+pub fn is_met(
+    text: &[u8],
+    start: &[usize],
+    size: &[usize],
+    count: usize,
+    token: &[u8],
+    seen: &[u8],
+    slot: usize,
+) -> bool
+    ensures { λ r.
+        ⌜ r ≡ (isMarked (now (seen .entry)) slot
+        && isAmong (now (text .entry)) (now (start .entry)) (now (size .entry)) count (now (token .entry))) ⌝ }
+{
+    if seen.len() <= slot {
         return false;
     }
-    let room = text.len() - n;
-    let last = decode(quoted, bytes[n - 1]);
-    let mut u = least(count, size.len());
-    while 0 < u {
-        u -= 1;
-        if is_part(text, room, start, u, size[u], bytes, quoted, last) {
-            return true;
-        }
+    if seen[slot] == 0 {
+        return false;
     }
-    false
+    is_among(text, start, size, count, token)
 }
 
 // The label of a token as it is kept apart from its text, 0 after its last byte; of a longer one the first 16 bytes.

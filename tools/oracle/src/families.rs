@@ -45,6 +45,20 @@ pub fn long_quoted(n: usize) -> Vec<Label> {
     long_with(n, "Label_of leaf.").iter().map(|x| quoted(x)).collect()
 }
 
+/// Labels as long as may be that all have one slot where the engine's readers keep their marks (`trees::slot`), so that each is compared with
+/// every one before it. The three letters at the end see to that.
+pub fn one_slot(n: usize) -> Vec<Label> {
+    let slot = |x: &str| x.bytes().fold(0, |n, b| (n * 139 + usize::from(b)) % 1024);
+    let letters = || 'a'..='z';
+    let ends: Vec<String> =
+        letters().flat_map(|a| letters().flat_map(move |b| letters().map(move |c| format!("{a}{b}{c}")))).collect();
+    let label = |i: usize| {
+        let head = format!("{i:0>0$}", LABEL - 3);
+        ends.iter().map(|end| format!("{head}{end}")).find(|x| slot(x) == 0).unwrap().into_bytes()
+    };
+    (0..n).map(label).collect()
+}
+
 /// Labels that stand in no tree of these ones, and differ from them in their last digit only: it becomes a letter.
 pub fn strangers(xs: &[Label]) -> Vec<Label> {
     let mut ys = xs.to_vec();
@@ -134,11 +148,13 @@ pub fn all_families(r: &mut Random) -> Vec<(String, Vec<Family>)> {
     let mut mixed = families(r, &long_decoded(LEAVES));
     mixed.iter_mut().for_each(|f| f.bodies = f.bodies.spelled(r, [Form::Bare, Form::Quoted, Form::Quoted]));
     let quoted = families(r, &long_quoted(LEAVES));
+    let one_slot = families(r, &one_slot(LEAVES));
     vec![
         (String::new(), short),
         (format!(", labels of {LABEL} bytes"), long),
         (format!(", labels of {LABEL} bytes, the second tree's in quotes"), mixed),
         (format!(", labels of {LABEL} bytes in quotes"), quoted),
+        (format!(", labels of {LABEL} bytes that share a slot"), one_slot),
     ]
 }
 

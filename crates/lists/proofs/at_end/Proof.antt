@@ -9,15 +9,19 @@ use Rattle.lists.proofs.at_end.Tie as tie
 
 keep-requires : tie.Need-keep-requires
 keep-requires c κs =
-    rw (c .before .before .before .stage .given .1) at (c .before .before .before .before .before .before .pre)
+    let s = c .before .before .before .before in
+    (rw (s .stage .given .1) at (s .before .before .before .pre .0), s .before .before .before .pre .1)
 
 returns : tie.Need-returns
 returns c =
-    rw (c .before .before .before .before .before .stage .given .1) (end-repeat _ _ _ _ _ _ _ _ _ (c .before .keep .ensures) _ _ (c .if1 .taken))
+    let k = c .before .keep .ensures in
+    rw (c .before .before .before .before .before .before .stage .given .1)
+    (end-repeat _ _ _ _ _ _ _ _ _ (k .0, (k .1 .0, k .1 .1 .0)) _ _ (c .if1 .taken))
 
-add-t16 : tie.Need-add-t16
-add-t16 c =
-    omega (arith, rw (c .before .before .before .before .before .stage .given .1) at (c .before .before .before .before .before .before .before .before .pre))
+add-t18 : tie.Need-add-t18
+add-t18 c =
+    let s = c .before .before .before .before .before .before in
+    omega (arith, rw (s .stage .given .1) at (s .before .before .before .pre .0))
 
 returns-2 : tie.Need-returns-2
 unfolding endAt
@@ -31,7 +35,9 @@ returns-3 c =
 
 returns-4 : tie.Need-returns-4
 returns-4 c =
-    rw (c .before .before .before .before .before .stage .given .1) (end-new _ _ _ _ _ _ _ _ _ (c .before .keep .ensures) _ _ (c .if1 .left))
+    let k = c .before .keep .ensures in
+    rw (c .before .before .before .before .before .before .stage .given .1)
+    (end-new _ _ _ _ _ _ _ _ _ (k .0, (k .1 .0, k .1 .1 .0)) _ _ (c .if1 .left))
 
 returns-5 : tie.Need-returns-5
 unfolding endAt
@@ -53,7 +59,7 @@ at-end-spec =
     (λ c. search needs)
     keep-requires
     returns
-    add-t16
+    add-t18
     (λ c. search needs)
     (λ c κs. search needs)
     (λ c. search needs)

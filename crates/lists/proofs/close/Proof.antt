@@ -4,16 +4,15 @@ use borrow.Author.Needs.{needs}
 use Rattle.lists.proofs.close.Statement.{statement}
 use Rattle.lists.proofs.close.Tie as tie
 
-keep-requires : tie.Need-keep-requires
-keep-requires c κs = search needs
-
 returns : tie.Need-returns
 returns c =
-    close-repeat _ _ _ _ _ _ _ _ _ (c .before .keep .ensures) _ (c .if1 .taken)
+    let k = c .before .keep .ensures in
+    (close-repeat _ _ _ _ _ _ _ _ _ (k .0, (k .1 .0, k .1 .1 .0)) _ (c .if1 .taken), k .1 .1 .1)
 
 returns-2 : tie.Need-returns-2
 returns-2 c =
-    close-new _ _ _ _ _ _ _ _ _ (c .before .keep .ensures) _ (c .if1 .left)
+    let k = c .before .keep .ensures in
+    (close-new _ _ _ _ _ _ _ _ _ (k .0, (k .1 .0, k .1 .1 .0)) _ (c .if1 .left), k .1 .1 .1)
 
 pub close-spec : {M : Type 1} → statement M
-close-spec = tie.close (tie.spec keep-requires returns returns-2)
+close-spec = tie.close (tie.spec (λ c κs. search needs) returns returns-2)

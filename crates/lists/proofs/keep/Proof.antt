@@ -1,42 +1,37 @@
--- `keep` meets its contract: a search among the earlier labels, then two stores. Assumes nothing.
+-- `keep` meets its contract: a search among the earlier labels, left out where no mark asks for it, then three stores. Assumes nothing.
 use mathlib.Core.Path.{refl, _∙_, ap}
+use Rattle.trees.specs.Token.{Token, spelling}
 use Rattle.trees.specs.Stored.{isAmong}
+use Rattle.trees.specs.Slots.{slotOf}
+use Rattle.trees.proofs.SlotLaws.{slot-small, marked-next, met-is-among}
 use Rattle.lists.specs.ListMachine.{repeatOf}
 use borrow.Author.Needs.{needs}
 use Rattle.lists.proofs.keep.Statement.{statement}
 use Rattle.lists.proofs.keep.Tie as tie
 
-part-requires : tie.Need-part-requires
-part-requires c κs = search needs
-
-is-among-requires : tie.Need-is-among-requires
-is-among-requires c κs = search needs
-
-mul-start : tie.Need-mul-start
-mul-start c = search needs
-
-element-write-start : tie.Need-element-write-start
-element-write-start c = search needs
-
-mul-size : tie.Need-mul-size
-mul-size c = search needs
-
-element-write-size : tie.Need-element-write-size
-element-write-size c = search needs
+element-write-seen : tie.Need-element-write-seen
+element-write-seen c =
+    rw (c .before .before .before .before .before .before .before .slot .ensures) (slot-small _)
 
 returns : tie.Need-returns
 unfolding repeatOf
 returns c =
-    (c .is-among .ensures ∙ ap (isAmong _ _ _ _) (c .before .part .ensures), (refl, refl))
+    let s = c .before .before .before .before .before .before .before in
+    let m = s .before .before .before .pre in
+    let p = s .before .part .ensures in
+    let next = marked-next _ _ _ _ _ (m .1) _ _ _ _ (m .0) (s .slot .ensures ∙ ap (λ (x : Token). slotOf (spelling x)) p) in
+    (c .is-met .ensures ∙ met-is-among _ _ _ _ _ (m .1) _ _ _ (s .slot .ensures) ∙ ap (isAmong _ _ _ _) p, (refl, (refl, next)))
 
 pub keep-spec : {M : Type 1} → statement M
 keep-spec =
     tie.close
     (tie.spec
-    part-requires
-    is-among-requires
-    mul-start
-    element-write-start
-    mul-size
-    element-write-size
+    (λ c κs. search needs)
+    (λ c κs. search needs)
+    (λ c κs. search needs)
+    element-write-seen
+    (λ c. search needs)
+    (λ c. search needs)
+    (λ c. search needs)
+    (λ c. search needs)
     returns)

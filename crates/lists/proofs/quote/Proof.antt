@@ -9,12 +9,12 @@ use Rattle.lists.proofs.quote.Tie as tie
 returns : tie.Need-returns
 unfolding quoteOf
 returns c =
-    rw (c .if1 .taken) refl
+    (rw (c .if1 .taken) refl, search needs)
 
 returns-2 : tie.Need-returns-2
 unfolding quoteOf
 returns-2 c =
-    rw (ne-eqb _ 0 (c .before .before .before .if1 .left)) (c .close .ensures)
+    rw (ne-eqb _ 0 (c .before .before .before .before .if1 .left)) (c .close .ensures)
 
 pub quote-spec : {M : Type 1} → statement M
 quote-spec =

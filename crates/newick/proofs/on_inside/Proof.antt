@@ -31,8 +31,8 @@ rest text st a first len i Other h = refl
 enum-told : tie.Need-enum-told
 enum-told c = search needs
 
-add-t15 : tie.Need-add-t15
-add-t15 c = search needs
+add-t16 : tie.Need-add-t16
+add-t16 c = search needs
 
 on-label-end-requires : tie.Need-on-label-end-requires
 on-label-end-requires c κs = search needs
@@ -40,17 +40,17 @@ on-label-end-requires c κs = search needs
 returns : tie.Need-returns
 unfolding insideOf
 returns c =
-    rw (c .before .enum-told .given .1) (rw (lt-ltb _ _ (c .if1 .taken)))
+    (rw (c .before .enum-told .given .1) (rw (lt-ltb _ _ (c .if1 .taken))), c .before .before .before .before .pre .1 .1)
 
 returns-2 : tie.Need-returns-2
 unfolding insideOf
 returns-2 c =
-    rw (c .before .enum-told .given .1) (rw (le-ltb _ _ (c .if1 .left)))
+    (rw (c .before .enum-told .given .1) (rw (le-ltb _ _ (c .if1 .left))), c .before .before .before .before .pre .1 .1)
 
 returns-3 : tie.Need-returns-3
 returns-3 c =
-    c .on-label-end .ensures ∙ rest _ _ _ _ _ _ _ (c .before .before .before .before .before .before .match .keys2)
+    (c .on-label-end .ensures .0 ∙ rest _ _ _ _ _ _ _ (c .before .before .before .before .before .before .before .match .keys2), c .on-label-end .ensures .1)
 
 pub on-inside-spec : {M : Type 1} → statement M
 on-inside-spec =
-    tie.close (tie.spec enum-told add-t15 on-label-end-requires returns returns-2 returns-3)
+    tie.close (tie.spec enum-told add-t16 on-label-end-requires returns returns-2 returns-3)

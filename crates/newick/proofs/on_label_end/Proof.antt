@@ -7,18 +7,19 @@ use Rattle.newick.proofs.on_label_end.Statement.{statement}
 use Rattle.newick.proofs.on_label_end.Tie as tie
 
 returns : tie.Need-returns
-returns c = end-stops _ _ _ _ _ _ _ (c .before .before .on-leaf .ensures _) _ _ _ (c .enum-told .given .1)
+returns c =
+    let e = c .before .before .on-leaf .ensures in
+    (end-stops _ _ _ _ _ _ _ (e .0 _) _ _ _ (c .enum-told .given .1), e .1)
 
 on-after-requires : tie.Need-on-after-requires
 on-after-requires c κs =
-    let t = c .before .before .before .before in
-    let p = t .before .before .before .before .before .before .before .before .pre in
-    leaf-ready _ _ _ _ _ _ _ (t .before .before .on-leaf .ensures []) (t .moved .given .1) (p .0) (p .1)
+    let p = c .before .before .before .before .before .before .before .before .before .before .before .before .before .pre in
+    leaf-ready _ _ _ _ _ _ _ (c .before .before .before .before .before .before .on-leaf .ensures .0 []) (c .before .before .before .before .moved .given .1) (p .0) (p .1 .0)
 
 returns-2 : tie.Need-returns-2
 returns-2 c =
-    let t = c .before .before .before .before .before in
-    c .on-after .ensures _ _ ∙ end-goes-on _ _ _ _ _ _ _ (t .before .before .on-leaf .ensures _) (t .moved .given .1) _ _
+    let e = c .before .before .before .before .before .before .before .on-leaf .ensures in
+    (c .on-after .ensures _ _ ∙ end-goes-on _ _ _ _ _ _ _ (e .0 _) (c .before .before .before .before .before .moved .given .1) _ _, e .1)
 
 pub on-label-end-spec : {M : Type 1} → statement M
 on-label-end-spec =

@@ -31,24 +31,24 @@ rest text st a first len i Other h = refl
 
 returns : tie.Need-returns
 unfolding quotedOf closingOf
-returns c k = rw (c .before .enum-told3 .given .1) (rw (eq-eqb _ _ (c .if1 .taken)))
+returns c = (λ k. rw (c .before .enum-told3 .given .1) (rw (eq-eqb _ _ (c .if1 .taken))), c .before .before .before .before .pre .1 .1)
 
 returns-2 : tie.Need-returns-2
 unfolding quotedOf
-returns-2 c k = rw (c .before .enum-told .given .1) (c .on-inner .ensures _ _ _ _ _)
+returns-2 c = (λ k. rw (c .before .enum-told .given .1) (c .on-inner .ensures _ _ _ _ _), c .before .before .before .before .pre .1 .1)
 
 returns-3 : tie.Need-returns-3
 unfolding quotedOf
-returns-3 c k = rw (c .before .enum-told2 .given .1) (c .on-inner2 .ensures _ _ _ _ _)
+returns-3 c = (λ k. rw (c .before .enum-told2 .given .1) (c .on-inner2 .ensures _ _ _ _ _), c .before .before .before .before .pre .1 .1)
 
 returns-4 : tie.Need-returns-4
 unfolding quotedOf closingOf
-returns-4 c k =
-    let t = c .before .before .before .before .before in
-    rw (t .before .enum-told3 .given .1) (rw (ne-eqb _ _ (t .if1 .left)) (c .on-leaf .ensures _))
+returns-4 c =
+    let t = c .before .before .before .before .before .before in
+    (λ k. rw (t .before .enum-told3 .given .1) (rw (ne-eqb _ _ (t .if1 .left)) (c .on-leaf .ensures .0 _)), c .on-leaf .ensures .1)
 
 returns-5 : tie.Need-returns-5
-returns-5 c k = rest _ _ _ _ _ _ _ (c .match .keys4)
+returns-5 c = (λ k. rest _ _ _ _ _ _ _ (c .match .keys4), c .before .before .pre .1 .1)
 
 pub on-quoted-spec : {M : Type 1} → statement M
 on-quoted-spec =

@@ -18,32 +18,32 @@ enum-told c = search needs
 
 on-due-requires : tie.Need-on-due-requires
 on-due-requires c κs =
-    ready-as _ (c .before .enum-told .given .1) (c .before .before .before .before .before .before .pre .1)
+    ready-as _ (c .before .enum-told .given .1) (c .before .before .before .before .before .before .pre .1 .0)
 
 enum-known-mode : tie.Need-enum-known-mode
 enum-known-mode c = search needs
 
 on-inside-requires : tie.Need-on-inside-requires
 on-inside-requires c κs =
-    let m = c .before .before .before .before .before .before in
-    ready-as _ (m .mode .given .1) (m .before .before .before .before .before .pre .1)
+    let p = c .before .before .before .before .before .before .before .before .before .before .before .before .pre .1 in
+    let h = ready-as _ (c .before .before .before .before .before .before .before .mode .given .1) (p .0) in
+    (h .0, (h .1, p .1))
 
 enum-known-mode-2 : tie.Need-enum-known-mode-2
 enum-known-mode-2 c = search needs
 
 on-quoted-requires : tie.Need-on-quoted-requires
 on-quoted-requires c κs =
-    let m = c .before .before .before .before .before in
-    let h = ready-as _ (m .mode2 .given .1) (m .before .before .before .before .before .pre .1) in
-    (h .0, (h .1, h .2))
+    let p = c .before .before .before .before .before .before .before .before .before .before .before .pre .1 in
+    let h = ready-as _ (c .before .before .before .before .before .before .mode2 .given .1) (p .0) in
+    (h .0, ((h .1, h .2), p .1))
 
 enum-known-mode-3 : tie.Need-enum-known-mode-3
 enum-known-mode-3 c = search needs
 
 on-after-requires : tie.Need-on-after-requires
 on-after-requires c κs =
-    let m = c .before .before .before .before in
-    let h = ready-as _ (m .mode3 .given .1) (m .before .before .before .before .before .pre .1) in
+    let h = ready-as _ (c .before .before .before .before .mode3 .given .1) (c .before .before .before .before .before .before .before .before .before .pre .1 .0) in
     (h .0, (h .1, h .2))
 
 enum-told-2 : tie.Need-enum-told-2
@@ -54,35 +54,32 @@ returns c =
     let p = c .before .before .before .before in
     let b = p .before .shared-slice-known2 .given (p .before .before .before .args .at) in
     let k = kind-told _ _ _ (p .before .before .before .pre .0 .1) (b .fits) (p .kind-in .ensures) in
-    c .on-due .ensures _ _ _ _ ∙ ap (dueOf _ _ _) k ∙ sym (move-due _ _ _ _ _ _ (c .before .before .enum-told .given .1))
+    (c .on-due .ensures _ _ _ _ ∙ ap (dueOf _ _ _) k ∙ sym (move-due _ _ _ _ _ _ (c .before .before .enum-told .given .1)), p .before .before .before .pre .1 .1)
 
 returns-2 : tie.Need-returns-2
 returns-2 c =
-    let p = c .before .before .before .before .before .before .before .before .before in
+    let p = c .before .before .before .before .before .before .before .before .before .before in
     let b = p .before .shared-slice-known2 .given (p .before .before .before .args .at) in
     let k = kind-told _ _ _ (p .before .before .before .pre .0 .1) (b .fits) (p .kind-in .ensures) in
-    let m = c .before .before .before .before .before .before .before .mode in
-    c .on-inside .ensures ∙ ap (insideOf _ _ _ _ _ _) k ∙ sym (move-inside _ _ _ _ _ _ _ _ (m .given .1))
+    (c .on-inside .ensures .0 ∙ ap (insideOf _ _ _ _ _ _) k ∙ sym (move-inside _ _ _ _ _ _ _ _ (c .before .before .before .before .before .before .before .before .mode .given .1)), c .on-inside .ensures .1)
 
 returns-3 : tie.Need-returns-3
 returns-3 c =
-    let p = c .before .before .before .before .before .before .before .before in
+    let p = c .before .before .before .before .before .before .before .before .before in
     let b = p .before .shared-slice-known2 .given (p .before .before .before .args .at) in
     let k = kind-told _ _ _ (p .before .before .before .pre .0 .1) (b .fits) (p .kind-in .ensures) in
-    let m = c .before .before .before .before .before .before .mode2 in
-    c .on-quoted .ensures _ ∙ ap (quotedOf _ _ _ _ _ _) k ∙ sym (move-quoted _ _ _ _ _ _ _ _ (m .given .1))
+    (c .on-quoted .ensures .0 _ ∙ ap (quotedOf _ _ _ _ _ _) k ∙ sym (move-quoted _ _ _ _ _ _ _ _ (c .before .before .before .before .before .before .before .mode2 .given .1)), c .on-quoted .ensures .1)
 
 returns-4 : tie.Need-returns-4
 returns-4 c =
     let p = c .before .before .before .before .before .before .before in
     let b = p .before .shared-slice-known2 .given (p .before .before .before .args .at) in
     let k = kind-told _ _ _ (p .before .before .before .pre .0 .1) (b .fits) (p .kind-in .ensures) in
-    let m = c .before .before .before .before .before .mode3 in
-    c .on-after .ensures _ _ ∙ ap (afterOf _ _ _ _) k ∙ sym (move-after _ _ _ _ _ _ _ (m .given .1))
+    (c .on-after .ensures _ _ ∙ ap (afterOf _ _ _ _) k ∙ sym (move-after _ _ _ _ _ _ _ (c .before .before .before .before .before .mode3 .given .1)), p .before .before .before .pre .1 .1)
 
 returns-5 : tie.Need-returns-5
 returns-5 c =
-    sym (move-done _ _ _ _ _ _ (c .enum-told2 .given .1))
+    (sym (move-done _ _ _ _ _ _ (c .enum-told2 .given .1)), c .before .before .before .before .before .pre .1 .1)
 
 pub step-spec : {M : Type 1} → statement M
 step-spec =
