@@ -206,7 +206,8 @@ fn on_after(
     }
 }
 
-// The label of `len` bytes from `first` is complete: a repeat is told at its first byte, else the label is a leaf.
+// The label of `len` bytes from `first` is complete: a repeat is told at its first byte, else the label is a leaf. One whose slot has no
+// mark is compared with no leaf.
 fn on_leaf(
     text: &[u8],
     st: Scan,
