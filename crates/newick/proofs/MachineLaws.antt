@@ -1,15 +1,11 @@
 -- The reading machine where its mode is known. Assumes nothing.
 use Prim.Native.Nat.{ℕ, _+_, _*_, _≤_, _<_}
 use mathlib.Core.Path.{_≡_, refl, ap, sym, _∙_, subst}
-use mathlib.Core.Bool.{Bool, true, false, cond, _&&_}
+use mathlib.Core.Bool.{Bool, true, false, cond}
 use mathlib.Core.List.{List}
 use native.Mathlib.Omega.{arith}
 use Rattle.trees.specs.declared.Kind.{Kind}
 use Rattle.trees.specs.Arrays.{nodeLimit}
-use Rattle.trees.specs.Slots.{slotOf, isMarked, Marked}
-use Rattle.trees.specs.Stored.{partOf, isAmong}
-use Rattle.trees.specs.Token.{Token, spelling}
-use Rattle.trees.proofs.SlotLaws.{met-is-among}
 use Rattle.trees.specs.declared.Body.{Body}
 use Rattle.trees.specs.declared.Reason.{Reason}
 use Rattle.trees.specs.declared.Reason.the-variants.{BadByte, Repeated}
@@ -55,14 +51,6 @@ ready-as st e h = subst (λ (x : Mode). Ready x st) e h
 pub answer-as : {m n : Mode} (text : List ℕ) (body : Body) (st : Scan) (start size : List ℕ) → m ≡ n
     → answerOf m text body st start size ≡ answerOf n text body st start size
 answer-as text body st start size e = ap (λ (x : Mode). answerOf x text body st start size) e
-
--- the search that marks may spare tells a repeat
-pub met-repeats : (text start size seen : List ℕ) → Marked nodeLimit text start size seen → (n first len k : ℕ) (token : Token) (b : Bool)
-    → token ≡ partOf first len text → k ≡ slotOf (spelling token) → b ≡ (isMarked seen k && isAmong text start size n token)
-    → b ≡ repeatOf text start size n first len
-unfolding repeatOf
-met-repeats text start size seen marked n first len k token b d e f =
-    f ∙ met-is-among nodeLimit text start size seen marked token n k e ∙ ap (isAmong text start size n) d
 
 -- a label that is complete, where the test for a repeat is known
 module _ (text : List ℕ) (st : Scan) (a : Arrays) (first len : ℕ) (q : Bool)

@@ -1,15 +1,17 @@
 -- What this crate promises of bytes, labels and trees, in the scope paper's order; each proof is a name cited. Assumes nothing.
 use Prim.Native.Nat.{ℕ, _<_, _≤_}
 use mathlib.Core.Path.{_≡_}
-use mathlib.Core.Bool.{true, false}
+use mathlib.Core.Bool.{true, false, _&&_}
 use mathlib.Core.Logic.{_⊎_}
-use lib.ListN.{length, getD}
+use mathlib.Core.List.{List}
+use lib.ListN.{length, getD, replicate}
 use Rattle.trees.specs.Bytes.{kindOf, kindOfCode, classTable}
 use Rattle.trees.specs.Label.{Label, labelLimit, labelLess, isIn}
 use Rattle.trees.specs.Token.{Token, spelling, goodLabel, tokenOf}
 use Rattle.trees.specs.Tree.{Tree, leaves, relabel, decoded, Same, Valid, Proper, smallest, normal}
 use Rattle.trees.specs.Text.{textOf, treeRoom, normalText}
-use Rattle.trees.specs.Stored.{storedBytes, storedOf, shownOf, shownBytes}
+use Rattle.trees.specs.Stored.{storedBytes, storedOf, shownOf, shownBytes, isAmong}
+use Rattle.trees.specs.Slots.{slotOf, isMarked, Marked, firstMarks}
 use Rattle.trees.specs.Plain.{PlainLabel, PlainTree}
 use Rattle.trees.specs.Writable.{Writable}
 use Rattle.trees.specs.Arrays.{arraysOf, treeOf, oneTree}
@@ -17,6 +19,7 @@ use Rattle.trees.proofs.ByteLaws.{class-rule}
 use Rattle.trees.proofs.LabelLaws.{less-irrefl, less-trans, less-total}
 use Rattle.trees.proofs.StoredLaws.{stored-back, shown-back}
 use Rattle.trees.proofs.TokenLaws.{valid-decoded, token-good, token-back, token-one}
+use Rattle.trees.proofs.SlotLaws.{marked-start, met-is-among}
 use Rattle.trees.proofs.ArrayLaws.{stands, text-short}
 use Rattle.trees.proofs.NormalLaws.{smallest-in, smallest-least, one-normal-text}
 use Rattle.trees.proofs.PlainLaws.{plain-spelling, plain-token, plain-decoded, plain-written}
@@ -64,6 +67,15 @@ plain-tree-read t = plain-decoded
 
 pub plain-tree-written : (t : Tree) → PlainTree t → relabel tokenOf t ≡ t
 plain-tree-written t = plain-written
+
+-- of a repeat nothing is lost by the marks: with one for each part's label, the search that they may spare is the whole search
+pub marked-search : (m : ℕ) (text start size seen : List ℕ) → Marked m text start size seen → (x : Token) (n k : ℕ) → k ≡ slotOf (spelling x)
+    → (isMarked seen k && isAmong text start size n x) ≡ isAmong text start size n x
+marked-search = met-is-among
+
+-- and those of a reader that has met no label are such marks
+pub first-marked : (text : List ℕ) (m : ℕ) → Marked m text (replicate m 0) (replicate m 0) firstMarks
+first-marked = marked-start
 
 -- "two quotes more": a label that is shown is its written form
 pub label-shown : (x : Label) → length x ≤ labelLimit → shownBytes (shownOf x) ≡ tokenOf x

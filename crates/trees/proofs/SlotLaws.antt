@@ -98,37 +98,13 @@ marked-start text m =
     each u = rw (empty u) (mark-here (replicate slotCount 0) 0 (omega (arith, length-replicate {A = ℕ} slotCount 0)))
 
 module _ (m : ℕ) (text start size seen : List ℕ) (marked : Marked m text start size seen) where
-  -- one more label, with its mark
-  pub marked-next : (n first len k : ℕ) → n < m → k ≡ slotOf (spelling (partOf first len text))
-      → Marked m text (set start n first) (set size n len) (set seen k 1)
-  marked-next n first len k h e =
-      record {
-        starts = length-set start n first ∙ marked .starts;
-        sizes = length-set size n len ∙ marked .sizes;
-        slots = length-set seen k 1 ∙ marked .slots;
-        each = λ u. go u (bool-cases (eqb u n));
-      }
-    where
-      small : k < length seen
-      small = omega (arith, e, marked .slots, slot-small (spelling (partOf first len text)))
-
-      Here : ℕ → Type 0
-      Here u = isMarked (set seen k 1) (slotOf (spelling (leafLabel text (set start n first) (set size n len) u))) ≡ true
-
-      go : (u : ℕ) → (eqb u n ≡ true) ⊎ (eqb u n ≡ false) → Here u
-      go u (inl d) =
-          rw (eqb-true u n d, getD-set-same start n first 0 (omega (arith, marked .starts)), getD-set-same size n len 0 (omega (arith, marked .sizes)), ← e)
-          (mark-here seen k small)
-      go u (inr d) =
-          rw (getD-set-other start n u first 0 (eqb-false u n d), getD-set-other size n u len 0 (eqb-false u n d))
-          (mark-stays seen k (slotOf (spelling (leafLabel text start size u))) small (marked .each u))
-
   -- a label whose slot has no mark is none of the parts'
   part-unmarked : (x : Token) (u : ℕ) → isMarked seen (slotOf (spelling x)) ≡ false → isPart text (getD start u 0) (getD size u 0) x ≡ false
   part-unmarked x u none =
       refute (isPart text (getD start u 0) (getD size u 0) x)
       (λ (h : isPart text (getD start u 0) (getD size u 0) x ≡ true).
-      clash (marked .each u) (sym (ap (λ (l : Label). isMarked seen (slotOf l)) (same-eq (spelling x) (spelling (leafLabel text start size u)) h)) ∙ none))
+      let same = same-eq (spelling x) (spelling (leafLabel text start size u)) h in
+      clash (marked .each u) (sym (ap (λ (l : Label). isMarked seen (slotOf l)) same) ∙ none))
 
   among-unmarked : (x : Token) (n : ℕ) → isMarked seen (slotOf (spelling x)) ≡ false → isAmong text start size n x ≡ false
   unfolding isAmong
@@ -143,3 +119,37 @@ module _ (m : ℕ) (text start size seen : List ℕ) (marked : Marked m text sta
       go : (isMarked seen k ≡ true) ⊎ (isMarked seen k ≡ false) → (isMarked seen k && isAmong text start size n x) ≡ isAmong text start size n x
       go (inl d) = rw d refl
       go (inr d) = rw d (sym (among-unmarked x n (rw (← e) d)))
+
+  -- a token of the text, and its slot
+  module _ (first len k : ℕ) (token : Token) (part : token ≡ partOf first len text) (slot : k ≡ slotOf (spelling token)) where
+    pub met-told : (n : ℕ) (b : Bool) → b ≡ (isMarked seen k && isAmong text start size n token)
+        → b ≡ isAmong text start size n (partOf first len text)
+    met-told n b e = e ∙ met-is-among token n k slot ∙ ap (isAmong text start size n) part
+
+    of-part : k ≡ slotOf (spelling (partOf first len text))
+    of-part = slot ∙ ap (λ (x : Token). slotOf (spelling x)) part
+
+    -- it is one label more, with its mark
+    pub marked-next : (n : ℕ) → n < m → Marked m text (set start n first) (set size n len) (set seen k 1)
+    marked-next n h =
+        record {
+          starts = length-set start n first ∙ marked .starts;
+          sizes = length-set size n len ∙ marked .sizes;
+          slots = length-set seen k 1 ∙ marked .slots;
+          each = λ u. go u (bool-cases (eqb u n));
+        }
+      where
+        small : k < length seen
+        small = omega (arith, of-part, marked .slots, slot-small (spelling (partOf first len text)))
+
+        Here : ℕ → Type 0
+        Here u = isMarked (set seen k 1) (slotOf (spelling (leafLabel text (set start n first) (set size n len) u))) ≡ true
+
+        go : (u : ℕ) → (eqb u n ≡ true) ⊎ (eqb u n ≡ false) → Here u
+        go u (inl d) =
+            let s = getD-set-same start n first 0 (omega (arith, marked .starts)) in
+            let z = getD-set-same size n len 0 (omega (arith, marked .sizes)) in
+            rw (eqb-true u n d, s, z, ← of-part) (mark-here seen k small)
+        go u (inr d) =
+            rw (getD-set-other start n u first 0 (eqb-false u n d), getD-set-other size n u len 0 (eqb-false u n d))
+            (mark-stays seen k (slotOf (spelling (leafLabel text start size u))) small (marked .each u))

@@ -1,5 +1,5 @@
--- Intermediate: a number for each label, by which a reader sees at once that most labels are new. Nothing of the papers rests on it: the
--- readers' answers are the same for any function of a label in place of `slotOf`.
+-- Intermediate: a number for each label, by which a reader sees at once that most labels are new. Nothing of the papers rests on it: with
+-- any other function of a label to the slots the readers would answer the same. `marked-search` in Promises ties it to `isAmong`.
 use Prim.Native.Nat.{ℕ, _+_, _*_, _%_}
 use mathlib.Core.Path.{_≡_}
 use mathlib.Core.Bool.{Bool, true}

@@ -6,9 +6,8 @@ use lib.Dec.{leb}
 use lib.ListN.{length, getD, take, drop, replicate}
 use Rattle.trees.specs.declared.ShownLabel.{ShownLabel}
 use Rattle.trees.specs.declared.StoredLabel.{StoredLabel}
-use Rattle.trees.specs.Bytes.{quoteByte}
 use Rattle.trees.specs.Label.{Label, labelLimit, sameLabel}
-use Rattle.trees.specs.Token.{Token, bareByte, spelling, writtenByte, tokenOf, tokenLimit}
+use Rattle.trees.specs.Token.{Token, bareByte, spelling, writtenByte, quotedToken, tokenOf, tokenLimit}
 use Rattle.trees.specs.Reading.{quoteFirst}
 
 -- the label that is kept: of a length past 16 the array's 16 bytes count
@@ -66,5 +65,5 @@ readAs quoted x = map (byteOf quoted) x
 
 -- a label's form with quotes, and without
 unfoldable pub formOf : (quoted : Bool) → Label → Token
-formOf true x = quoteByte ∷ (x ++ (quoteByte ∷ []))
+formOf true x = quotedToken x
 formOf false x = map writtenByte x

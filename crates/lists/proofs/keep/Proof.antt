@@ -1,9 +1,6 @@
 -- `keep` meets its contract: a search among the earlier labels, left out where no mark asks for it, then three stores. Assumes nothing.
-use mathlib.Core.Path.{refl, _∙_, ap}
-use Rattle.trees.specs.Token.{Token, spelling}
-use Rattle.trees.specs.Stored.{isAmong}
-use Rattle.trees.specs.Slots.{slotOf}
-use Rattle.trees.proofs.SlotLaws.{slot-small, marked-next, met-is-among}
+use mathlib.Core.Path.{refl}
+use Rattle.trees.proofs.SlotLaws.{slot-small, met-told, marked-next}
 use Rattle.lists.specs.ListMachine.{repeatOf}
 use borrow.Author.Needs.{needs}
 use Rattle.lists.proofs.keep.Statement.{statement}
@@ -18,9 +15,8 @@ unfolding repeatOf
 returns c =
     let s = c .before .before .before .before .before .before .before in
     let m = s .before .before .before .pre in
-    let p = s .before .part .ensures in
-    let next = marked-next _ _ _ _ _ (m .1) _ _ _ _ (m .0) (s .slot .ensures ∙ ap (λ (x : Token). slotOf (spelling x)) p) in
-    (c .is-met .ensures ∙ met-is-among _ _ _ _ _ (m .1) _ _ _ (s .slot .ensures) ∙ ap (isAmong _ _ _ _) p, (refl, (refl, next)))
+    let found = met-told _ _ _ _ _ (m .1) _ _ _ _ (s .before .part .ensures) (s .slot .ensures) _ _ (c .is-met .ensures) in
+    (found, (refl, (refl, marked-next _ _ _ _ _ (m .1) _ _ _ _ (s .before .part .ensures) (s .slot .ensures) _ (m .0))))
 
 pub keep-spec : {M : Type 1} → statement M
 keep-spec =

@@ -31,26 +31,27 @@ loop-holds c =
 
 step-requires : tie.Need-step-requires Inv-loop μ-loop
 step-requires c κs =
-    let l = c .before .before .before .before .before .before .before .before .loop in
+    let t = c .before .before .before .before .before .before .before in
+    let l = t .before .loop in
     let a = arrays (l .stack) (l .left) (l .right) (l .start) (l .size) in
-    ((c .before .before .before .before .before .before .before .loop-test .taken, c .before .before .before .before .before .before .before .before .before .before .before .classes .ensures), (ready-so _ (l .st) a (l .i) (l .inv .1), l .inv .2))
+    ((t .loop-test .taken, t .before .before .before .before .classes .ensures), (ready-so _ (l .st) a (l .i) (l .inv .1), l .inv .2))
 
 returns : tie.Need-returns Inv-loop μ-loop
 returns c =
-    let l = c .before .before .before .before .before .before .before .before .before .before .before .before .before .before .loop in
+    let t = c .before .before .before .before .before .before .before .before .before .before .before .before .before in
+    let l = t .before .loop in
     let a = arrays (l .stack) (l .left) (l .right) (l .start) (l .size) in
     c .turned-down .ensures ∙ ap turnedDown (c .before .refuse .ensures)
-    ∙ stops-so _ (l .st) a (l .i) (l .inv .1) _ _ _ _ _ (c .before .before .before .before .before .before .before .before .before .before .before .before .before .loop-test .taken) (c .before .before .before .before .before .step .ensures .0) (c .before .before .before .moved .given .1)
+    ∙ stops-so _ (l .st) a (l .i) (l .inv .1) _ _ _ _ _ (t .loop-test .taken) (c .before .before .before .before .before .step .ensures .0) (c .before .before .before .moved .given .1)
 
 loop-again : tie.Need-loop-again Inv-loop μ-loop
 loop-again c =
-    let l = c .before .before .before .before .before .before .before .before .before .before .before .before .loop in
+    let t = c .before .before .before .before .before .before .before .before .before .before .before in
+    let l = t .before .loop in
     let a = arrays (l .stack) (l .left) (l .right) (l .start) (l .size) in
-    let r = c .before .before .before .step .ensures in (
-      omega (arith, c .before .before .before .before .before .before .before .before .before .before .before .loop-test .taken),
-      goes-on-so _ (l .st) a (l .i) (l .inv .1) _ _ _ (c .before .before .before .before .before .before .before .before .before .before .before .loop-test .taken) (r .0) (c .before .moved2 .given .1),
-      r .1,
-    )
+    let r = c .before .before .before .step .ensures in
+    let on = goes-on-so _ (l .st) a (l .i) (l .inv .1) _ _ _ (t .loop-test .taken) (r .0) (c .before .moved2 .given .1) in
+    (omega (arith, t .loop-test .taken), on, r .1)
 
 at-end-requires : tie.Need-at-end-requires Inv-loop μ-loop
 at-end-requires c κs =
@@ -60,17 +61,19 @@ at-end-requires c κs =
 
 returns-2 : tie.Need-returns-2 Inv-loop μ-loop
 returns-2 c =
-    let l = c .before .before .before .before .before .before .before .loop in
+    let t = c .before .before .before .before .before .before in
+    let l = t .before .loop in
     let a = arrays (l .stack) (l .left) (l .right) (l .start) (l .size) in
     c .turned-down2 .ensures
-    ∙ ends-refused _ (l .st) a (l .i) (l .inv .1) _ _ (c .before .before .before .before .before .before .loop-test .left) (c .before .before .before .at-end .ensures) _ (c .before .enum-told2 .given .1)
+    ∙ ends-refused _ (l .st) a (l .i) (l .inv .1) _ _ (t .loop-test .left) (c .before .before .before .at-end .ensures) _ (c .before .enum-told2 .given .1)
 
 returns-3 : tie.Need-returns-3 Inv-loop μ-loop
 returns-3 c =
-    let l = c .before .before .before .before .before .before .before .loop in
+    let t = c .before .before .before .before .before .before in
+    let l = t .before .loop in
     let a = arrays (l .stack) (l .left) (l .right) (l .start) (l .size) in
     c .with-arrays .ensures
-    ∙ ends-tree _ (l .st) a (l .i) (l .inv .1) _ _ (c .before .before .before .before .before .before .loop-test .left) (c .before .before .before .at-end .ensures) _ (c .before .enum-told .given .1)
+    ∙ ends-tree _ (l .st) a (l .i) (l .inv .1) _ _ (t .loop-test .left) (c .before .before .before .at-end .ensures) _ (c .before .enum-told .given .1)
 
 pub read-tree-spec : {M : Type 1} → statement M
 read-tree-spec =

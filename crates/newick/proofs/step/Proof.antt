@@ -61,14 +61,16 @@ returns-2 c =
     let p = c .before .before .before .before .before .before .before .before .before .before in
     let b = p .before .shared-slice-known2 .given (p .before .before .before .args .at) in
     let k = kind-told _ _ _ (p .before .before .before .pre .0 .1) (b .fits) (p .kind-in .ensures) in
-    (c .on-inside .ensures .0 ∙ ap (insideOf _ _ _ _ _ _) k ∙ sym (move-inside _ _ _ _ _ _ _ _ (c .before .before .before .before .before .before .before .before .mode .given .1)), c .on-inside .ensures .1)
+    let m = c .before .before .before .before .before .before .before .before .mode .given .1 in
+    (c .on-inside .ensures .0 ∙ ap (insideOf _ _ _ _ _ _) k ∙ sym (move-inside _ _ _ _ _ _ _ _ m), c .on-inside .ensures .1)
 
 returns-3 : tie.Need-returns-3
 returns-3 c =
     let p = c .before .before .before .before .before .before .before .before .before in
     let b = p .before .shared-slice-known2 .given (p .before .before .before .args .at) in
     let k = kind-told _ _ _ (p .before .before .before .pre .0 .1) (b .fits) (p .kind-in .ensures) in
-    (c .on-quoted .ensures .0 _ ∙ ap (quotedOf _ _ _ _ _ _) k ∙ sym (move-quoted _ _ _ _ _ _ _ _ (c .before .before .before .before .before .before .before .mode2 .given .1)), c .on-quoted .ensures .1)
+    let m = c .before .before .before .before .before .before .before .mode2 .given .1 in
+    (c .on-quoted .ensures .0 _ ∙ ap (quotedOf _ _ _ _ _ _) k ∙ sym (move-quoted _ _ _ _ _ _ _ _ m), c .on-quoted .ensures .1)
 
 returns-4 : tie.Need-returns-4
 returns-4 c =

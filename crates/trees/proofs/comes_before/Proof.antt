@@ -34,19 +34,25 @@ enum-told-3 c = search needs
 returns : tie.Need-returns
 returns c =
     let a = c .before .before .before .before .before .before .before .before .before .args in
-    let same = both-told orderOf (a .a .now) (a .b .now) _ _ _ _ (c .before .before .before .before .before .before .inner .ensures) (c .before .before .before .before .before .is-quoted .ensures) (c .before .before .before .before .inner2 .ensures) (c .before .before .before .is-quoted2 .ensures) in
+    let q = c .before .before .before in
+    let same = both-told orderOf (a .a .now) (a .b .now) _ _ _ _ (q .before .before .before .inner .ensures) (q .before .before .is-quoted .ensures)
+    (q .before .inner2 .ensures) (q .is-quoted2 .ensures) in
     sym (order-less _ _ (sym same ∙ sym (c .before .before .compare-read .ensures) ∙ c .enum-told .given .1))
 
 returns-2 : tie.Need-returns-2
 returns-2 c =
     let a = c .before .before .before .before .before .before .before .before .before .args in
-    let same = both-told orderOf (a .a .now) (a .b .now) _ _ _ _ (c .before .before .before .before .before .before .inner .ensures) (c .before .before .before .before .before .is-quoted .ensures) (c .before .before .before .before .inner2 .ensures) (c .before .before .before .is-quoted2 .ensures) in
+    let q = c .before .before .before in
+    let same = both-told orderOf (a .a .now) (a .b .now) _ _ _ _ (q .before .before .before .inner .ensures) (q .before .before .is-quoted .ensures)
+    (q .before .inner2 .ensures) (q .is-quoted2 .ensures) in
     sym (equal-before _ _ (sym same ∙ sym (c .before .before .compare-read .ensures) ∙ c .enum-told2 .given .1))
 
 returns-3 : tie.Need-returns-3
 returns-3 c =
     let a = c .before .before .before .before .before .before .before .before .before .args in
-    let same = both-told orderOf (a .a .now) (a .b .now) _ _ _ _ (c .before .before .before .before .before .before .inner .ensures) (c .before .before .before .before .before .is-quoted .ensures) (c .before .before .before .before .inner2 .ensures) (c .before .before .before .is-quoted2 .ensures) in
+    let q = c .before .before .before in
+    let same = both-told orderOf (a .a .now) (a .b .now) _ _ _ _ (q .before .before .before .inner .ensures) (q .before .before .is-quoted .ensures)
+    (q .before .inner2 .ensures) (q .is-quoted2 .ensures) in
     sym (greater-before _ _ (sym same ∙ sym (c .before .before .compare-read .ensures) ∙ c .enum-told3 .given .1))
 
 pub comes-before-spec : {M : Type 1} → statement M

@@ -66,7 +66,8 @@ unfolding storedBytes
 returns c =
     let l = c .before .loop in
     let form = formOf (c .before .before .before .holds-underscore .result) (c .before .before .before .before .first-bytes .result .now) in
-    let told = form-told (storedBytes (c .before .before .before .before .before .before .before .args .label)) _ _ (c .before .before .before .holds-underscore .ensures) (c .before .before .before .before .first-bytes .ensures) in
+    let h = c .before .before .before in
+    let told = form-told (storedBytes (h .before .before .before .before .args .label)) _ _ (h .holds-underscore .ensures) (h .before .first-bytes .ensures) in
     let e : l .i ≡ c .before .before .form-size .result = omega arith in
     rw (← e) (shown-made (storedBytes (c .before .before .before .before .before .before .before .args .label)) form (l .bytes) (l .i) told (e ∙ l .inv .1) (l .inv .2))
 
