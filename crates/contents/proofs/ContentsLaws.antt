@@ -20,11 +20,11 @@ use Rattle.trees.proofs.Bools.{bool-cases, and-left, and-right, and-intro, or-c
 use Rattle.contents.specs.declared.Table.{Table}
 use Rattle.contents.specs.declared.Layout.{Layout}
 use Rattle.contents.specs.declared.Layout.the-variants as layout
-use Rattle.contents.specs.Decimal.{decimalFrom, decimalOf, isDigit, digitRun, valueFrom}
+use Rattle.decimals.specs.Decimal.{decimalFrom, decimalOf, isDigit, digitRun, valueFrom}
 use Rattle.contents.specs.Contents.{Bodies, Short, Laid, line, entryLine, tableText, lengthsOf, jobOf, digitLimit, goodDigits, Number, numberAt}
 use Rattle.contents.specs.Contents.{Progress, _andThen_, byteOf, byte, putDown, withLength, lengthStep, entry, emptyLine}
 use Rattle.contents.specs.Contents.{begins, withStrict, strictLine, strictText, tableLines, begun, laidOut, layoutOf, bodiesIn, bodiesOf, listPlace}
-use Rattle.contents.proofs.DecimalLaws.{allDigits, from-small, from-digits, from-some, from-few, no-leading-zero, decimal-value, from-read, value-below, digit-small}
+use Rattle.decimals.proofs.DecimalLaws.{allDigits, from-small, from-digits, from-some, from-few, no-leading-zero, decimal-value, from-read, value-below, digit-small}
 use Rattle.contents.proofs.OptionalLaws.{Carried, begins-if, optional-written, optional-took}
 use Rattle.contents.proofs.RunLaws.{run-first, number-one, number-more}
 use Rattle.contents.proofs.StepLaws.{then-some, between, none-some}

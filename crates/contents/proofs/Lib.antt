@@ -1,5 +1,4 @@
 pub mod ContentsLaws
-pub mod DecimalLaws
 pub mod OptionalLaws
 pub mod Promises
 pub mod RunLaws

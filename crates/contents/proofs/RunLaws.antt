@@ -10,7 +10,7 @@ use lib.Dec.{leb}
 use lib.ListN.{length, getD, take, drop, drop-of-length-le}
 use lib.Seq.{drop-cons, drop-drop, getD-drop, getD-take}
 use borrow.Author.Tests.{le-leb, lt-leb, eq-eqb, ne-eqb}
-use Rattle.contents.specs.Decimal.{isDigit, digitRun, valueFrom}
+use Rattle.decimals.specs.Decimal.{isDigit, digitRun, valueFrom}
 use Rattle.contents.specs.Contents.{Number, digitLimit, goodDigits, numberAt}
 use Rattle.contents.specs.Steps.{lengthBound}
 

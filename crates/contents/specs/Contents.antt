@@ -15,7 +15,7 @@ use Rattle.trees.specs.Words.{bytesOf}
 use Rattle.contents.specs.declared.Table.{Table}
 use Rattle.contents.specs.declared.Layout.{Layout}
 use Rattle.contents.specs.declared.Layout.the-variants as layout
-use Rattle.contents.specs.Decimal.{decimalOf, digitRun, valueFrom}
+use Rattle.decimals.specs.Decimal.{decimalOf, digitRun, valueFrom}
 
 -- how many digits a length may have
 abbrev pub digitLimit : ℕ

@@ -1,3 +1,2 @@
 pub mod Contents
-pub mod Decimal
 pub mod Steps

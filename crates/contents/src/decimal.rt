@@ -2,7 +2,7 @@
 ghost use mathlib.Core.Path.{_≡_};
 ghost use Prim.Native.Nat.{_+_, _-_, _≤_, _<_};
 ghost use lib.ListN.{length, take, drop};
-ghost use Rattle.contents.specs.Decimal.{isDigit, digitRun, valueFrom};
+ghost use Rattle.decimals.specs.Decimal.{isDigit, digitRun, valueFrom};
 ghost use Rattle.contents.specs.Contents.{numberAt, digitLimit};
 ghost use Rattle.contents.specs.Steps.{numberTold, SmallNumber, lengthBound};
 

@@ -2,7 +2,6 @@ pub mod AnswerLaws
 pub mod AreaLaws
 pub mod ClashLaws
 pub mod DemandLaws
-pub mod DigitLaws
 pub mod LineLaws
 pub mod OutcomeLaws
 pub mod PrintLaws

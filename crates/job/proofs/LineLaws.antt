@@ -4,7 +4,7 @@ use mathlib.Core.Path.{_≡_, refl, _∙_, ap}
 use mathlib.Core.List.{List, [], _∷_, _++_, map, append-assoc}
 use native.Mathlib.Omega.{arith}
 use lib.ListN.{length, take, length-append, length-take}
-use Rattle.contents.proofs.DecimalLaws.{decimal-short}
+use Rattle.decimals.proofs.DecimalLaws.{decimal-short}
 use Rattle.job.proofs.AreaLaws.{form-short, item-short}
 use Rattle.trees.specs.declared.Reason.the-variants.{Disagree}
 use Rattle.trees.specs.declared.Body.the-variants.{K}
@@ -16,7 +16,7 @@ use Rattle.lists.specs.ReadList.{joined}
 use Rattle.mast.specs.Largest.{turned}
 use Rattle.job.specs.declared.Named.{Named}
 use Rattle.job.specs.declared.LineAnswer.{LineAnswer}
-use Rattle.contents.specs.Decimal.{decimalOf}
+use Rattle.decimals.specs.Decimal.{decimalOf}
 use Rattle.trees.specs.Words.{bytesOf}
 use Rattle.contents.specs.Contents.{line}
 use Rattle.job.specs.Printed.{itemRoom, wordsRoom, refusedWords, recordLines, printedOf}

@@ -28,8 +28,8 @@ use Rattle.agreement.specs.Sets.{setOf}
 use Rattle.agreement.specs.Restrict.{restrict}
 use Rattle.agreement.specs.Places.{keptText}
 use Rattle.contents.specs.Contents.{line}
-use Rattle.contents.specs.Decimal.{decimalOf}
-use Rattle.contents.proofs.DecimalLaws.{decimal-short}
+use Rattle.decimals.specs.Decimal.{decimalOf}
+use Rattle.decimals.proofs.DecimalLaws.{decimal-short}
 use Rattle.mast.specs.Largest.{Solution, solved, clashed, turned}
 use Rattle.job.specs.Printed.{jobLimit, itemRoom, recordRoom, solveJob, refusedWords, recordLines, printedOf, printed}
 use Rattle.job.specs.Outcome.{JobOutcome, too-long, no-contents, first-fault, second-fault, list-fault, stray-first, stray-second, first-lacks, second-lacks, disagreement, largest-set}

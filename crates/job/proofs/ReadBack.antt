@@ -31,8 +31,8 @@ use Rattle.agreement.specs.Restrict.{restrict}
 use Rattle.agreement.specs.Places.{keptText}
 use Rattle.agreement.proofs.RestrictText.{restrict-writable}
 use Rattle.contents.specs.Contents.{line}
-use Rattle.contents.specs.Decimal.{isDigit, valueFrom, decimalOf, digitRoom}
-use Rattle.contents.proofs.DecimalLaws.{allDigits, from-digits, decimal-value}
+use Rattle.decimals.specs.Decimal.{isDigit, valueFrom, decimalOf, digitRoom}
+use Rattle.decimals.proofs.DecimalLaws.{allDigits, from-digits, decimal-value}
 use Rattle.mast.specs.Largest.{clashed, turned}
 use Rattle.job.specs.Printed.{refusedWords, recordLines, printedOf}
 use Rattle.job.proofs.ShownLaws.{cons-count}

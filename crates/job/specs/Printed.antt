@@ -16,7 +16,7 @@ use Rattle.trees.specs.Token.{tokenOf, tokenLimit}
 use Rattle.trees.specs.Tree.{leafLimit}
 use Rattle.trees.specs.Words.{bytesOf}
 use Rattle.lists.specs.ReadList.{joined}
-use Rattle.contents.specs.Decimal.{digitRoom, decimalOf}
+use Rattle.decimals.specs.Decimal.{digitRoom, decimalOf}
 use Rattle.contents.specs.Contents.{Bodies, bodiesOf, line}
 use Rattle.mast.specs.Largest.{Solution, solved, clashed, turned, Task, task, solve}
 

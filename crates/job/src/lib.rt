@@ -2,6 +2,7 @@
 //
 // No public function has a `requires`.
 use contents::Layout;
+use decimals::DIGIT_ROOM;
 use lists::LabelPlaces;
 use mast::LargestAnswer;
 use mast::Options;
@@ -24,7 +25,6 @@ ghost use Rattle.job.specs.Printed.{printedOf, printed, recordLines, sol
 ghost use Rattle.job.specs.Areas.{labelsIn, untilComma};
 ghost use Rattle.job.specs.Answered.{lineAnswer, lineOutput, writtenPart, namedLine, answered, answerTo, jobOutput, recordAnswer};
 
-mod decimal;
 mod lines;
 
 // "A job has at most 8,192 bytes"
@@ -36,11 +36,11 @@ const JOB_AREA: usize = JOB_LIMIT + 1;
 // A label as it is printed, and a comma.
 const ITEM_ROOM: usize = TOKEN_LIMIT + 1;
 
-// A refusal's line: words with two numbers of 20 digits, three labels with their commas, a blank and a line end.
-const LINE_ROOM: usize = 11 + 2 * 20 + 2 + 3 * ITEM_ROOM;
+// A refusal's line: words with two numbers, three labels with their commas, a blank and a line end.
+const LINE_ROOM: usize = 11 + 2 * DIGIT_ROOM + 2 + 3 * ITEM_ROOM;
 
-// The three lines: their words, a number of 20 digits, 80 labels with their commas, and the tree's text.
-const RECORD_ROOM: usize = 17 + 20 + LEAF_LIMIT * ITEM_ROOM + TREE_ROOM;
+// The three lines: their words, a number, 80 labels with their commas, and the tree's text.
+const RECORD_ROOM: usize = 17 + DIGIT_ROOM + LEAF_LIMIT * ITEM_ROOM + TREE_ROOM;
 
 // How many bytes the lines have that now stand in the output, or number 9 where it is too short for them.
 pub enum LineAnswer {

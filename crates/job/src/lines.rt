@@ -1,7 +1,6 @@
 // Lines put together in an area, part by part, and handed over to a lent output.
 use crate::LineAnswer;
 use crate::Named;
-use crate::decimal::put_digits;
 use trees::Body;
 use trees::Reason;
 use trees::Refusal;
@@ -11,7 +10,7 @@ ghost use mathlib.Core.Path.{_≡_};
 ghost use mathlib.Core.List.{[], _∷_, map};
 ghost use Prim.Native.Nat.{_+_, _*_, _≤_};
 ghost use lib.ListN.{length};
-ghost use Rattle.contents.specs.Decimal.{decimalOf, digitRoom};
+ghost use Rattle.decimals.specs.Decimal.{decimalOf, digitRoom};
 ghost use Rattle.trees.specs.Stored.{shownBytes};
 ghost use Rattle.trees.specs.Text.{treeRoom};
 ghost use Rattle.trees.specs.Token.{tokenOf};
@@ -21,9 +20,6 @@ ghost use Rattle.mast.specs.Largest.{turned};
 ghost use Rattle.job.specs.Printed.{refusedWords, recordLines, printedOf, itemRoom, wordsRoom, lineRoom, recordRoom};
 ghost use Rattle.job.specs.Answered.{lineAnswer, lineOutput, labelIn, namedLine};
 ghost use Rattle.job.specs.Areas.{Put, item, labelsIn};
-
-// The digits that a number may have.
-const DIGIT_ROOM: usize = 20;
 
 // Puts one byte at `at`, and says where the next goes.
 pub(crate) fn put_byte(b: u8, area: &mut [u8], at: usize) -> usize
@@ -52,7 +48,9 @@ pub(crate) fn put_number(n: usize, area: &mut [u8], at: usize) -> usize
     requires { ⌜ at + digitRoom ≤ length (now area) ⌝ }
     ensures { λ r. ⌜ Put (now (area .entry)) at (decimalOf n) r (now (area .exit)) ⌝ }
 {
-    put_digits(DIGIT_ROOM, n, area, at)
+    let numeral = decimals::digits(n);
+    let bytes = numeral.bytes;
+    put_bytes(trees::first_bytes(&bytes, numeral.len), area, at)
 }
 
 // The label that the `size` bytes at a place of a text stand for, as it is printed; of one that no reader accepts, 16 bytes.

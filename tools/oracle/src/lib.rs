@@ -9,6 +9,7 @@ pub mod fast;
 pub mod job;
 pub mod jobs;
 pub mod limits;
+pub mod places;
 pub mod quoted_jobs;
 pub mod quotes;
 pub mod random;

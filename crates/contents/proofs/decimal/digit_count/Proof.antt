@@ -1,6 +1,6 @@
 -- `contents::decimal::digit_count` meets its contract. The invariant: the digits passed and those from here on are all. Assumes nothing.
 use Rattle.contents.proofs.RunLaws.{run-go, run-stop, run-end}
-use Rattle.contents.specs.Decimal.{digitRun}
+use Rattle.decimals.specs.Decimal.{digitRun}
 use borrow.Author.Needs.{needs}
 use borrow.Author.Tests.{not-true, not-false}
 use native.Mathlib.Omega.{arith}

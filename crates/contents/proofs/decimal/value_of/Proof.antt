@@ -1,6 +1,6 @@
 -- `contents::decimal::value_of` meets its contract. The invariant: the value so far goes on to the value of all digits, and stays small. Assumes nothing.
 use Rattle.contents.proofs.RunLaws.{bound, bound-more, bound-small, bound-none, valueLeft, value-go, value-start, value-end}
-use Rattle.contents.specs.Decimal.{valueFrom}
+use Rattle.decimals.specs.Decimal.{valueFrom}
 use borrow.Author.Needs.{needs}
 use native.Mathlib.Omega.{arith}
 use mathlib.Core.Path.{_≡_, sym, _∙_, ap}

@@ -1,20 +1,47 @@
--- `job::lines::put_number` meets its contract: twenty digits are enough. Assumes nothing.
+-- `job::lines::put_number` meets its contract: a number has at most twenty digits. Assumes nothing.
+use Prim.Native.Nat.{ℕ}
+use mathlib.Core.Path.{_∙_, ap}
+use native.Mathlib.Omega.{arith}
+use lib.ListN.{length}
+use Rattle.decimals.specs.Numeral.{numeralBytes}
+use Rattle.decimals.proofs.DecimalLaws.{decimal-short}
 use Rattle.job.proofs.AreaLaws.{put-as}
-use Rattle.job.proofs.DigitLaws.{twenty-digits}
 use borrow.Author.Needs.{needs}
 use Rattle.job.proofs.lines.put_number.Statement.{statement}
 use Rattle.job.proofs.lines.put_number.Tie as tie
 
-put-digits-requires : tie.Need-put-digits-requires
-put-digits-requires c κs = search needs
+digits-requires : tie.Need-digits-requires
+digits-requires c κs = search needs
+
+slice-aggregate-first-bytes : tie.Need-slice-aggregate-first-bytes
+slice-aggregate-first-bytes c = search needs
+
+first-bytes-requires : tie.Need-first-bytes-requires
+first-bytes-requires c κs = search needs
+
+put-bytes-requires : tie.Need-put-bytes-requires
+unfolding numeralBytes
+put-bytes-requires c κs =
+    let digits = c .before .before .before .before in
+    let start = digits .before .before in
+    omega (arith, ap (length {A = ℕ}) (c .before .first-bytes .ensures ∙ digits .digits .ensures .0), decimal-short (start .args .n), start .pre)
 
 same-length : tie.Need-same-length
 same-length c = search needs
 
 returns : tie.Need-returns
+unfolding numeralBytes
 returns c =
-    let s1 = c .before .before in
-    put-as _ _ (twenty-digits _) (s1 .put-digits .ensures)
+    let first = c .before .before .before .before in
+    put-as _ _ (first .first-bytes .ensures ∙ first .before .before .before .digits .ensures .0) (c .before .before .put-bytes .ensures)
 
 pub put-number-spec : {M : Type 1} → statement M
-put-number-spec = tie.close (tie.spec put-digits-requires same-length returns)
+put-number-spec =
+    tie.close
+    (tie.spec
+    digits-requires
+    slice-aggregate-first-bytes
+    first-bytes-requires
+    put-bytes-requires
+    same-length
+    returns)

@@ -1,6 +1,6 @@
 -- `job::lines::put_record` meets its contract: the parts of the three lines, one after another. Assumes nothing.
 use Rattle.job.proofs.AreaLaws.{put-then, put-as, length-labels}
-use Rattle.contents.proofs.DecimalLaws.{decimal-short}
+use Rattle.decimals.proofs.DecimalLaws.{decimal-short}
 use Rattle.job.proofs.LineLaws.{record-parts}
 use mathlib.Core.Path.{sym}
 use native.Mathlib.Omega.{arith}

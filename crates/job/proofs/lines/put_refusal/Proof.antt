@@ -1,6 +1,6 @@
 -- `job::lines::put_refusal` meets its contract: the words of a refusal, one after another. Assumes nothing.
 use Rattle.job.proofs.AreaLaws.{put-then, put-as}
-use Rattle.contents.proofs.DecimalLaws.{decimal-short}
+use Rattle.decimals.proofs.DecimalLaws.{decimal-short}
 use Rattle.job.proofs.LineLaws.{refusal-parts}
 use mathlib.Core.Path.{_∙_}
 use native.Mathlib.Omega.{arith}

@@ -7,10 +7,10 @@ use mathlib.Core.List.{List, [], _∷_, _++_, append-assoc}
 use native.Mathlib.Nat.{pow-suc}
 use native.Mathlib.Omega.{arith}
 use lib.Dec.{ltb, leb}
-use lib.ListN.{length, getD, set, length-append, List·getD-append}
+use lib.ListN.{length, getD, length-append, List·getD-append}
 use borrow.Author.Tests.{lt-ltb, le-ltb, ltb-true, ltb-false, le-leb, leb-true}
 use Rattle.trees.proofs.Bools.{bool-cases, and-left, and-right, and-intro}
-use Rattle.contents.specs.Decimal.{decimalFrom, decimalOf, isDigit, valueFrom}
+use Rattle.decimals.specs.Decimal.{decimalFrom, decimalOf, isDigit, valueFrom}
 
 -- ---- the digits, one after another
 
