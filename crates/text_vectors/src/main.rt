@@ -128,7 +128,7 @@ fn run_case() -> bool {
     if got < 3 {
         return false;
     }
-    let size = wide(head[1]) * 256 + wide(head[2]);
+    let size = two(&head, 1);
     let mut area = io::large_buffer();
     let body: &mut [u8] = &mut area;
     let n = io::read_full(0, &mut body[..size]);

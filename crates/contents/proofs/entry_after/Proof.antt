@@ -24,7 +24,10 @@ returns c =
     let s1 = c .before .before in
     let s2 = s1 .before in
     let s3 = s2 .before in
-    (entry-steps _ _ _ _ _ _ _ _ (s3 .letter .ensures) (s2 .byte-after .ensures .0) (s1 .byte-after2 .ensures .0) (c .before .length-after .ensures .0) (c .byte-after3 .ensures .0), c .byte-after3 .ensures .1)
+    let steps =
+    entry-steps _ _ _ _ _ _ _ _ (s3 .letter .ensures) (s2 .byte-after .ensures .0) (s1 .byte-after2 .ensures .0)
+    (c .before .length-after .ensures .0) (c .byte-after3 .ensures .0) in
+    (steps, c .byte-after3 .ensures .1)
 
 pub entry-after-spec : {M : Type 1} → statement M
 entry-after-spec =

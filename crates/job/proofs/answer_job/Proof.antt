@@ -19,55 +19,74 @@ returns c =
 returns-2 : tie.Need-returns-2
 unfolding answerTo
 returns-2 c =
-    let f = job-broken (c .before .before .before .before .before .before .before .args .job .now) (omega arith) (sym (c .before .enum-told .given .1) ∙ c .before .before .before .contents .ensures) in
+    let told = c .before .before .before in
+    let f =
+    job-broken (told .before .before .before .before .args .job .now) (omega arith)
+    (sym (c .before .enum-told .given .1) ∙ told .contents .ensures) in
     (c .refused2 .ensures ∙ answered-turned _ _ _ _ f, output-turned _ _ _ f)
 
 add-second-at : tie.Need-add-second-at
 add-second-at c =
-    let g = c .before .before .layout .given in
-    omega (arith, laid-inside (c .before .before .before .before .before .before .before .before .args .job .now) (g .0 .0) (g .0 .1 .0) (sym (g .1) ∙ c .before .before .before .before .contents .ensures))
+    let told = c .before .before in
+    let start = told .before .before .before .before .before .before in
+    let g = told .layout .given in
+    omega (arith, laid-inside (start .args .job .now) (g .0 .0) (g .0 .1 .0) (sym (g .1) ∙ told .before .before .contents .ensures))
 
 add-list-at : tie.Need-add-list-at
 add-list-at c =
-    let g = c .before .before .before .layout .given in
-    omega (arith, laid-inside (c .before .before .before .before .before .before .before .before .before .args .job .now) (g .0 .0) (g .0 .1 .0) (sym (g .1) ∙ c .before .before .before .before .before .contents .ensures))
+    let told = c .before .before .before in
+    let start = told .before .before .before .before .before .before in
+    let g = told .layout .given in
+    omega (arith, laid-inside (start .args .job .now) (g .0 .0) (g .0 .1 .0) (sym (g .1) ∙ told .before .before .contents .ensures))
 
 add-end : tie.Need-add-end
 add-end c =
-    let g = c .before .before .before .before .layout .given in
-    omega (arith, laid-inside (c .before .before .before .before .before .before .before .before .before .before .args .job .now) (g .0 .0) (g .0 .1 .0) (sym (g .1) ∙ c .before .before .before .before .before .before .contents .ensures))
+    let told = c .before .before .before .before in
+    let start = told .before .before .before .before .before .before in
+    let g = told .layout .given in
+    omega (arith, laid-inside (start .args .job .now) (g .0 .0) (g .0 .1 .0) (sym (g .1) ∙ told .before .before .contents .ensures))
 
 part-answer-bodies-end : tie.Need-part-answer-bodies-end
 part-answer-bodies-end c =
-    let g = c .before .before .before .before .layout .given in
-    omega (arith, laid-inside (c .before .before .before .before .before .before .before .before .before .before .args .job .now) (g .0 .0) (g .0 .1 .0) (sym (g .1) ∙ c .before .before .before .before .before .before .contents .ensures))
+    let told = c .before .before .before .before in
+    let start = told .before .before .before .before .before .before in
+    let g = told .layout .given in
+    omega (arith, laid-inside (start .args .job .now) (g .0 .0) (g .0 .1 .0) (sym (g .1) ∙ told .before .before .contents .ensures))
 
 part-answer-bodies-end-2 : tie.Need-part-answer-bodies-end-2
 part-answer-bodies-end-2 c =
-    let g = c .before .before .before .before .before .layout .given in
-    omega (arith, laid-inside (c .before .before .before .before .before .before .before .before .before .before .before .args .job .now) (g .0 .0) (g .0 .1 .0) (sym (g .1) ∙ c .before .before .before .before .before .before .before .contents .ensures))
+    let told = c .before .before .before .before .before in
+    let start = told .before .before .before .before .before .before in
+    let g = told .layout .given in
+    omega (arith, laid-inside (start .args .job .now) (g .0 .0) (g .0 .1 .0) (sym (g .1) ∙ told .before .before .contents .ensures))
 
 part-answer-bodies-end-3 : tie.Need-part-answer-bodies-end-3
 part-answer-bodies-end-3 c =
-    let g = c .before .before .before .before .before .before .layout .given in
-    omega (arith, laid-inside (c .before .before .before .before .before .before .before .before .before .before .before .before .args .job .now) (g .0 .0) (g .0 .1 .0) (sym (g .1) ∙ c .before .before .before .before .before .before .before .before .contents .ensures))
+    let told = c .before .before .before .before .before .before in
+    let start = told .before .before .before .before .before .before in
+    let g = told .layout .given in
+    omega (arith, laid-inside (start .args .job .now) (g .0 .0) (g .0 .1 .0) (sym (g .1) ∙ told .before .before .contents .ensures))
 
 answer-bodies-requires : tie.Need-answer-bodies-requires
 answer-bodies-requires c κs =
-    let job = c .before .before .before .before .before .before .before .before .before .before .before .before .before .before .args .job .now in
-    let g = c .before .before .before .before .before .before .before .before .layout .given in
+    let told = c .before .before .before .before .before .before .before .before in
+    let job = told .before .before .before .before .before .before .args .job .now in
+    let g = told .layout .given in
     let t = g .0 .1 .0 in
     let l = g .0 .0 + t .first + t .second in
-    omega (arith, laid-inside job (g .0 .0) t (sym (g .1) ∙ c .before .before .before .before .before .before .before .before .before .before .contents .ensures), length-take (t .required) (drop l job))
+    let laid = laid-inside job (g .0 .0) t (sym (g .1) ∙ told .before .before .contents .ensures) in
+    omega (arith, laid, length-take (t .required) (drop l job))
 
 returns-3 : tie.Need-returns-3
 unfolding answerTo
 returns-3 c =
-    let job = c .before .before .before .before .before .before .before .before .before .before .before .before .before .before .before .before .before .args .job .now in
-    let out = c .before .before .before .before .before .before .before .before .before .before .before .before .before .before .before .before .before .args .out .now in
-    let g = c .before .before .before .before .before .before .before .before .before .before .before .layout .given in
+    let told = c .before .before .before .before .before .before .before .before .before .before .before in
+    let start = told .before .before .before .before .before .before in
+    let job = start .args .job .now in
+    let out = start .args .out .now in
+    let g = told .layout .given in
     let t = g .0 .1 .0 in
-    let l = sym (g .1) ∙ c .before .before .before .before .before .before .before .before .before .before .before .before .before .contents .ensures in
+    let l = sym (g .1) ∙ told .before .before .contents .ensures in
     let e = job-solved job (g .0 .0) t l (omega arith) in (
       c .before .before .answer-bodies .ensures .0 ∙ ap₂ (λ (n : ℕ) (x : Solution). answered n (length out) x) (list-base job (g .0 .0) t l) e,
       c .before .before .answer-bodies .ensures .1 ∙ ap (λ (x : Solution). jobOutput x out) e,

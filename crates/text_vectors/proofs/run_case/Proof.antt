@@ -15,23 +15,11 @@ read-full-requires c κs = search needs
 returns : tie.Need-returns
 returns c = search needs
 
-array-read-wide : tie.Need-array-read-wide
-array-read-wide c = search needs
+slice-aggregate-two : tie.Need-slice-aggregate-two
+slice-aggregate-two c = search needs
 
-wide-requires : tie.Need-wide-requires
-wide-requires c κs = search needs
-
-mul-size : tie.Need-mul-size
-mul-size c = search needs
-
-array-read-wide-2 : tie.Need-array-read-wide-2
-array-read-wide-2 c = search needs
-
-wide-requires-2 : tie.Need-wide-requires-2
-wide-requires-2 c κs = search needs
-
-add-size : tie.Need-add-size
-add-size c = search needs
+two-requires : tie.Need-two-requires
+two-requires c κs = search needs
 
 large-buffer-requires : tie.Need-large-buffer-requires
 large-buffer-requires c κs = search needs
@@ -68,12 +56,8 @@ run-case-spec =
     slice-aggregate-read-full
     read-full-requires
     returns
-    array-read-wide
-    wide-requires
-    mul-size
-    array-read-wide-2
-    wide-requires-2
-    add-size
+    slice-aggregate-two
+    two-requires
     large-buffer-requires
     slice-aggregate-body
     slice-relend-prefix-read-full

@@ -12,7 +12,9 @@ same-length c = search needs
 
 returns : tie.Need-returns
 returns c =
-    put-as _ _ (item-first (c .before .before .before .before .before .before .args .i) (shownBytes (c .before .before .before .before .before .before .args .x)) (c .before .before .before .before .if1 .taken)) (c .before .before .put-shown .ensures)
+    let start = c .before .before .before .before .before .before in
+    put-as _ _ (item-first (start .args .i) (shownBytes (start .args .x)) (c .before .before .before .before .if1 .taken))
+    (c .before .before .put-shown .ensures)
 
 put-byte-requires : tie.Need-put-byte-requires
 put-byte-requires c κs = search needs
@@ -25,7 +27,10 @@ same-length-2 c = search needs
 
 returns-2 : tie.Need-returns-2
 returns-2 c =
-    put-as _ _ (item-later (c .before .before .before .before .before .before .before .before .before .before .args .i) (shownBytes (c .before .before .before .before .before .before .before .before .before .before .args .x)) (c .before .before .before .before .before .before .before .before .if1 .left)) (put-then (c .before .before .before .before .before .before .put-byte .ensures) (c .before .before .put-shown2 .ensures))
+    let comma = c .before .before .before .before .before .before in
+    let start = comma .before .before .before .before in
+    put-as _ _ (item-later (start .args .i) (shownBytes (start .args .x)) (comma .before .before .if1 .left))
+    (put-then (comma .put-byte .ensures) (c .before .before .put-shown2 .ensures))
 
 pub put-item-spec : {M : Type 1} → statement M
 put-item-spec =
