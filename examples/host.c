@@ -13,17 +13,13 @@
 /* Thread data, thread-local variables and the first frames: less than two pages with glibc on x86-64. */
 #define THREAD_OWN 8192
 
-/* What always suffices for a tree's text and for the lines of a job. */
-#define TREE_ROOM 1678
-#define LINES_ROOM 4096
-
 static int failed;
 
 /* The bytes of one call; `output` is lent with `room` bytes and lies in a larger area, of which bytes that must not change are checked. */
 struct call {
     const uint8_t *first, *second, *required, *job;
     size_t options, first_length, second_length, required_length, job_length, room;
-    uint8_t output[8192];
+    uint8_t output[2 * AGREE_LINES_ROOM];
     struct agree_result result;
 };
 
@@ -142,101 +138,128 @@ static const char *caterpillar_of(char *text, const char *label)
 
 static const char *caterpillar(void)
 {
-    static char text[TREE_ROOM + 1];
+    static char text[AGREE_TREE_ROOM + 1];
     return caterpillar_of(text, "t%02d");
 }
 
 /* With labels as long as may be, in quotes: no text is longer. */
+#define LONGEST_LABEL "'Label_of leaf.Label_of leaf.La%02d'"
 static const char *longest(void)
 {
-    static char text[TREE_ROOM + 1];
-    return caterpillar_of(text, "'Label_of leaf.%02d'");
+    static char text[AGREE_TREE_ROOM + 1];
+    return caterpillar_of(text, LONGEST_LABEL);
+}
+
+/* The job of this tree twice, and of a list of all its labels: no answer is longer. */
+static const char *longest_job(void)
+{
+    static char text[3 * AGREE_TREE_ROOM], list[AGREE_TREE_ROOM];
+    size_t n = 0;
+    for (int i = 0; i < 80; i++) {
+        if (i > 0)
+            list[n++] = ',';
+        n += (size_t)sprintf(list + n, LONGEST_LABEL, i);
+    }
+    sprintf(text, "S %zu\nT %zu\nK %zu\n\n%s%s%s", strlen(longest()), strlen(longest()), n, longest(), longest(), list);
+    return text;
+}
+
+/* So many blanks. */
+static const char *blanks(size_t n)
+{
+    static char text[16386];
+    memset(text, ' ', n);
+    text[n] = 0;
+    return text;
 }
 
 int main(void)
 {
-    largest("((a,b),(c,d));", "((a,c),(b,d));", "a", TREE_ROOM);
-    largest("((((a,b),c),d),e);", "((((a,b),c),e),d);", "d,e", TREE_ROOM);
+    largest("((a,b),(c,d));", "((a,c),(b,d));", "a", AGREE_TREE_ROOM);
+    largest("((((a,b),c),d),e);", "((((a,b),c),e),d);", "d,e", AGREE_TREE_ROOM);
     largest("(a,b);", "(c,d);", "", 0);
     largest("a;", "a;", "a", 2);
     largest("(a,b);", "(b,a);", "", 6);
     largest("(a,b);", "(b,a);", "", 5);
     largest("(a,b);", "(b,a);", "", 0);
-    largest("(a b);", "a;", "", TREE_ROOM);
-    largest("a;", "(a,b)", "", TREE_ROOM);
-    largest("", "a;", "", TREE_ROOM);
-    largest("a;", "aaaaaaaaaaaaaaaaa;", "", TREE_ROOM);
-    largest("a;", "a;", "a,a", TREE_ROOM);
-    largest("(((((((((((((((((((((((((((((((((((((((((((((((((((((((((((((((((((((((((((((((((", "a;", "", TREE_ROOM);
-    largest("a;", "b;", "b", TREE_ROOM);
-    largest("a;", "b;", "a", TREE_ROOM);
-    largest("((a,b),c);", "((a,c),b);", "c,a,b", TREE_ROOM);
-    largest(caterpillar(), caterpillar(), "t79,t00", TREE_ROOM);
+    largest("(a b);", "a;", "", AGREE_TREE_ROOM);
+    largest("a;", "(a,b)", "", AGREE_TREE_ROOM);
+    largest("", "a;", "", AGREE_TREE_ROOM);
+    largest("a;", "aaaaaaaaaaaaaaaaaaaaaaaaaaaaaaaa;", "", AGREE_TREE_ROOM);
+    largest("a;", "aaaaaaaaaaaaaaaaaaaaaaaaaaaaaaaaa;", "", AGREE_TREE_ROOM);
+    largest("a;", "a;", "a,a", AGREE_TREE_ROOM);
+    largest("(((((((((((((((((((((((((((((((((((((((((((((((((((((((((((((((((((((((((((((((((", "a;", "", AGREE_TREE_ROOM);
+    largest("a;", "b;", "b", AGREE_TREE_ROOM);
+    largest("a;", "b;", "a", AGREE_TREE_ROOM);
+    largest("((a,b),c);", "((a,c),b);", "c,a,b", AGREE_TREE_ROOM);
+    largest(caterpillar(), caterpillar(), "t79,t00", AGREE_TREE_ROOM);
 
     /* labels in quotes, and bare ones with underscores for their blanks */
-    largest("((a_b,c),'d_e');", "(('a b','c'),'d_e');", "'c',a_b", TREE_ROOM);
+    largest("((a_b,c),'d_e');", "(('a b','c'),'d_e');", "'c',a_b", AGREE_TREE_ROOM);
     largest("((a_b,c),'d_e');", "(('a b','c'),'d_e');", "'c',a_b", 16);
     largest("((a_b,c),'d_e');", "(('a b','c'),'d_e');", "'c',a_b", 15);
-    largest("((a-,aZ),a_b);", "((a-,'a b'),aZ);", "", TREE_ROOM);
-    largest("('a b',(c,a_b));", "a;", "", TREE_ROOM);
-    largest("(a,'');", "a;", "", TREE_ROOM);
-    largest("a;", "(a,'a", "", TREE_ROOM);
-    largest("a;", "a;", "'aaaaaaaaaaaaaaaaa'", TREE_ROOM);
-    largest("('a b',c);", "(c,'a_b');", "'c','a b'", TREE_ROOM);
-    largest("((a_b,'c_d'),e);", "(('a b',e),'c_d');", "e,'c_d','a b'", TREE_ROOM);
-    largest(longest(), longest(), "", TREE_ROOM);
-    largest(longest(), longest(), "", TREE_ROOM - 1);
+    largest("((a-,aZ),a_b);", "((a-,'a b'),aZ);", "", AGREE_TREE_ROOM);
+    largest("('a b',(c,a_b));", "a;", "", AGREE_TREE_ROOM);
+    largest("(a,'');", "a;", "", AGREE_TREE_ROOM);
+    largest("a;", "(a,'a", "", AGREE_TREE_ROOM);
+    largest("a;", "a;", "'aaaaaaaaaaaaaaaaaaaaaaaaaaaaaaaa'", AGREE_TREE_ROOM);
+    largest("a;", "a;", "'aaaaaaaaaaaaaaaaaaaaaaaaaaaaaaaaa'", AGREE_TREE_ROOM);
+    largest("('a b',c);", "(c,'a_b');", "'c','a b'", AGREE_TREE_ROOM);
+    largest("((a_b,'c_d'),e);", "(('a b',e),'c_d');", "e,'c_d','a b'", AGREE_TREE_ROOM);
+    largest(longest(), longest(), "", AGREE_TREE_ROOM);
+    largest(longest(), longest(), "", AGREE_TREE_ROOM - 1);
 
     struct agree_result r = agree_largest(NULL, 0, NULL, 0, NULL, 0, NULL, 0);
     printf("nothing: refused %zu %c %zu\n", r.number, (int)r.letter, r.place);
 
     /* without options: as agree_largest */
-    largest_with(0, "((a,b),x);", "(b,a);", "b,a", TREE_ROOM);
-    largest_with(0, "((a,b),x);", "(b,a);", "a,x", TREE_ROOM);
-    largest_with(0, "(b,a);", "((a,b),x);", "a,x", TREE_ROOM);
+    largest_with(0, "((a,b),x);", "(b,a);", "b,a", AGREE_TREE_ROOM);
+    largest_with(0, "((a,b),x);", "(b,a);", "a,x", AGREE_TREE_ROOM);
+    largest_with(0, "(b,a);", "((a,b),x);", "a,x", AGREE_TREE_ROOM);
     /* strict, equal leaf sets */
-    largest_with(AGREE_STRICT, "((a,b),(c,d));", "((a,c),(b,d));", "b,a", TREE_ROOM);
+    largest_with(AGREE_STRICT, "((a,b),(c,d));", "((a,c),(b,d));", "b,a", AGREE_TREE_ROOM);
     largest_with(AGREE_STRICT, "((a,b),(c,d));", "((a,c),(b,d));", "b,a", 6);
     largest_with(AGREE_STRICT, "((a,b),(c,d));", "((a,c),(b,d));", "b,a", 5);
-    largest_with(AGREE_STRICT, "(a,b);", "(b,a);", "b,", TREE_ROOM);
-    largest_with(AGREE_STRICT, "((a,b),c);", "((a,c),b);", "c,a,b", TREE_ROOM);
-    largest_with(AGREE_STRICT, caterpillar(), caterpillar(), "t79,t00", TREE_ROOM);
+    largest_with(AGREE_STRICT, "(a,b);", "(b,a);", "b,", AGREE_TREE_ROOM);
+    largest_with(AGREE_STRICT, "((a,b),c);", "((a,c),b);", "c,a,b", AGREE_TREE_ROOM);
+    largest_with(AGREE_STRICT, caterpillar(), caterpillar(), "t79,t00", AGREE_TREE_ROOM);
     /* strict, a leaf that the second tree lacks, one that the first lacks, both, several; before a list that cannot be read */
-    largest_with(AGREE_STRICT, "((a,b),x);", "(b,a);", "b,a", TREE_ROOM);
-    largest_with(AGREE_STRICT, "(b,a);", "(y,(a,b));", "b,a", TREE_ROOM);
-    largest_with(AGREE_STRICT, "((a,b),x);", "((y,(b,a)),c);", "b,a", TREE_ROOM);
-    largest_with(AGREE_STRICT, "((z,y),a);", "a;", "a,z", TREE_ROOM);
+    largest_with(AGREE_STRICT, "((a,b),x);", "(b,a);", "b,a", AGREE_TREE_ROOM);
+    largest_with(AGREE_STRICT, "(b,a);", "(y,(a,b));", "b,a", AGREE_TREE_ROOM);
+    largest_with(AGREE_STRICT, "((a,b),x);", "((y,(b,a)),c);", "b,a", AGREE_TREE_ROOM);
+    largest_with(AGREE_STRICT, "((z,y),a);", "a;", "a,z", AGREE_TREE_ROOM);
     largest_with(AGREE_STRICT, "((a,x),b);", "(b,a);", "b,", 0);
     /* strict, a leaf with its partner in quotes, and one that is not the same */
-    largest_with(AGREE_STRICT, "(a_b,'c');", "(c,'a b');", "'a b'", TREE_ROOM);
-    largest_with(AGREE_STRICT, "('c',a_b);", "(c,'a_b');", "'c'", TREE_ROOM);
+    largest_with(AGREE_STRICT, "(a_b,'c');", "(c,'a b');", "'a b'", AGREE_TREE_ROOM);
+    largest_with(AGREE_STRICT, "('c',a_b);", "(c,'a_b');", "'c'", AGREE_TREE_ROOM);
     /* strict, a tree that cannot be read */
-    largest_with(AGREE_STRICT, "((a,b),x);", "(b,a)", "b,a", TREE_ROOM);
+    largest_with(AGREE_STRICT, "((a,b),x);", "(b,a)", "b,a", AGREE_TREE_ROOM);
     /* options that mean nothing, whatever the texts are */
-    largest_with(2, "((a,b),x);", "(b,a);", "b,a", TREE_ROOM);
-    largest_with(AGREE_STRICT + 2, "(a b);", "a;", "a,", TREE_ROOM);
+    largest_with(2, "((a,b),x);", "(b,a);", "b,a", AGREE_TREE_ROOM);
+    largest_with(AGREE_STRICT + 2, "(a b);", "a;", "a,", AGREE_TREE_ROOM);
     largest_with(SIZE_MAX, "(b,a);", "((a,b),x);", "a,x", 0);
-    largest_with(SIZE_MAX / 2 + 1 + AGREE_STRICT, "((a,b),x);", "(b,a);", "b,a", TREE_ROOM);
+    largest_with(SIZE_MAX / 2 + 1 + AGREE_STRICT, "((a,b),x);", "(b,a);", "b,a", AGREE_TREE_ROOM);
     r = agree_largest_with(AGREE_STRICT, NULL, 0, NULL, 0, NULL, 0, NULL, 0);
     printf("nothing, strict: refused %zu %c %zu\n", r.number, (int)r.letter, r.place);
 
-    job("S 14\nT 14\nK 1\n\n((a,b),(c,d));((a,c),(b,d));a", LINES_ROOM);
+    job("S 14\nT 14\nK 1\n\n((a,b),(c,d));((a,c),(b,d));a", AGREE_LINES_ROOM);
     job("S 14\nT 14\nK 1\n\n((a,b),(c,d));((a,c),(b,d));a", 26);
     job("S 14\nT 14\nK 1\n\n((a,b),(c,d));((a,c),(b,d));a", 27);
-    job("S 10\nT 10\nK 5\n\n((a,b),c);((a,c),b);c,a,b", LINES_ROOM);
-    job("S 2", LINES_ROOM);
-    job("S 2\nT 2\nK 1\n\na;b;a", LINES_ROOM);
-    job("strict\nS 14\nT 14\nK 1\n\n((a,b),(c,d));((a,c),(b,d));a", LINES_ROOM);
+    job("S 10\nT 10\nK 5\n\n((a,b),c);((a,c),b);c,a,b", AGREE_LINES_ROOM);
+    job("S 2", AGREE_LINES_ROOM);
+    job("S 2\nT 2\nK 1\n\na;b;a", AGREE_LINES_ROOM);
+    job("strict\nS 14\nT 14\nK 1\n\n((a,b),(c,d));((a,c),(b,d));a", AGREE_LINES_ROOM);
     job("strict\nS 14\nT 14\nK 1\n\n((a,b),(c,d));((a,c),(b,d));a", 26);
-    job("strict\nS 10\nT 10\nK 5\n\n((a,b),c);((a,c),b);c,a,b", LINES_ROOM);
-    job("strict\nS 10\nT 6\nK 2\n\n((a,b),x);(b,a);b,", LINES_ROOM);
+    job("strict\nS 10\nT 10\nK 5\n\n((a,b),c);((a,c),b);c,a,b", AGREE_LINES_ROOM);
+    job("strict\nS 10\nT 6\nK 2\n\n((a,b),x);(b,a);b,", AGREE_LINES_ROOM);
     job("strict\nS 6\nT 10\nK 3\n\n(b,a);(y,(a,b));b,a", 0);
-    job("S 6\nstrict\nT 10\nK 3\n\n(b,a);(y,(a,b));b,a", LINES_ROOM);
-    job("S 14\nT 16\nK 3\n\n(('a_b',c),d);((c,'a_b'),'d');'c'", LINES_ROOM);
-    job("S 16\nT 18\nK 13\n\n((a_b,'c_d'),e);(('a b',e),'c_d');e,'c_d','a b'", LINES_ROOM);
-    static char long_job[8194];
-    memset(long_job, ' ', 8193);
-    job(long_job, LINES_ROOM);
+    job("S 6\nstrict\nT 10\nK 3\n\n(b,a);(y,(a,b));b,a", AGREE_LINES_ROOM);
+    job("S 14\nT 16\nK 3\n\n(('a_b',c),d);((c,'a_b'),'d');'c'", AGREE_LINES_ROOM);
+    job("S 16\nT 18\nK 13\n\n((a_b,'c_d'),e);(('a b',e),'c_d');e,'c_d','a b'", AGREE_LINES_ROOM);
+    job(longest_job(), AGREE_LINES_ROOM);
+    job(longest_job(), AGREE_LINES_ROOM - 1);
+    job(blanks(16384), AGREE_LINES_ROOM);
+    job(blanks(16385), AGREE_LINES_ROOM);
     if (failed)
         puts("a byte that had to stay was changed, or a number that had to be 0 was another");
     return failed;

@@ -7,8 +7,8 @@
  * Nothing here allocates, keeps state or needs an initial call; calls from several threads do not meet.
  * A pointer may be null where its length is 0. The output must not overlap an input.
  *
- * Labels: a bare one has 1 to 16 of the bytes A to Z, a to z, 0 to 9, `_`, `.` and `-`, and its underscores read as blanks. One in quotes
- * has 1 to 16 of these bytes or blanks between them, each for itself, and no quote. So a_b and 'a b' are one label, 'a_b' is another.
+ * Labels: a bare one has 1 to 32 of the bytes A to Z, a to z, 0 to 9, `_`, `.` and `-`, and its underscores read as blanks. One in quotes
+ * has 1 to 32 of these bytes or blanks between them, each for itself, and no quote. So a_b and 'a b' are one label, 'a_b' is another.
  * Equality and order go by the bytes so read; a blank comes before `-`. In an output a label that holds an underscore stands in quotes,
  * and any other bare, with underscores for its blanks. The place of a label in quotes is that of its opening quote.
  */
@@ -23,8 +23,13 @@ extern "C" {
 #endif
 
 /* Bytes of stack that a call takes at most, whatever it is given. It is not proved: tools/stack.c holds it against the worst of many
- * inputs (measured: about 80,000 bytes for two trees and a list, 89,000 for a job). A thread needs what it takes for itself besides. */
+ * inputs (measured: about 80,000 bytes for two trees and a list, 93,000 for a job). A thread needs what it takes for itself besides. */
 #define AGREE_STACK 98304
+
+/* Bytes of output that always suffice, and that some inputs need: for a tree's text, and for the lines that answer a job. With fewer, an
+ * answer that does not fit is number 9. */
+#define AGREE_TREE_ROOM 2958
+#define AGREE_LINES_ROOM 5776
 
 /* What comes back.
  *
@@ -35,7 +40,7 @@ extern "C" {
  *
  *     1  a byte cannot stand there                  S, T, K   that byte
  *     2  the text ends too soon                     S, T, K   its length
- *     3  a label passes 16 bytes, quotes aside      S, T, K   its 17th byte
+ *     3  a label passes 32 bytes, quotes aside      S, T, K   its 33rd byte
  *     4  a tree's 80th `(`; the list's 81st label   S, T, K   that byte, or the label's first
  *     5  a label repeats in its body                S, T, K   first byte of the repeat
  *     6  the first tree lacks a required label      K         its first byte in the list
@@ -63,7 +68,7 @@ struct agree_result {
 /* The largest set of leaves common to both trees that holds every required label and on which the trees agree, the first such
  * set in label order, as the normal text of its tree in `out`.
  *
- *     uint8_t out[1678];                       no text is longer
+ *     uint8_t out[AGREE_TREE_ROOM];
  *     struct agree_result r = agree_largest(
  *         (const uint8_t *)"((a,b),(c,d));", 14,
  *         (const uint8_t *)"((a,c),(b,d));", 14,
@@ -84,11 +89,11 @@ struct agree_result agree_largest_with(size_t options, const uint8_t *first, siz
                                        size_t out_length);
 
 /* The answer to a job in the format of the program `agree`: contents, two trees and a list in one text (README.md). The three
- * lines `size`, `set` and `tree` go into `out`; `length` is their number of bytes, 4,096 are always enough. The size of the set
+ * lines `size`, `set` and `tree` go into `out`; `length` is their number of bytes, at most AGREE_LINES_ROOM. The size of the set
  * stands in the first line; `size` is 0. If the first line of the job is `strict`, it is answered as with AGREE_STRICT. Refusals are
  * those above, but for 10, and before them
  *
- *    11  the job passes 8,192 bytes                 J         0
+ *    11  the job passes 16,384 bytes                J         0
  *    10  the contents break their rules             J         0
  *
  * For number 8, first, second and third are the places of the three labels' first bytes in the job. From there a label in quotes goes to

@@ -16,7 +16,7 @@
 
 static uint8_t *stack;
 static char job[65536];
-static uint8_t out[8192];
+static uint8_t out[AGREE_LINES_ROOM];
 static size_t job_length, room;
 
 /* The three bodies of the job, strict or not, where its contents can be read. */

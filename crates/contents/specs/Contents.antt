@@ -17,9 +17,9 @@ use Rattle.contents.specs.declared.Layout.{Layout}
 use Rattle.contents.specs.declared.Layout.the-variants as layout
 use Rattle.decimals.specs.Decimal.{decimalOf, digitRun, valueFrom}
 
--- how many digits a length may have
+-- how many digits a length may have: "contents lengths may have five digits" (request C-14), of one to five
 abbrev pub digitLimit : ℕ
-digitLimit = 4
+digitLimit = 5
 
 -- what a job holds; `strict`: whether it carries that line
 pub record Bodies : Type 0 where
@@ -61,7 +61,7 @@ unfoldable pub lengthsOf : Bodies → Table
 lengthsOf b =
     record { strict = b .strict; first = length (b .first); second = length (b .second); required = length (b .list) }
 
--- "one to four digits"
+-- one to five digits
 pub record Short (t : Table) : Type 0 where
   pub one : t .first < 10 ^ digitLimit
   pub two : t .second < 10 ^ digitLimit
@@ -114,7 +114,7 @@ pub record Number : Type 0 where
   pub value : ℕ
   pub rest : List ℕ
 
--- "decimal, one to four digits, no leading zero except `0` itself"
+-- "decimal, .. no leading zero except `0` itself"
 unfoldable pub goodDigits : List ℕ → Bool
 goodDigits run = leb 1 (length run) && leb (length run) digitLimit && (eqb (length run) 1 || not (eqb (getD run 0 0) 48))
 

@@ -6,8 +6,8 @@ ghost use Rattle.decimals.specs.Decimal.{isDigit, digitRun, valueFrom};
 ghost use Rattle.contents.specs.Contents.{numberAt, digitLimit};
 ghost use Rattle.contents.specs.Steps.{numberTold, SmallNumber, lengthBound};
 
-// "one to four digits"
-const DIGIT_LIMIT: usize = 4;
+// One to five digits.
+const DIGIT_LIMIT: usize = 5;
 
 // A number that was read and the place after it, or that none stands there.
 pub enum Digits {

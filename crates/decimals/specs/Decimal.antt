@@ -1,4 +1,4 @@
--- Decimal numbers. Scope paper, "Job and printed result": "decimal, one to four digits, no leading zero except `0` itself".
+-- Decimal numbers. Scope paper, "Job and printed result": "decimal, .. no leading zero except `0` itself".
 use Prim.Native.Nat.{ℕ, zero, suc, _+_, _-_, _*_, _/_, _%_}
 use mathlib.Core.Bool.{Bool, cond, _&&_}
 use mathlib.Core.List.{List, [], _∷_, _++_}

@@ -1,5 +1,5 @@
 -- Texts put into an area one after another, and a text handed over. Assumes nothing.
-use Prim.Native.Nat.{ℕ, zero, suc, _+_, _-_, _≤_, _<_, min}
+use Prim.Native.Nat.{ℕ, zero, suc, _+_, _-_, _*_, _≤_, _<_, min}
 use mathlib.Core.Path.{_≡_, refl, sym, _∙_, ap, ap₂, subst}
 use mathlib.Core.List.{List, [], _∷_, _++_, map, append-assoc, append-nil, map-append}
 use native.Mathlib.Nat.{add-zero, zero-add}
@@ -18,6 +18,7 @@ use Rattle.job.specs.declared.LineAnswer.the-variants.{Written, TooShort
 use Rattle.job.specs.Answered.{outputShort, lineAnswer, lineOutput, labelIn}
 use Rattle.contents.proofs.RunLaws.{at-place}
 use Rattle.job.specs.Areas.{Put, item, labelsIn, untilComma}
+use Rattle.job.specs.Printed.{itemRoom}
 
 -- ---- one text after another
 
@@ -135,6 +136,13 @@ pub item-short : (i : ℕ) (x : Token) → length (item i x) ≤ length x + 1
 unfolding item
 item-short zero x = omega arith
 item-short (suc i) x = omega arith
+
+-- the comma is before a label, so the first has none
+pub item-grows : (i : ℕ) (x : Token) (at next : ℕ) → length x ≤ tokenLimit → next ≤ at + (itemRoom * i - 1)
+    → next + length (item i x) ≤ at + (itemRoom * (i + 1) - 1)
+unfolding item
+item-grows zero x at next short h = omega arith
+item-grows (suc i) x at next short h = omega arith
 
 joined-more : (x : Token) (xs : List Token) (y : Token) → joined ((x ∷ xs) ++ (y ∷ [])) ≡ joined (x ∷ xs) ++ (44 ∷ y)
 unfolding joined

@@ -4,7 +4,7 @@ use mathlib.Core.Path.{_≡_, refl, _∙_, ap}
 use mathlib.Core.List.{List, [], _∷_, _++_, map, append-assoc}
 use native.Mathlib.Omega.{arith}
 use lib.ListN.{length, take, length-append, length-take}
-use Rattle.decimals.proofs.DecimalLaws.{decimal-short}
+use Rattle.decimals.proofs.DecimalLaws.{decimal-short, from-few}
 use Rattle.job.proofs.AreaLaws.{form-short, item-short}
 use Rattle.trees.specs.declared.Reason.the-variants.{Disagree}
 use Rattle.trees.specs.declared.Body.the-variants.{K}
@@ -12,6 +12,7 @@ use Rattle.trees.specs.declared.Refusal.{Refusal}
 use Rattle.trees.specs.Refusals.{numberOf, letterOf}
 use Rattle.trees.specs.Label.{Label}
 use Rattle.trees.specs.Token.{Token, tokenOf, tokenLimit}
+use Rattle.trees.specs.Tree.{leafLimit}
 use Rattle.lists.specs.ReadList.{joined}
 use Rattle.mast.specs.Largest.{turned}
 use Rattle.job.specs.declared.Named.{Named}
@@ -61,6 +62,11 @@ record-parts X tree n e = rw e (lines-of (10 ∷ []) (bytesOf "size ") (decimalO
 -- what was put from 0 on is the front of the area
 pub put-front : {a b text : List ℕ} {n : ℕ} → Put a 0 text n b → take n b ≡ text
 put-front p = p .front
+
+-- a size is at most 80, and so has at most two digits
+pub size-short : (n : ℕ) → n ≤ leafLimit → length (decimalOf n) ≤ 2
+unfolding decimalOf
+size-short n h = from-few 2 20 n (omega arith) (omega arith)
 
 pub words-short : (q : Refusal) → length (refusedWords q) ≤ wordsRoom
 unfolding refusedWords bytesOf

@@ -1,5 +1,5 @@
 -- What a program that takes at most one byte over the limit in and writes the answer's part out has printed. Assumes nothing.
-use Prim.Native.Nat.{ℕ, _+_, _*_, _≤_, _<_}
+use Prim.Native.Nat.{ℕ, _+_, _-_, _*_, _≤_, _<_}
 use mathlib.Core.Path.{_≡_, refl, sym, _∙_, ap}
 use mathlib.Core.Bool.{true, false}
 use mathlib.Core.Logic.{_⊎_, inl, inr}
@@ -29,14 +29,13 @@ use Rattle.agreement.specs.Restrict.{restrict}
 use Rattle.agreement.specs.Places.{keptText}
 use Rattle.contents.specs.Contents.{line}
 use Rattle.decimals.specs.Decimal.{decimalOf}
-use Rattle.decimals.proofs.DecimalLaws.{decimal-short}
 use Rattle.mast.specs.Largest.{Solution, solved, clashed, turned}
 use Rattle.job.specs.Printed.{jobLimit, itemRoom, recordRoom, solveJob, refusedWords, recordLines, printedOf, printed}
 use Rattle.job.specs.Outcome.{JobOutcome, too-long, no-contents, first-fault, second-fault, list-fault, stray-first, stray-second, first-lacks, second-lacks, disagreement, largest-set}
 use Rattle.job.specs.Answered.{lineAnswer, lineOutput, writtenPart}
 use Rattle.job.proofs.AnswerLaws.{job-long}
 use Rattle.job.proofs.DemandLaws.{answer-few, answer-writable, eight-writable}
-use Rattle.job.proofs.LineLaws.{words-short}
+use Rattle.job.proofs.LineLaws.{size-short, words-short}
 use Rattle.job.proofs.OutcomeLaws.{outcome-exactly}
 use Rattle.job.proofs.RoomLaws.{kept-short}
 
@@ -72,7 +71,7 @@ written-whole text out h =
 
 -- ---- the lines of any answer are short
 
-joined-short : (X : List Token) → goodLabels X ≡ true → length (joined X) ≤ itemRoom * length X
+joined-short : (X : List Token) → goodLabels X ≡ true → length (joined X) ≤ itemRoom * length X - 1
 unfolding joined
 joined-short [] good = omega arith
 joined-short (x ∷ []) good = omega (arith, good-short x (good-head x [] good .0))
@@ -81,7 +80,7 @@ joined-short (x ∷ y ∷ ys) good =
     omega (arith, good-short x (g .0), length-append x (44 ∷ joined (y ∷ ys)), joined-short (y ∷ ys) (g .1))
 
 -- labels as they are printed
-forms-short : (X : List Label) → writableLabels X ≡ true → length (joined (map tokenOf X)) ≤ itemRoom * length X
+forms-short : (X : List Label) → writableLabels X ≡ true → length (joined (map tokenOf X)) ≤ itemRoom * length X - 1
 forms-short X can = omega (arith, joined-short (map tokenOf X) (tokens-good X can), length-map X tokenOf)
 
 line-size : (w v : List ℕ) → length (line (w ++ v)) ≡ length w + length v + 1
@@ -103,7 +102,7 @@ record-short s X text few can short =
       line-size (bytesOf "set ") (joined (map tokenOf X)),
       forms-short X can,
       line-size (bytesOf "tree ") text,
-      decimal-short (length X),
+      size-short (length X) few,
     )
 
 refusal-short : (q : Refusal) → length (printedOf (turned q)) ≤ recordRoom

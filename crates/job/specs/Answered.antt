@@ -44,7 +44,7 @@ unfolding partOf
 writtenPart out (Written n) = partOf 0 n out
 writtenPart out (TooShort q) = []
 
--- the label that the `size` bytes at a place of a text stand for, cut after 16 bytes; nothing where they run past the end
+-- the label that the `size` bytes at a place of a text stand for, cut at the limit; nothing where they run past the end
 unfoldable pub labelIn : List ℕ → ℕ → ℕ → Label
 labelIn text start size = take labelLimit (spelling (partOf start size text))
 

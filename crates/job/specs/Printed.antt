@@ -1,6 +1,6 @@
 -- What is printed for a job. Scope paper, "Job and printed result" and "Why a job is turned down". Sets and their labels are decoded; each
 -- label is printed in the one form by which it is written (request C-12: "for trees and every printed label").
-use Prim.Native.Nat.{ℕ, _+_, _*_}
+use Prim.Native.Nat.{ℕ, _+_, _-_, _*_}
 use mathlib.Core.Bool.{cond}
 use mathlib.Core.List.{List, [], _∷_, _++_, map}
 use mathlib.Core.Option.{Option, some, none}
@@ -20,9 +20,9 @@ use Rattle.decimals.specs.Decimal.{digitRoom, decimalOf}
 use Rattle.contents.specs.Contents.{Bodies, bodiesOf, line}
 use Rattle.mast.specs.Largest.{Solution, solved, clashed, turned, Task, task, solve}
 
--- "A job has at most 8,192 bytes"
+-- "the job limit becomes 16,384 bytes" (request C-14)
 abbrev pub jobLimit : ℕ
-jobLimit = 8192
+jobLimit = 16384
 
 -- a label as it is printed, and a comma
 abbrev pub itemRoom : ℕ
@@ -36,9 +36,10 @@ wordsRoom = 11 + 2 * digitRoom
 abbrev pub lineRoom : ℕ
 lineRoom = wordsRoom + 2 + 3 * itemRoom
 
--- `size `, `set ` and `tree `, three line ends, and what stands between them
+-- the longest lines of a set: `size `, `set ` and `tree `, three line ends, a size of two digits, 80 labels with commas between them, and
+-- the longest text of a tree
 abbrev pub recordRoom : ℕ
-recordRoom = 17 + digitRoom + leafLimit * itemRoom + treeRoom
+recordRoom = 17 + 2 + (leafLimit * itemRoom - 1) + treeRoom
 
 -- what is asked by these bodies
 abbrev pub taskOf : Bodies → Task

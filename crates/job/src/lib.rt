@@ -27,8 +27,8 @@ ghost use Rattle.job.specs.Answered.{lineAnswer, lineOutput, writtenPart
 
 mod lines;
 
-// "A job has at most 8,192 bytes"
-const JOB_LIMIT: usize = 8192;
+// The most bytes of a job.
+const JOB_LIMIT: usize = 16384;
 
 // A byte more than that.
 const JOB_AREA: usize = JOB_LIMIT + 1;
@@ -39,8 +39,9 @@ const ITEM_ROOM: usize = TOKEN_LIMIT + 1;
 // A refusal's line: words with two numbers, three labels with their commas, a blank and a line end.
 const LINE_ROOM: usize = 11 + 2 * DIGIT_ROOM + 2 + 3 * ITEM_ROOM;
 
-// The three lines: their words, a number, 80 labels with their commas, and the tree's text.
-const RECORD_ROOM: usize = 17 + DIGIT_ROOM + LEAF_LIMIT * ITEM_ROOM + TREE_ROOM;
+// The three lines at their longest: their words, a size of two digits, 80 labels with commas between them, and the tree's text. An
+// output of so many bytes always suffices.
+pub const RECORD_ROOM: usize = 17 + 2 + (LEAF_LIMIT * ITEM_ROOM - 1) + TREE_ROOM;
 
 // How many bytes the lines have that now stand in the output, or number 9 where it is too short for them.
 pub enum LineAnswer {

@@ -8,7 +8,7 @@ use trees::ShownLabel;
 use trees::wide;
 ghost use mathlib.Core.Path.{_≡_};
 ghost use mathlib.Core.List.{[], _∷_, map};
-ghost use Prim.Native.Nat.{_+_, _*_, _≤_};
+ghost use Prim.Native.Nat.{_+_, _-_, _*_, _≤_};
 ghost use lib.ListN.{length};
 ghost use Rattle.decimals.specs.Decimal.{decimalOf, digitRoom};
 ghost use Rattle.trees.specs.Stored.{shownBytes};
@@ -53,7 +53,7 @@ pub(crate) fn put_number(n: usize, area: &mut [u8], at: usize) -> usize
     put_bytes(trees::first_bytes(&bytes, numeral.len), area, at)
 }
 
-// The label that the `size` bytes at a place of a text stand for, as it is printed; of one that no reader accepts, 16 bytes.
+// The label that the `size` bytes at a place of a text stand for, as it is printed; of one that no reader accepts, its first bytes.
 pub(crate) fn label_in(text: &[u8], start: usize, size: usize) -> ShownLabel
     ensures { λ r. ⌜ shownBytes r ≡ tokenOf (labelIn (now (text .entry)) start size) ⌝ }
 {
@@ -95,7 +95,7 @@ pub(crate) fn put_labels(
     ensures { λ r.
         ⌜ Put (now (area .entry)) at
         (joined (map tokenOf (labelsIn (now (text .entry)) (now (start .entry)) (now (size .entry)) count))) r (now (area .exit)) ⌝ }
-    ensures { λ r. ⌜ r ≤ at + itemRoom * count ⌝ }
+    ensures { λ r. ⌜ r ≤ at + (itemRoom * count - 1) ⌝ }
 {
     let mut next = at;
     let mut i: usize = 0;

@@ -164,7 +164,7 @@ good-in x (y ∷ ys) m g = go (in-cases x y ys m) (good-head y ys g) (λ k. good
     go (inl e) h ih = rw e (h .0)
     go (inr k) h ih = ih k (h .1)
 
--- a decoded label has 1 to 16 bytes
+-- a decoded label is not empty and not too long
 leaf-short : (t : Tree) → Valid t → (u : ℕ) (x : Label) → LeafIs (decoded t) u x → (1 ≤ length x) × (length x ≤ labelLimit)
 leaf-short t v u x l =
     let below : u < nodesOf t = omega (arith, l .below, decoded-nodes t) in

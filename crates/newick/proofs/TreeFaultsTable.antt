@@ -34,10 +34,11 @@ unfolding treeSays treeRead rowOf
 says-fault body text r i f = says-read body text (refused r i) (fault-refused text r i f)
 
 pub table-rows : TableRows
-unfolding saysOf readTree treeSays kindOf isInnerByte spelling repeats isIn sameLabel bytesOf numberOf letterOf
-table-rows = record { blank = refl; no-semicolon = refl; no-bytes = refl; seventeen = refl; eighty = refl; twice = refl }
+unfolding saysOf readTree treeSays kindOf isInnerByte spelling repeats isIn sameLabel bytesOf numberOf letterOf leaves
+table-rows =
+    record { blank = refl; no-semicolon = refl; no-bytes = refl; thirty-three = refl; seventeen = refl; eighty = refl; twice = refl }
 
 pub quoted-rows : QuotedRows
 unfolding saysOf readTree treeSays kindOf isInnerByte spelling repeats isIn sameLabel bytesOf numberOf letterOf leaves
 quoted-rows =
-    record { nothing-quoted = refl; one-label = refl; other-label = refl; seventeen = refl; wrong-byte = refl; unclosed = refl }
+    record { nothing-quoted = refl; one-label = refl; other-label = refl; thirty-three = refl; wrong-byte = refl; unclosed = refl }

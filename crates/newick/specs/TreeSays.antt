@@ -28,8 +28,10 @@ pub record TableRows : Type 0 where
   pub blank : saysOf S (bytesOf "(a b);") ≡ row 1 83 2
   pub no-semicolon : saysOf S (bytesOf "(a,b)") ≡ row 2 83 5
   pub no-bytes : saysOf S (bytesOf "") ≡ row 2 83 0
-  -- seventeen `a`
-  pub seventeen : saysOf S (replicate 17 97) ≡ row 3 83 16
+  -- thirty-three `a`: "Number 3 now stands at the 33rd byte" (request C-14)
+  pub thirty-three : saysOf S (replicate 33 97) ≡ row 3 83 32
+  -- seventeen `a` and `;`, which were refused before it
+  pub seventeen : saysOf S (replicate 17 97 ++ bytesOf ";") ≡ value 1
   -- eighty `(`
   pub eighty : saysOf S (replicate 80 40) ≡ row 4 83 79
   pub twice : saysOf S (bytesOf "(a,a);") ≡ row 5 83 3
@@ -40,9 +42,9 @@ pub record QuotedRows : Type 0 where
   -- "a bare `a_b` and a quoted `'a b'` are one"
   pub one-label : saysOf S (bytesOf "('a b',a_b);") ≡ row 5 83 7
   pub other-label : saysOf S (bytesOf "('a_b',a_b);") ≡ value 2
-  -- a quote and seventeen `a`: "The limit counts bytes between the quotes"
-  pub seventeen : saysOf S (quoteByte ∷ replicate 17 97) ≡ row 3 83 17
-  -- a quote, sixteen `a` and a tab: "also where number 3 would stand"
-  pub wrong-byte : saysOf S (quoteByte ∷ (replicate 16 97 ++ (9 ∷ []))) ≡ row 1 83 17
+  -- a quote and thirty-three `a`: "The limit counts bytes between the quotes"
+  pub thirty-three : saysOf S (quoteByte ∷ replicate 33 97) ≡ row 3 83 33
+  -- a quote, thirty-two `a` and a tab: "also where number 3 would stand"
+  pub wrong-byte : saysOf S (quoteByte ∷ (replicate 32 97 ++ (9 ∷ []))) ≡ row 1 83 33
   -- "a label whose quote does not close is not compared with others"
   pub unclosed : saysOf S (bytesOf "(a,'a") ≡ row 2 83 5

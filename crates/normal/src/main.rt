@@ -1,11 +1,15 @@
 // Reads one tree text from standard input and writes its normal text and a line end, or one refusal line with letter S.
 //
-// No accepted text passes `trees::TREE_ROOM` bytes, and each refusal is decided by the bytes before its place, the label that begins
-// there and one byte more, so the first 4,096 bytes decide the answer to an input of any length.
+// No accepted text passes `trees::TREE_ROOM` bytes, no refusal has a place beyond, and each is decided by the bytes before its place, the
+// label that begins there and one byte more. So the first `INPUT_ROOM` bytes decide the answer to an input of any length.
 use newick::TreeAnswer;
 use trees::Body;
 use trees::Refusal;
+use trees::TOKEN_LIMIT;
+use trees::TREE_ROOM;
 use writer::WriteAnswer;
+
+const INPUT_ROOM: usize = TREE_ROOM + TOKEN_LIMIT + 1;
 
 fn print_refusal(refusal: Refusal) {
     let mut area = io::buffer();
@@ -23,7 +27,7 @@ fn print_line(text: &[u8]) {
         return;
     }
     let tree = read.tree;
-    let mut area = io::buffer();
+    let mut area = [0u8; TREE_ROOM];
     let out: &mut [u8] = &mut area;
     let written = writer::write_tree(tree, text, out);
     if let WriteAnswer::Written(n) = written {
@@ -33,7 +37,7 @@ fn print_line(text: &[u8]) {
 }
 
 fn main() {
-    let mut input = io::buffer();
+    let mut input = [0u8; INPUT_ROOM];
     let n = io::read_full(0, &mut input);
     print_line(&input[..n]);
 }

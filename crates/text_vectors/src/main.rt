@@ -8,6 +8,7 @@ use newick::TreeAnswer;
 use trees::Body;
 use trees::Reason;
 use trees::Refusal;
+use trees::TREE_ROOM;
 use writer::WriteAnswer;
 ghost use Prim.Native.Nat.{_+_, _≤_, _<_};
 ghost use lib.ListN.{length};
@@ -27,7 +28,7 @@ fn print_tree(text: &[u8]) {
         return;
     }
     let tree = read.tree;
-    let mut area = io::buffer();
+    let mut area = [0u8; TREE_ROOM];
     let out: &mut [u8] = &mut area;
     let written = writer::write_tree(tree, text, out);
     if let WriteAnswer::Written(n) = written {

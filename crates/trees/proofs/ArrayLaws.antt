@@ -89,7 +89,7 @@ pub leaf-good : (x : Token) → goodLabels (leaves (leaf x)) ≡ true → goodLa
 unfolding leaves
 leaf-good x h = good-head x [] h .0
 
--- a label takes at most 16 bytes and two quotes, and each inner node writes three
+-- a label takes at most its limit and two quotes, and each inner node writes three
 pub written-short : (t : Tree) → goodLabels (leaves t) ≡ true → length (written t) + 3 ≤ (tokenLimit + 3) * length (leaves t)
 unfolding written leaves
 written-short (leaf x) h =

@@ -39,7 +39,8 @@ order-transitive = less-trans
 pub order-total : (x y : Label) → (labelLess x y ≡ true) ⊎ ((x ≡ y) ⊎ (labelLess y x ≡ true))
 order-total = less-total
 
--- "It has 1 to 16 bytes": a label that is kept apart from its text is that label again
+-- "The label's capacity becomes 32 bytes wherever a label is stored" (request C-14): a label that
+-- is kept apart from its text is that label again
 pub label-stored : (x : Label) → length x ≤ labelLimit → storedBytes (storedOf x) ≡ x
 label-stored = stored-back
 
@@ -115,6 +116,6 @@ normal-text-stands-for-it t w = writable-back (normal t) (normal-writable t w)
 pub arrays-stand : (t : Tree) → Valid t → treeOf (arraysOf t) (textOf t) ≡ oneTree t
 arrays-stand = stands
 
--- 80 labels of 16 bytes between quotes, 79 times `(`, `,` and `)`, and `;`
+-- 80 labels of 32 bytes between quotes, 79 times `(`, `,` and `)`, and `;`
 pub longest-text : (t : Tree) → Valid t → length (textOf t) ≤ treeRoom
 longest-text = text-short

@@ -1,4 +1,4 @@
--- Laws of labels kept apart from their text: how the copying loops go on, and that keeping a label of at most 16 bytes, or showing it,
+-- Laws of labels kept apart from their text: how the copying loops go on, and that keeping a label that is not too long, or showing it,
 -- loses nothing. Assumes nothing.
 use Prim.Native.Nat.{ℕ, suc, _+_, _-_, _<_, _≤_, min}
 use mathlib.Core.Path.{_≡_, refl}

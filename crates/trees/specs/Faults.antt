@@ -39,7 +39,7 @@ pub data Fault (Whole : List ℕ → Type 0) (Crowd : List ℕ → ℕ → Type 
       → Fault Whole Crowd text BadByte i
   -- 2, "the text ends too soon", at its length
   ends-too-soon : Continues Whole text → (Whole text → ⊥) → Fault Whole Crowd text EndsTooSoon (length text)
-  -- 3, "a label passes 16 bytes", at its 17th byte; "The limit counts bytes between the quotes"
+  -- 3, "Number 3 now stands at the 33rd byte" (request C-14); "The limit counts bytes between the quotes"
   label-too-long : (j : ℕ) → LabelStarts Whole text j → labelLimit < length (labelFrom text j .inner)
       → Fault Whole Crowd text LabelTooLong (j + labelFrom text j .opening + labelLimit)
   -- 4

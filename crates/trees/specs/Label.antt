@@ -10,9 +10,9 @@ use Rattle.trees.specs.declared.Order.the-variants.{Less, Equal, Greater
 abbrev pub Label : Type 0
 Label = List ℕ
 
--- "It has 1 to 16 bytes"
+-- "The label's capacity becomes 32 bytes wherever a label is stored" (request C-14)
 abbrev pub labelLimit : ℕ
-labelLimit = 16
+labelLimit = 32
 
 -- "Case matters": labels are equal byte for byte
 unfoldable pub sameLabel : Label → Label → Bool

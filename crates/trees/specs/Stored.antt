@@ -1,7 +1,7 @@
 -- Labels kept apart from their text, and parts of a text.
 use Prim.Native.Nat.{ℕ, zero, suc, _+_, _-_, min}
 use mathlib.Core.Bool.{Bool, true, false, cond, _||_}
-use mathlib.Core.List.{List, [], _∷_, _++_, map}
+use mathlib.Core.List.{List, [], _++_, map}
 use lib.Dec.{leb}
 use lib.ListN.{length, getD, take, drop, replicate}
 use Rattle.trees.specs.declared.ShownLabel.{ShownLabel}
@@ -10,15 +10,15 @@ use Rattle.trees.specs.Label.{Label, labelLimit, sameLabel}
 use Rattle.trees.specs.Token.{Token, bareByte, spelling, writtenByte, quotedToken, tokenOf, tokenLimit}
 use Rattle.trees.specs.Reading.{quoteFirst}
 
--- the label that is kept: of a length past 16 the array's 16 bytes count
+-- the label that is kept: of a length past the array's all its bytes count
 unfoldable pub storedBytes : StoredLabel → Label
 storedBytes l = take (l .len) (l .bytes)
 
--- a label as it is kept: its bytes, then 0 up to 16; of a longer text the first 16 bytes
+-- a label as it is kept: its bytes, then 0 up to `labelLimit`; of a longer text the first `labelLimit` bytes
 unfoldable pub storedOf : Label → StoredLabel
 storedOf x = record { bytes = take labelLimit x ++ replicate (labelLimit - length x) 0; len = min (length x) labelLimit }
 
--- a label as it is printed: the bytes of its written form, then 0 up to 18; of a longer one the first 18 bytes
+-- a label as it is printed: the bytes of its written form, then 0 up to `tokenLimit`; of a longer one the first `tokenLimit` bytes
 unfoldable pub shownOf : Label → ShownLabel
 unfolding tokenOf
 shownOf x =

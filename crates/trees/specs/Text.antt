@@ -15,7 +15,7 @@ unfoldable pub textOf : Tree → List ℕ
 unfolding written
 textOf t = written t ++ (semicolonByte ∷ [])
 
--- the most bytes of a tree's text: 80 labels of 16 bytes between quotes, 79 times `(`, `,` and `)`, and `;`
+-- the most bytes of a tree's text: 80 labels of 32 bytes between quotes, 79 times `(`, `,` and `)`, and `;`
 abbrev pub treeRoom : ℕ
 treeRoom = leafLimit * tokenLimit + 3 * (leafLimit - 1) + 1
 

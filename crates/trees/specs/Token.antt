@@ -49,7 +49,7 @@ unfolding allOf closes
 looseLabel [] = false
 looseLabel (b ∷ rest) = cond (eqb b quoteByte) (closes false rest) (allLabelBytes (b ∷ rest))
 
--- "1 to 16"; "The limit counts bytes between the quotes"
+-- 1 to 32 bytes; "The limit counts bytes between the quotes"
 unfoldable pub goodLabel : Token → Bool
 unfolding looseLabel spelling
 goodLabel x = looseLabel x && leb (length (spelling x)) labelLimit

@@ -15,7 +15,7 @@ ghost use Rattle.trees.specs.Token.{spelling, holdsUnderscore, tokenLimi
 ghost use Rattle.trees.specs.Slots.{slotOf, isMarked, firstMarks};
 
 // The most bytes of a label.
-pub const LABEL_LIMIT: usize = 16;
+pub const LABEL_LIMIT: usize = 32;
 
 // The most bytes of a label as it is written: two quotes more.
 pub const TOKEN_LIMIT: usize = LABEL_LIMIT + 2;
@@ -685,7 +685,7 @@ pub fn is_met(
     is_among(text, start, size, count, token)
 }
 
-// The label of a token as it is kept apart from its text, 0 after its last byte; of a longer one the first 16 bytes.
+// The label of a token as it is kept apart from its text, 0 after its last byte; of a longer one its first bytes.
 pub fn stored(token: &[u8]) -> StoredLabel
     ensures { λ r. ⌜ r ≡ storedOf (spelling (now (token .entry))) ⌝ }
 {

@@ -2,10 +2,11 @@
 
 use crate::engine::{self, AgreeResult, FLAGS, STRICT};
 use oracle::bodies::{answer, joined, refused};
-use oracle::drawn::{alike_bodies, damaged_quoted, large_bodies, large_quoted, small_bodies, small_quoted};
+use oracle::drawn::{alike_bodies, damaged_quoted, large_bodies, large_quoted, long_bodies, small_bodies, small_quoted};
 use oracle::families::all_families;
 use oracle::job::{job, lines, strict};
 use oracle::jobs::damaged;
+use oracle::lengths::greatest;
 use oracle::limits::{LEAVES, LINES, TREE_TEXT};
 use oracle::random::Random;
 use oracle::{agree::Label, text::token};
@@ -95,16 +96,21 @@ fn check_all(r: &mut Random, bodies: &[Vec<u8>; 3], greatest: usize) {
         whole = damaged(r, &whole);
     }
     let room = if r.below(3) == 0 { r.below(2 * greatest) } else { LINES };
-    let wanted = lines(&whole).map(|x| (0, [x.as_bytes(), b"\n"].concat()));
-    check(&wanted, &whole, room, &format!("job {:?}", String::from_utf8_lossy(&whole)), |out| engine::job(&whole, out));
+    check_job(&whole, room);
+}
+
+fn check_job(whole: &[u8], room: usize) {
+    let wanted = lines(whole).map(|x| (0, [x.as_bytes(), b"\n"].concat()));
+    check(&wanted, whole, room, &format!("job {:?}", String::from_utf8_lossy(whole)), |out| engine::job(whole, out));
 }
 
 pub fn run(count: u64, seed: u64) {
     let mut r = Random(seed);
     for i in 0..count {
-        let (mut bodies, quotes) = match i % 4 {
+        let (mut bodies, quotes) = match i % 5 {
             0 => (small_bodies(&mut r), false),
             1 => (alike_bodies(&mut r, 9), false),
+            2 => (long_bodies(&mut r, false), true),
             _ => (small_quoted(&mut r), true),
         };
         if r.below(5) == 0 {
@@ -114,12 +120,19 @@ pub fn run(count: u64, seed: u64) {
         check_all(&mut r, &bodies, 40);
     }
     for i in 0..count / 10 {
-        let bodies = match i % 4 {
+        let bodies = match i % 5 {
             0 => large_bodies(&mut r),
             1 => alike_bodies(&mut r, LEAVES),
+            2 => long_bodies(&mut r, true),
             _ => large_quoted(&mut r),
         };
         check_all(&mut r, &bodies, 400);
+    }
+    // the longest answer, in an output that just has room for it, and in shorter ones
+    for whole in [greatest(), strict(&greatest())] {
+        for room in [LINES, LINES - 1, 4096, 0] {
+            check_job(&whole, room);
+        }
     }
     for _ in 0..count / 2000 {
         for f in all_families(&mut r).iter().flat_map(|(_, fs)| fs) {

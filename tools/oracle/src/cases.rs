@@ -2,6 +2,7 @@
 //! bytes), the length as two bytes, and the text. What must be printed for it is a line.
 
 use crate::families::{long_labels, long_quoted};
+use crate::lengths;
 use crate::limits::{LABEL, LEAVES, LIST};
 use crate::places::place_cases;
 use crate::quotes;
@@ -60,7 +61,8 @@ fn list_texts() -> Vec<Vec<u8>> {
     let all = labels(LIST + 1);
     let eighty = joined(&all[..LIST]);
     xs.push(eighty.clone());
-    for tail in [",", ",,", ";", ",t0", ",t80", ",aaaaaaaaaaaaaaaaaaaaaaa", ", "] {
+    let over = format!(",{}", "a".repeat(LABEL + 1));
+    for tail in [",", ",,", ";", ",t0", ",t80", &over, ", "] {
         xs.push([eighty.clone(), tail.as_bytes().to_vec()].concat());
     }
     xs.push(joined(&long_labels(LIST)));
@@ -107,7 +109,7 @@ pub fn cases() -> Vec<Case> {
         let l = joined(&names[..n]);
         lists.push(r.damaged(&l, BYTES));
     }
-    [both(trees, lists), quoted_cases(), place_cases()].concat()
+    [both(trees, lists), quoted_cases(), place_cases(), both(lengths::tree_texts(), lengths::list_texts())].concat()
 }
 
 fn both(trees: Vec<Vec<u8>>, lists: Vec<Vec<u8>>) -> Vec<Case> {

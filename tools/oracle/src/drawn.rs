@@ -1,9 +1,9 @@
 //! Bodies drawn at random.
 
 use crate::agree::Label;
-use crate::limits::LEAVES;
+use crate::limits::{LABEL, LEAVES};
 use crate::random::Random;
-use crate::spelling::{confusable, forms, Bodies};
+use crate::spelling::{confusable, cycled, forms, Bodies};
 use crate::trees::{caterpillar, perturbed, random_tree};
 
 pub fn labels(n: usize) -> Vec<Label> {
@@ -12,7 +12,8 @@ pub fn labels(n: usize) -> Vec<Label> {
 
 /// Names that begin alike, differ in case only, or are as long as may be, as they stand in a text.
 fn names() -> Vec<Label> {
-    ["a", "a-", "aa", "A", "_", "-", "Z9", "z", "abcdefghijklmnop", "abcdefghijklmno", "0", "b.c"].iter().map(|x| x.as_bytes().to_vec()).collect()
+    let long = cycled("abcdefghijklmnop", LABEL);
+    ["a", "a-", "aa", "A", "_", "-", "Z9", "z", &long, &long[..LABEL - 1], "0", "b.c"].iter().map(|x| x.as_bytes().to_vec()).collect()
 }
 
 /// Two small trees over some of the names, and a list.
@@ -104,8 +105,28 @@ fn alike_over(r: &mut Random, mut pool: Vec<Label>, most: usize) -> Bodies {
 /// So many labels, decoded, with blanks and underscores here and there.
 fn spaced(r: &mut Random, n: usize) -> Vec<Label> {
     let joints = [" ", "_", "-", ".", "", "  ", "_ ", "0", "Z"];
-    let ends = ["", "", "", " ", "_", "-", " bcdefghi", "_bcdefghi"];
+    // room is left for `a`, a joint and a number
+    let long = [" bcdefghi", "_bcdefghi"].map(|x| cycled(x, LABEL - 5));
+    let ends = ["", "", "", " ", "_", "-", &long[0], &long[1]];
     (0..n).map(|i| format!("a{}{i}{}", r.pick(&joints), r.pick(&ends)).into_bytes()).collect()
+}
+
+/// Labels as long as may be, decoded, that are alike but for one byte.
+pub fn one_byte_apart(n: usize) -> Vec<Label> {
+    let label = |i: usize| {
+        let mut x = vec![b'a'; LABEL];
+        x[i % LABEL] = b"b _-"[i / LABEL];
+        x
+    };
+    (0..n).map(label).collect()
+}
+
+/// Bodies over such labels, which stand bare or in quotes: small ones, and those of up to 80 leaves.
+pub fn long_bodies(r: &mut Random, large: bool) -> [Vec<u8>; 3] {
+    let pool = one_byte_apart(4 * LABEL);
+    let bodies = if large { large_over(r, pool) } else { small_over(r, pool) };
+    let forms = forms(r);
+    bodies.spelled(r, forms).texts()
 }
 
 /// Small bodies whose labels have blanks and underscores, and stand bare or in quotes.

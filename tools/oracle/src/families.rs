@@ -5,7 +5,7 @@ use crate::agree::Label;
 use crate::job::{job, strict};
 use crate::limits::{LABEL, LEAVES};
 use crate::random::Random;
-use crate::spelling::{quoted, Bodies, Form};
+use crate::spelling::{cycled, quoted, Bodies, Form};
 use crate::text::Tree;
 use crate::trees::{balanced, caterpillar, join, leaf, perturbed, random_tree};
 
@@ -31,7 +31,7 @@ pub fn long_labels(n: usize) -> Vec<Label> {
 }
 
 fn long_with(n: usize, words: &str) -> Vec<Label> {
-    let head: String = words.chars().cycle().take(LABEL - 2).collect();
+    let head = cycled(words, LABEL - 2);
     (0..n).map(|i| format!("{head}{i:02}").into_bytes()).collect()
 }
 

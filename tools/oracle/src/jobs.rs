@@ -3,6 +3,7 @@
 use crate::agree::Label;
 use crate::drawn::{labels, small_bodies};
 use crate::job::{job, printed};
+use crate::lengths::length_jobs;
 use crate::limits::{DIGITS, JOB, LEAVES, LIST};
 use crate::places::place_jobs;
 use crate::quoted_jobs::quoted_jobs;
@@ -161,6 +162,7 @@ pub fn jobs() -> Vec<Vec<u8>> {
     out.extend(strict_jobs());
     out.extend(quoted_jobs());
     out.extend(place_jobs());
+    out.extend(length_jobs());
     out
 }
 

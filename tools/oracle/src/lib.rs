@@ -8,6 +8,7 @@ pub mod families;
 pub mod fast;
 pub mod job;
 pub mod jobs;
+pub mod lengths;
 pub mod limits;
 pub mod places;
 pub mod quoted_jobs;

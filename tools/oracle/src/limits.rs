@@ -1,15 +1,15 @@
 //! The limits of the papers, and what follows from them.
 
 /// Bytes of a label, without its quotes.
-pub const LABEL: usize = 16;
+pub const LABEL: usize = 32;
 /// Leaves of a tree.
 pub const LEAVES: usize = 80;
 /// Labels of a list.
 pub const LIST: usize = 80;
 /// Bytes of a job.
-pub const JOB: usize = 8192;
+pub const JOB: usize = 16_384;
 /// Digits of a length in the contents.
-pub const DIGITS: usize = 4;
+pub const DIGITS: usize = 5;
 
 /// Bytes of a label in a text: two quotes more.
 pub const TOKEN: usize = LABEL + 2;

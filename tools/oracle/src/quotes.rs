@@ -94,7 +94,8 @@ fn brief(n: usize) -> Vec<Label> {
 pub fn full_lists() -> Vec<Vec<u8>> {
     let bare = brief(LIST).join(&b","[..]);
     let full = brief(LIST).iter().map(|x| quoted(x)).collect::<Vec<_>>().join(&b","[..]);
-    let tails = [",''", ",'0'", ",'", ",'~", ",'aaaaaaaaaaaaaaaaa'", ",'a", "", ",", ",'''", ",_", "'", ",,'a'"];
+    let over = format!(",'{}'", "a".repeat(LABEL + 1));
+    let tails = [",''", ",'0'", ",'", ",'~", &over, ",'a", "", ",", ",'''", ",_", "'", ",,'a'"];
     let mut out: Vec<Vec<u8>> = tails.iter().map(|x| [&bare[..], x.as_bytes()].concat()).collect();
     out.push(full.clone());
     out.push([&full[..], b",'"].concat());

@@ -1,6 +1,7 @@
 //! Labels in the forms in which they may stand in a text.
 
 use crate::agree::Label;
+use crate::limits::LABEL;
 use crate::random::Random;
 use crate::text::{shown, Tree};
 
@@ -11,6 +12,11 @@ pub enum Form {
     Quoted,
     /// One or the other, at random.
     Either,
+}
+
+/// So many bytes of these words, over and over.
+pub fn cycled(words: &str, n: usize) -> String {
+    words.chars().cycle().take(n).collect()
 }
 
 pub fn quoted(x: &[u8]) -> Vec<u8> {
@@ -63,8 +69,15 @@ pub fn forms(r: &mut Random) -> [Form; 3] {
 pub fn confusable() -> Vec<Label> {
     let all = [
         "a b", "a_b", "a-b", "ab", "a", "a ", "a_", "a-", "a.", "aZ", "aa", " a", "_a", " ", "_", "-", "  ", "__", " _", "_ ", "A", "Z_", "b c_d",
-        "b c d", "                ", "________________", "abcdefgh ijklmno", "abcdefgh_ijklmno", "abcdefgh-ijklmno", "abcdefgh ijklmn_",
-        "_bcdefgh ijklmn_", "               a",
+        "b c d",
     ];
-    all.iter().map(|x| x.as_bytes().to_vec()).collect()
+    // as long as may be, these bytes at the beginning, in the middle and at the end
+    let long = [["a", " ", "o"], ["a", "_", "o"], ["a", "-", "o"], ["a", " ", "_"], ["_", " ", "_"]].map(|[first, middle, last]| {
+        let half = cycled("bcdefgh", LABEL / 2 - 1);
+        let rest = cycled("ijklmn", LABEL - LABEL / 2 - 2);
+        format!("{first}{half}{middle}{rest}{last}")
+    });
+    let same = [" ".repeat(LABEL), "_".repeat(LABEL), format!("{}a", " ".repeat(LABEL - 1))];
+    let all = all.map(String::from);
+    all.iter().chain(&long).chain(&same).map(|x| x.as_bytes().to_vec()).collect()
 }

@@ -5,13 +5,14 @@ use crate::drawn::{alike_bodies, labels};
 use crate::families::{long_labels, strangers};
 use crate::job::{job, strict};
 use crate::jobs::{bytes, damaged, damaged_bodies, filled, list, small_job, P, Q, R};
-use crate::limits::{JOB, LEAVES};
+use crate::limits::{JOB, LABEL, LEAVES};
 use crate::random::Random;
 use crate::text::Tree;
 use crate::trees::{caterpillar, join, leaf, random_tree};
 
 /// Each as a job without the line, with it, and with it and the trees exchanged.
 fn small_jobs() -> Vec<Vec<u8>> {
+    let over = "a".repeat(LABEL + 1);
     let rows = [
         // equal leaf sets: the answers and refusals of the job without the line
         ("((a,b),(c,d));", "((a,c),(b,d));", "a"),
@@ -66,7 +67,7 @@ fn small_jobs() -> Vec<Vec<u8>> {
         ("(a,x);", "(a,a);", ""),
         ("(a,x);", "(a,b),", ",,"),
         ("(a,b);", "(a,b)", ""),
-        ("(a,x);", "aaaaaaaaaaaaaaaaa;", "a"),
+        ("(a,x);", &over, "a"),
         ("", "a;", ""),
         ("a;", "", ""),
         ("", "", ""),
@@ -77,8 +78,8 @@ fn small_jobs() -> Vec<Vec<u8>> {
         ("(a,b);", "(b,c);", "b,b"),
         ("(a,b);", "(b,a);", "a b"),
         ("(a,b);", "((b,a),c);", "a b"),
-        ("(a,b);", "(b,a);", "aaaaaaaaaaaaaaaaa"),
-        ("((a,b),c);", "(b,a);", "aaaaaaaaaaaaaaaaa"),
+        ("(a,b);", "(b,a);", &over),
+        ("((a,b),c);", "(b,a);", &over),
         // so do 6, 7 and 8
         ("(a,b);", "(b,c);", "a"),
         ("(a,b);", "(b,c);", "c"),

@@ -1,8 +1,9 @@
 //! What the programs are given.
 
 use oracle::families::{family_jobs, long_labels, long_quoted};
-use oracle::job::{job, printed, strict};
-use oracle::limits::{JOB, LABEL, LEAVES, LINES, LIST, TREE_TEXT};
+use oracle::job::{job, strict};
+use oracle::lengths::greatest;
+use oracle::limits::{JOB, LABEL, LEAVES, LIST, TREE_TEXT};
 use oracle::trees::caterpillar;
 use oracle::{cases, jobs};
 
@@ -36,13 +37,6 @@ fn stray() -> Vec<u8> {
 /// All of these labels in both trees, in the list and so in the answer.
 fn all_of(xs: &[Vec<u8>]) -> Vec<u8> {
     job(&caterpillar(xs).text(), &caterpillar(xs).mirrored().text(), &xs.join(&b","[..]))
-}
-
-/// As many labels of as many bytes as may be, quotes included: no answer is longer.
-fn greatest() -> Vec<u8> {
-    let made = all_of(&long_quoted(LEAVES));
-    assert_eq!(printed(&made).len(), LINES);
-    made
 }
 
 /// A job that is answered.

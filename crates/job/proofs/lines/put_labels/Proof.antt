@@ -1,7 +1,7 @@
 -- `job::lines::put_labels` meets its contract. The invariant: the labels passed are put, joined by commas. Assumes nothing.
 use borrow.Author.Needs.{needs}
 use Rattle.job.proofs.AreaLaws.{first-none}
-use Rattle.job.proofs.AreaLaws.{put-as, put-label, item-short, form-short}
+use Rattle.job.proofs.AreaLaws.{put-as, put-label, item-grows, form-short}
 use Rattle.job.specs.Areas.{Put, labelsIn, item}
 use Rattle.job.specs.Answered.{labelIn}
 use Rattle.job.specs.Printed.{itemRoom}
@@ -17,7 +17,7 @@ use Rattle.job.proofs.lines.put_labels.Tie as tie
 
 abbrev Inv-loop : tie.InvT-loop
 Inv-loop text start size count area₀ at next₀ i₀ area next i =
-    (i ≤ count) × (next ≤ at + itemRoom * i) × Put area₀ at (joined (map tokenOf (labelsIn text start size i))) next area
+    (i ≤ count) × (next ≤ at + (itemRoom * i - 1)) × Put area₀ at (joined (map tokenOf (labelsIn text start size i))) next area
 
 abbrev μ-loop : tie.MeasureT-loop
 μ-loop text start size count area₀ at next₀ i₀ area next i =
@@ -82,7 +82,7 @@ loop-again c =
     let x = tokenOf (labelIn (a .text .now) (getD (a .start .now) i 0) (getD (a .size .now) i 0)) in
     let p = put-as _ (item i x) (ap (item i) (s2 .label-in .ensures)) (s1 .put-item .ensures) in (
       omega arith,
-      omega (arith, p .ends, item-short i x, form-short (a .text .now) (getD (a .start .now) i 0) (getD (a .size .now) i 0)),
+      omega (arith, p .ends, item-grows i x (a .at) (l .next) (form-short (a .text .now) (getD (a .start .now) i 0) (getD (a .size .now) i 0)) (l .inv .1)),
       put-label (a .text .now) (a .start .now) (a .size .now) i (l .inv .2) p,
     )
 

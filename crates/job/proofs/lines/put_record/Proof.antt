@@ -1,7 +1,6 @@
 -- `job::lines::put_record` meets its contract: the parts of the three lines, one after another. Assumes nothing.
 use Rattle.job.proofs.AreaLaws.{put-then, put-as, length-labels}
-use Rattle.decimals.proofs.DecimalLaws.{decimal-short}
-use Rattle.job.proofs.LineLaws.{record-parts}
+use Rattle.job.proofs.LineLaws.{record-parts, size-short}
 use mathlib.Core.Path.{sym}
 use native.Mathlib.Omega.{arith}
 use Rattle.trees.specs.Words.{bytesOf}
@@ -26,7 +25,7 @@ put-bytes-requires-2 c κs =
     let s1 = c .before .before .before .before in
     let s2 = s1 .before .before .before .before in
     let s3 = s2 .before .before .before .before .before .before in
-    omega (arith, s2 .put-bytes .ensures, s1 .put-number .ensures, decimal-short (s3 .args .count), s3 .pre)
+    omega (arith, s2 .put-bytes .ensures, s1 .put-number .ensures, size-short (s3 .args .count) (s3 .pre .0), s3 .pre)
 
 put-labels-requires : tie.Need-put-labels-requires
 put-labels-requires c κs =
@@ -34,8 +33,17 @@ put-labels-requires c κs =
     let s2 = s1 .before .before .before in
     let s3 = s2 .before .before in
     let s4 = s3 .before .before .before .before in
-    let s5 = s4 .before .before .before .before .before .before in
-    (omega (arith, s2), omega (arith, s4 .put-bytes .ensures, s3 .put-number .ensures, s1 .put-bytes2 .ensures, decimal-short (s5 .args .count), s5 .pre))
+    let s5 = s4 .before .before .before .before .before .before in (
+      omega (arith, s2),
+      omega (
+        arith,
+        s4 .put-bytes .ensures,
+        s3 .put-number .ensures,
+        s1 .put-bytes2 .ensures,
+        size-short (s5 .args .count) (s5 .pre .0),
+        s5 .pre,
+      ),
+    )
 
 slice-aggregate-put-bytes-3 : tie.Need-slice-aggregate-put-bytes-3
 slice-aggregate-put-bytes-3 c = search needs
@@ -47,7 +55,16 @@ put-bytes-requires-3 c κs =
     let s3 = s2 .before .before .before .before .before in
     let s4 = s3 .before .before .before .before in
     let s5 = s4 .before .before .before .before .before .before in
-    omega (arith, s4 .put-bytes .ensures, s3 .put-number .ensures, s2 .put-bytes2 .ensures, s1 .put-labels .ensures .0 .whole, s1 .put-labels .ensures .1, decimal-short (s5 .args .count), s5 .pre)
+    omega (
+      arith,
+      s4 .put-bytes .ensures,
+      s3 .put-number .ensures,
+      s2 .put-bytes2 .ensures,
+      s1 .put-labels .ensures .0 .whole,
+      s1 .put-labels .ensures .1,
+      size-short (s5 .args .count) (s5 .pre .0),
+      s5 .pre,
+    )
 
 put-bytes-requires-4 : tie.Need-put-bytes-requires-4
 put-bytes-requires-4 c κs =
@@ -65,7 +82,7 @@ put-bytes-requires-4 c κs =
       s2 .put-labels .ensures .0 .whole,
       s2 .put-labels .ensures .1,
       s1 .put-bytes3 .ensures,
-      decimal-short (s6 .args .count),
+      size-short (s6 .args .count) (s6 .pre .0),
       s6 .pre,
     )
 
@@ -87,7 +104,7 @@ put-byte-requires c κs =
       s3 .put-labels .ensures .1,
       s2 .put-bytes3 .ensures,
       s1 .put-bytes4 .ensures,
-      decimal-short (s7 .args .count),
+      size-short (s7 .args .count) (s7 .pre .0),
       s7 .pre,
     )
 
