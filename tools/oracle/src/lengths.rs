@@ -8,9 +8,9 @@ use crate::job::{job, printed, strict};
 use crate::jobs::{bytes, filled, list};
 use crate::limits::{JOB, LABEL, LEAVES, LINES, LIST};
 use crate::random::Random;
-use crate::spelling::quoted;
+use crate::spelling::{cycled, quoted};
 use crate::text::shown;
-use crate::trees::caterpillar;
+use crate::trees::{caterpillar, join, leaf};
 
 const FORMER_LABEL: usize = 16;
 const FORMER_JOB: usize = 8192;
@@ -24,8 +24,8 @@ fn sizes() -> Vec<usize> {
 fn tokens() -> Vec<Vec<u8>> {
     let mut out = Vec::new();
     for n in sizes() {
-        out.extend(["a", "_", "Z9.-"].map(|x| x.bytes().cycle().take(n).collect::<Vec<u8>>()));
-        out.extend(["a", " ", "_", "b _"].map(|x| quoted(&x.bytes().cycle().take(n).collect::<Vec<u8>>())));
+        out.extend(["a", "_", "Z9.-"].map(|x| cycled(x, n).into_bytes()));
+        out.extend(["a", " ", "_", "b _"].map(|x| quoted(cycled(x, n).as_bytes())));
     }
     out
 }
@@ -45,16 +45,21 @@ fn threes() -> Vec<[Label; 3]> {
     one_byte_apart(4 * LABEL).into_iter().map(|x| [x, vec![b'a'; LABEL], vec![b'.'; LABEL]]).collect()
 }
 
+/// A tree of one leaf, and one whose first two leaves are closer.
+fn one(x: &[u8]) -> Vec<u8> {
+    leaf(x).text()
+}
+
+fn closer(x: &[u8], y: &[u8], z: &[u8]) -> Vec<u8> {
+    join(join(leaf(x), leaf(y)), leaf(z)).text()
+}
+
 pub fn tree_texts() -> Vec<Vec<u8>> {
-    let mut out = Vec::new();
-    for x in tokens() {
-        out.extend([[&x[..], b";"].concat(), [b"((b,", &x[..], b"),a);"].concat()]);
-    }
-    out.extend(pairs().iter().map(|[x, y]| [b"(", &x[..], b",", y, b");"].concat()));
+    let mut out: Vec<Vec<u8>> = tokens().iter().flat_map(|x| [one(x), closer(b"b", x, b"a")]).collect();
+    out.extend(pairs().iter().map(|[x, y]| join(leaf(x), leaf(y)).text()));
     for xs in threes() {
         let [x, y, z] = xs.each_ref().map(|x| shown(x));
-        out.push([b"((", &x[..], b",", &y, b"),", &z, b");"].concat());
-        out.push([b"((", &quoted(&xs[1])[..], b",", &z, b"),", &x, b");"].concat());
+        out.extend([closer(&x, &y, &z), closer(&quoted(&xs[1]), &z, &x)]);
     }
     out
 }
@@ -70,17 +75,17 @@ pub fn list_texts() -> Vec<Vec<u8>> {
 fn label_jobs() -> Vec<Vec<u8>> {
     let mut out = Vec::new();
     for x in tokens() {
-        let tree = [&x[..], b";"].concat();
+        let tree = one(&x);
         out.extend([job(&tree, b"a;", b""), job(b"a;", &tree, b""), job(b"a;", b"a;", &x), job(&tree, &tree, &x)]);
         out.push(strict(&job(&tree, b"(a,b);", b",")));
     }
     for xs in threes() {
         let [x, y, z] = xs.each_ref().map(|x| shown(x));
-        let s = [b"((", &x[..], b",", &y, b"),", &z, b");"].concat();
-        let t = [b"((", &quoted(&xs[0])[..], b",", &z, b"),", &quoted(&xs[1]), b");"].concat();
+        let s = closer(&x, &y, &z);
+        let t = closer(&quoted(&xs[0]), &z, &quoted(&xs[1]));
         // a tie, one label required, 8 with its three labels, and 12 for labels that differ in that byte only
-        out.extend([job(&s, &t, b""), job(&s, &t, &quoted(&xs[1])), job(&t, &s, &[&y[..], b",", &z, b",", &x].concat())]);
-        out.push(strict(&job(&[&x[..], b";"].concat(), &[&y[..], b";"].concat(), b"")));
+        out.extend([job(&s, &t, b""), job(&s, &t, &quoted(&xs[1])), job(&t, &s, &list(&[y.clone(), z, x.clone()]))]);
+        out.push(strict(&job(&one(&x), &one(&y), b"")));
     }
     out
 }
@@ -98,10 +103,8 @@ fn digit_jobs() -> Vec<Vec<u8>> {
     }
     // a zero in front, a digit too many, a sum that is not right
     for digits in ["00002", "000002", "0000000002", "10002", "99999", "100000", "100002", "999999", "0x002", "2e000", "16360"] {
-        out.extend(["S # T 2 K 1", "S 2 T # K 1", "S 2 T 2 K #"].map(|x| {
-            let head = x.replace('#', digits).replace(" T", "\nT").replace(" K", "\nK");
-            bytes(&format!("{head}\n\na;a;a"))
-        }));
+        let heads = ["S #\nT 2\nK 1\n\n", "S 2\nT #\nK 1\n\n", "S 2\nT 2\nK #\n\n"];
+        out.extend(heads.map(|x| bytes(&format!("{}a;a;a", x.replace('#', digits)))));
     }
     out
 }
