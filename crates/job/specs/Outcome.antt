@@ -32,7 +32,7 @@ pub record Follows (job : List ℕ) (b : Bodies) : Type 0 where
   pub text : job ≡ jobOf b
   pub short : Short (lengthsOf b)
 
--- and it "has at most 8,192 bytes"
+-- and "the job limit becomes 16,384 bytes" (request C-14)
 pub record Holds (job : List ℕ) (b : Bodies) : Type 0 where
   pub size : length job ≤ jobLimit
   pub contents : Follows job b
@@ -64,7 +64,7 @@ refusal r b i = turned (record { reason = r; body = b; place = i })
 -- "Order: .. 11, 10, S, T, K, then 6 or 7, then 8", with 12 "after both trees are read and before K"; "A job that no row turns away is
 -- answered with its set."
 pub data JobOutcome (job : List ℕ) : Solution → Type 0 where
-  -- 11, "the job passes 8,192 bytes"
+  -- 11, "number 11 begins at 16,385 bytes" (request C-14)
   too-long : jobLimit < length job → JobOutcome job (refusal JobTooLong J 0)
   -- 10, "the contents break their rules"
   no-contents : length job ≤ jobLimit → ((b : Bodies) → Follows job b → ⊥) → JobOutcome job (refusal Contents J 0)

@@ -165,7 +165,7 @@ fn close(
     following
 }
 
-// A byte inside a label without quotes or just after it. A label's 17th byte is refused before the label is compared.
+// A byte inside a label without quotes or just after it. The byte past a label's limit is refused before the label is compared.
 fn bare(
     text: &[u8],
     kind: Kind,

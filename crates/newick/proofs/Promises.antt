@@ -25,8 +25,8 @@ use Rattle.newick.proofs.TreeFaults.{refusal, fault-refused, accepted-c
 use Rattle.newick.proofs.TreeFaultsTable.{says-leaves, says-fault, table-rows, quoted-rows}
 
 -- "A tree is a node followed by `;`, and nothing after it, not even a line end." A label has 1 to 32 bytes (request C-14). "Labels of
--- one tree are all different. A tree has 1 to 80 leaves": what is accepted is the text of a valid tree, and that tree is read. Its labels are tokens, bare
--- or quoted; they are all different as decoded.
+-- one tree are all different. A tree has 1 to 80 leaves": what is accepted is the text of a valid tree, and that tree is read. Its labels
+-- are tokens, bare or quoted; they are all different as decoded.
 pub accepted-text : (text : List ℕ) (t : Tree) → readTree text ≡ good t → (text ≡ textOf t) × Valid t
 accepted-text = accepts
 

@@ -364,7 +364,7 @@ module _ (Whole : List ℕ → Type 0) (text : List ℕ) where
 
   -- ---- which faults do not stand at a place
 
-  -- no label has its 17th byte here
+  -- no label passes its limit here
   abbrev pub NotLong : ℕ → Type 0
   NotLong i =
       (j : ℕ) → LabelStarts Whole text j → labelLimit < length (labelFrom text j .inner) → j + labelFrom text j .opening + labelLimit ≡ i → ⊥
@@ -413,7 +413,7 @@ module _ (Whole : List ℕ → Type 0) (Crowd : List ℕ → ℕ → Type 0) (te
       let o = m .origin (labelFrom text i .label) (g .2) in
       repeated i (o .0) (o .1) s (o .2) (g .0) (g .1) (o .3)
 
-  -- the 17th byte of a label
+  -- the byte by which a label passes its limit
   pub long-fault : (seen : List Label) (q : Bool) (x : List ℕ) (i b : ℕ) (rest : List ℕ) → drop i text ≡ b ∷ rest → innerOf q b ≡ true
       → length x ≡ labelLimit → Inside Whole text seen q x i → Fault Whole Crowd text LabelTooLong i
   long-fault seen q x i b rest e h l m =
@@ -571,7 +571,7 @@ module _ {Whole : List ℕ → Type 0} {Crowd : List ℕ → ℕ → Type 0} {te
       (at-least Whole Crowd text 1 i (λ h. absurd (omega arith)) (λ h. absurd (omega arith)) (λ h. absurd (omega arith))
       (λ h. absurd (omega arith)) (λ h. absurd (omega arith)))
 
-  -- row 4 at a byte that is no 17th byte of a label
+  -- row 4 at a byte by which no label passes its limit
   pub crowd-here : Continues Whole (p ++ (b ∷ [])) → NotLong Whole text i → Crowd text i → FirstFault Whole Crowd text TooMany i
   unfolding numberOf
   crowd-here c n d =
