@@ -150,8 +150,8 @@ static const char *longest(void)
     return caterpillar_of(text, LONGEST_LABEL);
 }
 
-/* The job of this tree twice, and of a list of all its labels: no answer is longer. */
-static const char *longest_job(void)
+/* The job of this tree twice, and of a list of all its labels, with lines before their lengths: no answer is longer. */
+static const char *longest_job(const char *lines)
 {
     static char text[3 * AGREE_TREE_ROOM], list[AGREE_TREE_ROOM];
     size_t n = 0;
@@ -160,7 +160,7 @@ static const char *longest_job(void)
             list[n++] = ',';
         n += (size_t)sprintf(list + n, LONGEST_LABEL, i);
     }
-    sprintf(text, "S %zu\nT %zu\nK %zu\n\n%s%s%s", strlen(longest()), strlen(longest()), n, longest(), longest(), list);
+    sprintf(text, "%sS %zu\nT %zu\nK %zu\n\n%s%s%s", lines, strlen(longest()), strlen(longest()), n, longest(), longest(), list);
     return text;
 }
 
@@ -171,6 +171,46 @@ static const char *blanks(size_t n)
     memset(text, ' ', n);
     text[n] = 0;
     return text;
+}
+
+/* The second edition reads capital letters as small ones; labels come back as the first tree spells them. */
+static void editions(void)
+{
+    largest_with(AGREE_EDITION_2, "((Ab,c),D);", "((aB,C),d);", "AB,d", AGREE_TREE_ROOM);
+    largest_with(AGREE_EDITION_2, "((aB,C),d);", "((Ab,c),D);", "AB,d", 11);
+    largest_with(AGREE_EDITION_2, "((aB,C),d);", "((Ab,c),D);", "AB,d", 10);
+    largest_with(0, "((Ab,c),D);", "((aB,C),d);", "AB,d", AGREE_TREE_ROOM);
+    /* a repeat in each body */
+    largest_with(0, "(A,a);", "(a,b);", "", AGREE_TREE_ROOM);
+    largest_with(AGREE_EDITION_2, "(A,a);", "(a,b);", "", AGREE_TREE_ROOM);
+    largest_with(AGREE_EDITION_2, "(a,b);", "((a,b),A);", "", AGREE_TREE_ROOM);
+    largest_with(AGREE_EDITION_2, "(a,b);", "(b,a);", "z,Z", AGREE_TREE_ROOM);
+    /* order and ties; an underscore comes after the capitals, or before every letter */
+    largest_with(0, "((b,C),D);", "((b,D),C);", "", AGREE_TREE_ROOM);
+    largest_with(AGREE_EDITION_2, "((b,C),D);", "((b,D),C);", "", AGREE_TREE_ROOM);
+    largest_with(0, "(('_',B),C);", "(('_',C),B);", "", AGREE_TREE_ROOM);
+    largest_with(AGREE_EDITION_2, "(('_',B),C);", "(('_',C),B);", "", AGREE_TREE_ROOM);
+    /* a required label that a tree lacks; three that clash, with their places in the list */
+    largest_with(AGREE_EDITION_2, "(a,b);", "(b,c);", "B,C", AGREE_TREE_ROOM);
+    largest_with(AGREE_EDITION_2, "(a,b);", "(b,c);", "B,A", AGREE_TREE_ROOM);
+    largest_with(AGREE_EDITION_2, "((A,b),C);", "((a,c),B);", "c,B,a", AGREE_TREE_ROOM);
+    /* strict: partners in other letters and quotes, and a label that is another one */
+    largest_with(AGREE_STRICT, "('a b',c);", "(C,A_B);", "C", AGREE_TREE_ROOM);
+    largest_with(AGREE_STRICT + AGREE_EDITION_2, "('a b',c);", "(C,A_B);", "C", AGREE_TREE_ROOM);
+    largest_with(AGREE_STRICT + AGREE_EDITION_2, "('a b',c);", "(C,'A_B');", "C", AGREE_TREE_ROOM);
+    largest_with(AGREE_STRICT + AGREE_EDITION_2, caterpillar(), caterpillar(), "T79,T00", AGREE_TREE_ROOM);
+}
+
+static void edition_jobs(void)
+{
+    job("E 2\nS 11\nT 11\nK 4\n\n((Ab,c),D);((aB,C),d);AB,d", AGREE_LINES_ROOM);
+    job("E 1\nS 11\nT 11\nK 4\n\n((Ab,c),D);((aB,C),d);AB,d", AGREE_LINES_ROOM);
+    job("E 2\nS 10\nT 10\nK 5\n\n((A,b),C);((a,c),B);c,B,a", AGREE_LINES_ROOM);
+    job("strict\nE 2\nS 10\nT 8\nK 1\n\n('a b',c);(C,A_B);C", AGREE_LINES_ROOM);
+    job("E 2\nstrict\nS 10\nT 8\nK 1\n\n('a b',c);(C,A_B);C", AGREE_LINES_ROOM);
+    job("E 3\nS 10\nT 8\nK 1\n\n('a b',c);(C,A_B);C", AGREE_LINES_ROOM);
+    job(longest_job("strict\nE 2\n"), AGREE_LINES_ROOM);
+    job(longest_job("strict\nE 2\n"), AGREE_LINES_ROOM - 1);
 }
 
 int main(void)
@@ -234,13 +274,17 @@ int main(void)
     largest_with(AGREE_STRICT, "('c',a_b);", "(c,'a_b');", "'c'", AGREE_TREE_ROOM);
     /* strict, a tree that cannot be read */
     largest_with(AGREE_STRICT, "((a,b),x);", "(b,a)", "b,a", AGREE_TREE_ROOM);
+    editions();
     /* options that mean nothing, whatever the texts are */
-    largest_with(2, "((a,b),x);", "(b,a);", "b,a", AGREE_TREE_ROOM);
-    largest_with(AGREE_STRICT + 2, "(a b);", "a;", "a,", AGREE_TREE_ROOM);
+    largest_with(4, "((a,b),x);", "(b,a);", "b,a", AGREE_TREE_ROOM);
+    largest_with(AGREE_STRICT + 4, "(a b);", "a;", "a,", AGREE_TREE_ROOM);
+    largest_with(AGREE_EDITION_2 + 4, "(A,a);", "a;", "A", AGREE_TREE_ROOM);
     largest_with(SIZE_MAX, "(b,a);", "((a,b),x);", "a,x", 0);
     largest_with(SIZE_MAX / 2 + 1 + AGREE_STRICT, "((a,b),x);", "(b,a);", "b,a", AGREE_TREE_ROOM);
     r = agree_largest_with(AGREE_STRICT, NULL, 0, NULL, 0, NULL, 0, NULL, 0);
     printf("nothing, strict: refused %zu %c %zu\n", r.number, (int)r.letter, r.place);
+    r = agree_largest_with(AGREE_EDITION_2, NULL, 0, NULL, 0, NULL, 0, NULL, 0);
+    printf("nothing, edition 2: refused %zu %c %zu\n", r.number, (int)r.letter, r.place);
 
     job("S 14\nT 14\nK 1\n\n((a,b),(c,d));((a,c),(b,d));a", AGREE_LINES_ROOM);
     job("S 14\nT 14\nK 1\n\n((a,b),(c,d));((a,c),(b,d));a", 26);
@@ -256,8 +300,9 @@ int main(void)
     job("S 6\nstrict\nT 10\nK 3\n\n(b,a);(y,(a,b));b,a", AGREE_LINES_ROOM);
     job("S 14\nT 16\nK 3\n\n(('a_b',c),d);((c,'a_b'),'d');'c'", AGREE_LINES_ROOM);
     job("S 16\nT 18\nK 13\n\n((a_b,'c_d'),e);(('a b',e),'c_d');e,'c_d','a b'", AGREE_LINES_ROOM);
-    job(longest_job(), AGREE_LINES_ROOM);
-    job(longest_job(), AGREE_LINES_ROOM - 1);
+    job(longest_job(""), AGREE_LINES_ROOM);
+    job(longest_job(""), AGREE_LINES_ROOM - 1);
+    edition_jobs();
     job(blanks(16384), AGREE_LINES_ROOM);
     job(blanks(16385), AGREE_LINES_ROOM);
     if (failed)

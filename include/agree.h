@@ -11,6 +11,10 @@
  * has 1 to 32 of these bytes or blanks between them, each for itself, and no quote. So a_b and 'a b' are one label, 'a_b' is another.
  * Equality and order go by the bytes so read; a blank comes before `-`. In an output a label that holds an underscore stands in quotes,
  * and any other bare, with underscores for its blanks. The place of a label in quotes is that of its opening quote.
+ *
+ * Editions of the naming code: the first holds unless the second is asked for. Under the first, capital and small letters differ. Under
+ * the second, equality and order of labels, read as above, take A to Z for a to z, so that `(A,a);` repeats a label. The trees and the list
+ * may then spell a label in other letters; an output has it as the first tree spells it.
  */
 #ifndef AGREE_H
 #define AGREE_H
@@ -23,7 +27,7 @@ extern "C" {
 #endif
 
 /* Bytes of stack that a call takes at most, whatever it is given. It is not proved: tools/stack.c holds it against the worst of many
- * inputs (measured: about 80,000 bytes for two trees and a list, 93,000 for a job). A thread needs what it takes for itself besides. */
+ * inputs (measured: about 82,000 bytes for two trees and a list, 95,000 for a job). A thread needs what it takes for itself besides. */
 #define AGREE_STACK 98304
 
 /* Bytes of output that always suffice, and that some inputs need: for a tree's text, and for the lines that answer a job. With fewer, an
@@ -81,8 +85,14 @@ struct agree_result agree_largest(const uint8_t *first, size_t first_length, con
 /* A flag of `options`: both trees must hold the same leaves, and a leaf that stands in only one of them is number 12. */
 #define AGREE_STRICT 1
 
+/* A flag of `options`: labels are read by the second edition of the naming code. */
+#define AGREE_EDITION_2 2
+
 /* The same with options, a sum of flags. With 0, and with AGREE_STRICT where the leaf sets are equal, it answers as agree_largest does. A
  * number with any other bit is refused with 10 before anything is read.
+ *
+ * With AGREE_EDITION_2 every label in `out` is spelled as in the first tree. The places of number 8 are in the list all the same, which may
+ * spell the three labels otherwise than the first tree does. agree_largest goes by the first edition.
  */
 struct agree_result agree_largest_with(size_t options, const uint8_t *first, size_t first_length, const uint8_t *second,
                                        size_t second_length, const uint8_t *required, size_t required_length, uint8_t *out,
@@ -90,14 +100,16 @@ struct agree_result agree_largest_with(size_t options, const uint8_t *first, siz
 
 /* The answer to a job in the format of the program `agree`: contents, two trees and a list in one text (README.md). The three
  * lines `size`, `set` and `tree` go into `out`; `length` is their number of bytes, at most AGREE_LINES_ROOM. The size of the set
- * stands in the first line; `size` is 0. If the first line of the job is `strict`, it is answered as with AGREE_STRICT. Refusals are
- * those above, but for 10, and before them
+ * stands in the first line; `size` is 0. If the first line of the job is `strict`, it is answered as with AGREE_STRICT; with a line `E 2`,
+ * the first or just after `strict`, as with AGREE_EDITION_2. A line `E 1` there means the same as none. Refusals are those above, but for
+ * 10, and before them
  *
  *    11  the job passes 16,384 bytes                J         0
  *    10  the contents break their rules             J         0
  *
  * For number 8, first, second and third are the places of the three labels' first bytes in the job. From there a label in quotes goes to
- * the next quote, a bare one to a comma or the end. Number 9 stands for an output that is shorter than the lines.
+ * the next quote, a bare one to a comma or the end. The program `agree` prints the three as the first tree spells them. Number 9 stands
+ * for an output that is shorter than the lines.
  */
 struct agree_result agree_job(const uint8_t *job, size_t job_length, uint8_t *out, size_t out_length);
 

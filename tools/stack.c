@@ -17,18 +17,24 @@
 static uint8_t *stack;
 static char job[65536];
 static uint8_t out[AGREE_LINES_ROOM];
-static size_t job_length, room;
+static size_t job_length, room, options;
 
-/* The three bodies of the job, strict or not, where its contents can be read. */
+/* What follows a line, if the text begins with it. */
+static const char *after(const char *line, const char *text)
+{
+    size_t length = strlen(line);
+    return text + (strncmp(text, line, length) == 0 ? length : 0);
+}
+
+/* The three bodies of the job, where its contents can be read; what is asked beside them is left aside. */
 static const char *body[3];
 static size_t body_length[3];
 
 static int split(void)
 {
-    static const char line[] = "strict\n";
     int head = 0;
     job[job_length] = 0;
-    const char *lengths = job + (strncmp(job, line, sizeof line - 1) == 0 ? sizeof line - 1 : 0);
+    const char *lengths = after("E 1\n", after("E 2\n", after("strict\n", job)));
     if (sscanf(lengths, "S %zu\nT %zu\nK %zu%n", &body_length[0], &body_length[1], &body_length[2], &head) != 3)
         return 0;
     body[0] = lengths + head + 2;
@@ -52,9 +58,9 @@ static void *run_largest(void *unused)
     return unused;
 }
 
-static void *run_strict(void *unused)
+static void *run_with(void *unused)
 {
-    agree_largest_with(AGREE_STRICT, (const uint8_t *)body[0], body_length[0], (const uint8_t *)body[1], body_length[1],
+    agree_largest_with(options, (const uint8_t *)body[0], body_length[0], (const uint8_t *)body[1], body_length[1],
                        (const uint8_t *)body[2], body_length[2], out, room);
     return unused;
 }
@@ -79,12 +85,13 @@ static size_t used(void *(*work)(void *))
 struct worst {
     const char *entry;
     void *(*work)(void *);
-    size_t bytes, at;
+    size_t options, bytes, at;
 };
 
 /* One call with an output that suffices and one with none. */
 static void measure(struct worst *worst, size_t at)
 {
+    options = worst->options;
     for (room = 0; room <= sizeof out; room += sizeof out) {
         size_t bytes = used(worst->work);
         if (bytes > worst->bytes) {
@@ -96,8 +103,11 @@ static void measure(struct worst *worst, size_t at)
 
 int main(void)
 {
-    struct worst entries[] = {
-        {"agree_job", run_job, 0, 0}, {"agree_largest", run_largest, 0, 0}, {"agree_largest_with", run_strict, 0, 0}};
+    struct worst entries[] = {{"agree_job", run_job, 0, 0, 0},
+                              {"agree_largest", run_largest, 0, 0, 0},
+                              {"agree_largest_with, strict", run_with, AGREE_STRICT, 0, 0},
+                              {"agree_largest_with, edition 2", run_with, AGREE_EDITION_2, 0, 0},
+                              {"agree_largest_with, strict, edition 2", run_with, AGREE_STRICT + AGREE_EDITION_2, 0, 0}};
     const size_t all = sizeof entries / sizeof entries[0];
     uint8_t length[2];
     size_t count = 0, failed = 0;

@@ -6,6 +6,7 @@ pub mod CloserOnce
 pub mod DemandLaws
 pub mod Divide
 pub mod PowerLaws
+pub mod EditionText
 pub mod HoldsLaws
 pub mod KeepLaws
 pub mod PairInduction

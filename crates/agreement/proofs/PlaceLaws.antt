@@ -1,19 +1,20 @@
 -- The labels of a tree and of a list stand in the text where their places say. Assumes nothing.
 use Prim.Native.Nat.{ℕ, zero, suc, _+_, _≤_, _<_}
 use mathlib.Core.Path.{_≡_, refl, sym, _∙_, ap, subst}
-use mathlib.Core.Bool.{true, false}
+use mathlib.Core.Bool.{Bool, true, false, cond}
 use mathlib.Core.Logic.{_⊎_, inl, inr, ⊎-elim}
 use mathlib.Core.List.{List, [], _∷_, _++_, map, append-assoc, append-nil}
 use native.Mathlib.Nat.{not-suc-le-zero, le-of-suc-le-suc}
 use native.Mathlib.Omega.{arith}
 use lib.ListN.{length, getD, length-append}
 use Rattle.trees.specs.Label.{Label, sameLabel, isIn}
-use Rattle.trees.specs.Token.{Token, spelling}
-use Rattle.trees.specs.Tree.{Tree, leaf, node, decoded}
+use Rattle.trees.specs.Token.{Token, spelling, goodLabel, goodLabels}
+use Rattle.trees.specs.Tree.{Tree, leaf, node, leaves, decoded}
 use Rattle.trees.specs.Text.{written, textOf}
 use Rattle.trees.specs.Words.{Within}
 use Rattle.trees.proofs.Bools.{bool-cases, clash}
 use Rattle.trees.proofs.LabelLaws.{same-eq}
+use Rattle.trees.proofs.ListLaws.{good-head, good-split}
 use Rattle.trees.proofs.DecodedLaws.{decoded-leaf, decoded-node}
 use Rattle.lists.specs.ReadList.{joined, startsOf}
 use Rattle.agreement.specs.Closer.{holds}
@@ -73,6 +74,19 @@ token-spelled (node a b) x h =
         → spelling (tokenIn (node a b) x) ≡ x
     go (inl k) hb f g = rw k (f k)
     go (inr k) hb f g = rw k (g (hb k))
+
+-- it is one of the tree's
+pub token-good : (t : Tree) (x : Label) → goodLabels (leaves t) ≡ true → goodLabel (tokenIn t x) ≡ true
+unfolding tokenIn leaves
+token-good (leaf y) x g = good-head y [] g .0
+token-good (node a b) x g =
+    let w = good-split (leaves a) (leaves b) g in
+    go (holds (decoded a) x) (token-good a x (w .0)) (token-good b x (w .1))
+  where
+    go : (q : Bool) → goodLabel (tokenIn a x) ≡ true → goodLabel (tokenIn b x) ≡ true
+        → goodLabel (cond q (tokenIn a x) (tokenIn b x)) ≡ true
+    go true h k = h
+    go false h k = k
 
 -- the place in the node's own text, and where that text starts
 placed : (t : Tree) (x : Label) → holds (decoded t) x ≡ true → (q : ℕ)

@@ -3,21 +3,24 @@ use Prim.Native.Nat.{ℕ, _/_, _%_, _≤_, _<_}
 use mathlib.Core.Path.{_≡_}
 use mathlib.Core.Bool.{Bool, true, false}
 use mathlib.Core.Logic.{_↔_}
-use mathlib.Core.Option.{some}
+use mathlib.Core.Option.{some, none}
 use mathlib.Core.List.{List, [], map}
 use lib.ListN.{length, getD}
 use Rattle.trees.specs.Label.{Label, distinct, isIn}
-use Rattle.trees.specs.Token.{Token, spelling, tokenOf}
-use Rattle.trees.specs.Tree.{Tree, leaves, leafLimit, relabel, decoded, Proper, normal}
-use Rattle.trees.specs.Writable.{Writable}
-use Rattle.trees.specs.Text.{textOf, normalText}
+use Rattle.trees.specs.declared.Edition.{Edition}
+use Rattle.trees.specs.declared.Edition.the-variants.{One}
+use Rattle.trees.specs.Token.{Token, spelling, tokenOf, goodLabel}
+use Rattle.trees.specs.Tree.{Tree, leaves, leafLimit, relabel, decoded, Proper}
+use Rattle.trees.specs.Edition.{inEdition, key, folded, keyed, ValidIn, normalIn, rewritten, normalTextIn}
+use Rattle.trees.specs.Words.{Within}
+use Rattle.trees.specs.Text.{textOf}
 use Rattle.trees.specs.Reading.{good}
-use Rattle.newick.specs.ReadTree.{readTree}
+use Rattle.newick.specs.ReadTree.{readTreeIn}
 use Rattle.lists.specs.ReadList.{joined}
 use Rattle.agreement.specs.Closer.{holds, closer, OneOf, Agree, Common}
-use Rattle.agreement.specs.Restrict.{restrict}
+use Rattle.agreement.specs.Restrict.{restrict, restrictIn, keyedKept}
 use Rattle.agreement.specs.SameKept.{SameKept}
-use Rattle.agreement.specs.Places.{placeIn, tokenIn, placeOfNumber, placeOfLabel, tokenOfLabel, LeafShown, Listed, keptText}
+use Rattle.agreement.specs.Places.{placeIn, tokenIn, placeOfNumber, placeOfLabel, tokenOfLabel, LeafShown, Listed, keptTextIn, spelledIn, printedIn}
 use Rattle.agreement.specs.Sets.{increasing, sorted, common, setOf}
 use Rattle.agreement.specs.Weights.{forcedUnit, best}
 use Rattle.agreement.specs.Answer.{Answer, firstLacks, secondLacks, disagree, largest, agreeOn, largestSet, answer}
@@ -33,7 +36,8 @@ use Rattle.agreement.proofs.DemandLaws
 use Rattle.agreement.proofs.Tells
 use Rattle.agreement.proofs.CloserOnce.{closer-once}
 use Rattle.agreement.proofs.AgreeRestrict.{agree-iff-same}
-use Rattle.agreement.proofs.RestrictText.{kept-none, kept-some, kept-read, one-text}
+use Rattle.agreement.proofs.EditionText.{restrict-keyed, kept-none-in, kept-some-in, kept-read-in, one-text-in, one-same}
+use Rattle.agreement.proofs.EditionText.{spelled-shown, spelled-within, spelled-key, spelled-good, printed-one}
 use Rattle.agreement.proofs.Recurrence.{best-greatest}
 use Rattle.agreement.proofs.PlaceLaws.{leaf-shown, token-spelled, list-listed, listed-spelled, number-listed}
 use Rattle.agreement.proofs.StrictLaws.{stray-exactly, stray-held, stray-least}
@@ -50,22 +54,49 @@ pub restriction-decides : (s t : Tree) (X : Label → Bool) → distinct (leaves
     → Agree s t X ↔ SameKept (restrict X s) (restrict X t)
 restriction-decides = agree-iff-same
 
+-- request C-15: a tree of tokens restricted to the leaves whose keys are in a set keeps their spelling; by its keys it is the restriction
+-- of the tree of keys
+pub restriction-by-keys : (e : Edition) (X : Label → Bool) (t : Tree) → keyedKept e (restrictIn e X t) ≡ restrict X (keyed e t)
+restriction-by-keys = restrict-keyed
+
 -- the text of a restriction: "The empty set of leaves has a text of no bytes"; any other the normal text of what is left, which reads
 -- as the normal tree
-pub empty-text : (X : Label → Bool) (t : Tree) → ((x : Label) → holds t x ≡ true → X x ≡ false) → keptText (restrict X t) ≡ []
-empty-text = kept-none
+pub empty-text : (e : Edition) (X : Label → Bool) (t : Tree) → restrictIn e X t ≡ none → keptTextIn e (restrictIn e X t) ≡ []
+empty-text = kept-none-in
 
-pub restriction-text : (X : Label → Bool) (t r : Tree) → restrict X t ≡ some r → keptText (restrict X t) ≡ normalText r
-restriction-text = kept-some
+pub restriction-text : (e : Edition) (X : Label → Bool) (t r : Tree) → restrictIn e X t ≡ some r → keptTextIn e (restrictIn e X t) ≡ normalTextIn e r
+restriction-text = kept-some-in
 
-pub restriction-read : (X : Label → Bool) (t r : Tree) → Writable t → restrict X t ≡ some r
-    → readTree (keptText (restrict X t)) ≡ good (relabel tokenOf (normal r))
-restriction-read = kept-read
+pub restriction-read : (e : Edition) (X : Label → Bool) (t r : Tree) → ValidIn e t → restrictIn e X t ≡ some r
+    → readTreeIn e (keptTextIn e (restrictIn e X t)) ≡ good (relabel rewritten (normalIn e r))
+restriction-read = kept-read-in
 
--- "the normal text of the common restriction": the same bytes, whichever tree is restricted
-pub common-restriction : (s t : Tree) (X : Label → Bool) → distinct (leaves s) ≡ true → distinct (leaves t) ≡ true → Common s t X
-    → Agree s t X → keptText (restrict X s) ≡ keptText (restrict X t)
-common-restriction = one-text
+-- "the normal text of the common restriction": the same, whichever tree is restricted, "up to spelling"; under edition 1 the same bytes
+pub common-restriction : (e : Edition) (s t : Tree) (X : Label → Bool) → ValidIn e s → ValidIn e t → Common (keyed e s) (keyed e t) X
+    → Agree (keyed e s) (keyed e t) X → inEdition e (keptTextIn e (restrictIn e X s)) ≡ inEdition e (keptTextIn e (restrictIn e X t))
+common-restriction = one-text-in
+
+pub first-edition-bytes : (x y : List ℕ) → inEdition One x ≡ inEdition One y → x ≡ y
+first-edition-bytes = one-same
+
+-- request C-15, "Labels are printed as the first tree spells them": what is printed for a key of a tree is the part of its text where the
+-- leaf with that key stands, a good token; under edition 1 it is the label itself
+pub printed-is-leaf : (e : Edition) (t : Tree) (x : Label) → holds (keyed e t) x ≡ true
+    → LeafShown (inEdition e (textOf t)) (placeIn (folded e t) 0 x) (inEdition e (spelledIn e t x))
+printed-is-leaf = spelled-shown
+
+pub printed-stands : (e : Edition) (t : Tree) (x : Label) → holds (keyed e t) x ≡ true
+    → Within (textOf t) (placeIn (folded e t) 0 x) (spelledIn e t x)
+printed-stands = spelled-within
+
+pub printed-has-key : (e : Edition) (t : Tree) (x : Label) → holds (keyed e t) x ≡ true → key e (spelledIn e t x) ≡ x
+printed-has-key = spelled-key
+
+pub printed-is-good : (e : Edition) (t : Tree) (x : Label) → ValidIn e t → holds (keyed e t) x ≡ true → goodLabel (spelledIn e t x) ≡ true
+printed-is-good = spelled-good
+
+pub printed-before : (t : Tree) (x : Label) → holds (keyed One t) x ≡ true → printedIn One t x ≡ tokenOf x
+printed-before = printed-one
 
 -- source paper 001, Lemma 3.1, with weights: no agreed set weighs more than the recurrence says, and
 -- one weighs as much

@@ -1,5 +1,5 @@
--- Where the labels of an answer stand in the texts, and as which tokens. Scope paper, "Why a job is turned down": the places of 6 and 7 are the
--- label's "first byte in K".
+-- Where the labels of an answer stand in the texts, and as which tokens. Scope paper, "Why a job is turned down": the places of 6 and 7
+-- are the label's "first byte in K".
 use Prim.Native.Nat.{ℕ, _+_}
 use mathlib.Core.Path.{_≡_}
 use mathlib.Core.Bool.{cond}
@@ -11,7 +11,10 @@ use Rattle.trees.specs.Bytes.{openByte, closeByte, commaByte, semicolonByte}
 use Rattle.trees.specs.Label.{Label, sameLabel}
 use Rattle.trees.specs.Token.{Token, spelling}
 use Rattle.trees.specs.Tree.{Tree, leaf, node, decoded}
-use Rattle.trees.specs.Text.{written, normalText}
+use Rattle.trees.specs.Text.{written, textOf, normalText}
+use Rattle.trees.specs.Edition.{folded, rewritten, normalTextIn}
+use Rattle.trees.specs.declared.Edition.{Edition}
+use Rattle.trees.specs.Stored.{partOf}
 use Rattle.trees.specs.Words.{Within}
 use Rattle.lists.specs.ReadList.{startsOf}
 use Rattle.agreement.specs.Closer.{holds}
@@ -68,3 +71,22 @@ unfoldable pub keptText : Option Tree → List ℕ
 unfolding normalText
 keptText none = []
 keptText (some t) = normalText t
+
+-- the same of a tree of tokens, by an edition's order and as the tree spells its labels
+unfoldable pub keptTextIn : Edition → Option Tree → List ℕ
+unfolding normalTextIn
+keptTextIn e none = []
+keptTextIn e (some t) = normalTextIn e t
+
+-- request C-15: the leaf of a tree that an edition reads as x, "as the first tree spells" it: the part of its text where that leaf stands
+unfoldable pub spelledIn : Edition → Tree → Label → Token
+unfolding placeIn tokenIn partOf textOf
+spelledIn e t x = partOf (placeIn (folded e t) 0 x) (length (tokenIn (folded e t) x)) (textOf t)
+
+-- the label that it stands for there
+abbrev pub nameIn : Edition → Tree → Label → Label
+nameIn e t x = spelling (spelledIn e t x)
+
+-- and as it is printed
+abbrev pub printedIn : Edition → Tree → Label → Token
+printedIn e t x = rewritten (spelledIn e t x)

@@ -1,27 +1,34 @@
 -- The numbers that a host gets for each outcome. Assumes nothing.
-use Prim.Native.Nat.{ℕ, _+_, _≤_, _<_}
-use mathlib.Core.Path.{_≡_, refl, _∙_, ap}
+use Prim.Native.Nat.{ℕ, zero, suc, _+_, _≤_, _<_}
+use mathlib.Core.Path.{_≡_, refl, _∙_, sym, ap}
 use mathlib.Core.List.{List, map}
+use mathlib.Core.Option.{Option, some}
 use lib.Dec.{eqb}
+use native.Mathlib.Omega.{arith}
 use lib.ListN.{length}
 use borrow.Author.Tests.{le-leb, lt-leb}
 use Rattle.trees.specs.declared.Reason.the-variants.{Contents}
 use Rattle.trees.specs.declared.Body.the-variants.{J}
 use Rattle.trees.specs.declared.Refusal.{Refusal}
 use Rattle.trees.specs.Label.{Label}
-use Rattle.trees.specs.Token.{Token, spelling}
-use Rattle.trees.specs.Tree.{Tree, decoded}
+use Rattle.trees.specs.Token.{Token}
+use Rattle.trees.specs.Tree.{Tree}
+use Rattle.trees.specs.declared.Edition.{Edition}
+use Rattle.trees.specs.declared.Edition.the-variants.{One, Two}
+use Rattle.trees.specs.Edition.{keyed}
+use Rattle.lists.specs.ReadList.{foldedList, keysOf}
 use Rattle.agreement.specs.Closer.{Common}
 use Rattle.agreement.specs.Sets.{setOf}
-use Rattle.agreement.specs.Places.{placeOfLabel}
+use Rattle.agreement.specs.Places.{placeOfLabel, nameIn}
 use Rattle.agreement.specs.Answer.{disagree}
 use Rattle.agreement.specs.Demand.{IsDisagreement}
 use Rattle.contents.specs.Contents.{layoutOf, listPlace}
+use Rattle.mast.specs.declared.Options.{Options}
 use Rattle.mast.specs.Given.{Reads, SetGiven}
 use Rattle.mast.specs.Largest.{Solution, solved, clashed, turned, solutionOf, Task, task, solve}
 use Rattle.mast.proofs.Promises as mast
 use Rattle.job.specs.Printed.{recordLines}
-use Rattle.job.specs.Answered.{outputShort, lineAnswer, linesAnswer, recordAnswer, partOfLabel, answered, answerTo}
+use Rattle.job.specs.Answered.{outputShort, lineAnswer, linesAnswer, recordAnswer, namedLabel, answered, beginIn, answerTo}
 use Rattle.job.specs.Outcome.{JobOutcome}
 use Rattle.job.proofs.Promises as job
 use Rattle.cabi.specs.Numbers.{succeeded, disagreed, refusedWith, numbersOf, optionsOf, solveIf, solveWith, jobNumbers}
@@ -32,51 +39,69 @@ module _ (q : Task) (room : ℕ) where
   refusal-numbers p e = ap numbersOf e
 
   module _ (s t : Tree) (xs : List Token) (reads : Reads q s t xs) where
-    pub set-numbers : (X : List Label) (text : List ℕ) → SetGiven s t xs X text room
+    pub set-numbers : (X : List Label) (text : List ℕ) → SetGiven (q .options .edition) s t xs X text room
         → numbersOf (solve q room) ≡ succeeded (length X) (length text)
     unfolding numbersOf
     set-numbers X text g = ap numbersOf (mast.set-promise q room s t xs reads X text .1 g)
 
-    pub eight-numbers : (a b c : Label) → Common (decoded s) (decoded t) (setOf (map spelling xs))
-        → IsDisagreement (decoded s) (decoded t) (map spelling xs) a b c
-        → numbersOf (solve q room) ≡ disagreed (placeOfLabel xs 0 a) (placeOfLabel xs 0 b) (placeOfLabel xs 0 c)
+    pub eight-numbers : (a b c : Label) → Common (keyed (q .options .edition) s) (keyed (q .options .edition) t) (setOf (keysOf (q .options .edition) xs))
+        → IsDisagreement (keyed (q .options .edition) s) (keyed (q .options .edition) t) (keysOf (q .options .edition) xs) a b c
+        → numbersOf (solve q room) ≡ disagreed (placeOfLabel (foldedList (q .options .edition) xs) 0 a) (placeOfLabel (foldedList (q .options .edition) xs) 0 b)
+        (placeOfLabel (foldedList (q .options .edition) xs) 0 c)
     unfolding numbersOf solutionOf
     eight-numbers a b c held d =
         ap numbersOf (mast.outcome-promise q room s t xs reads (disagree a b c) (held, d))
 
-pub flags-refused : (first second required : List ℕ) (room flags : ℕ) → 1 < flags
+pub flags-refused : (first second required : List ℕ) (room flags : ℕ) → 3 < flags
     → solveWith flags first second required room ≡ turned (record { reason = Contents; body = J; place = 0 })
 unfolding solveWith optionsOf solveIf
-flags-refused first second required room flags h = rw (lt-leb flags 1 h) refl
+flags-refused first second required room flags h = rw (lt-leb flags 3 h) refl
 
-pub flags-known : (first second required : List ℕ) (room flags : ℕ) → flags ≤ 1
-    → solveWith flags first second required room ≡ solve (task (record { strict = eqb flags 1 }) first second required) room
-unfolding solveWith optionsOf solveIf
-flags-known first second required room flags h = rw (le-leb flags 1 h) refl
+pub flags-known : (first second required : List ℕ) (room flags : ℕ) (o : Options) → some o ≡ optionsOf flags
+    → solveWith flags first second required room ≡ solve (task o first second required) room
+unfolding solveWith solveIf
+flags-known first second required room flags o e = ap (λ (p : Option Options). solveIf p first second required room) (sym e)
+
+-- the options of known flags, from the code's test
+pub flags-first : (flags : ℕ) → flags < 2
+    → _≡_ {A = Option Options} (some (record { strict = eqb flags 1; edition = One })) (optionsOf flags)
+unfolding optionsOf
+flags-first zero h = refl
+flags-first (suc zero) h = refl
+flags-first (suc (suc n)) h = absurd (omega arith)
+
+pub flags-second : (flags : ℕ) → 2 ≤ flags → flags ≤ 3
+    → _≡_ {A = Option Options} (some (record { strict = eqb flags 3; edition = Two })) (optionsOf flags)
+unfolding optionsOf
+flags-second zero h m = absurd (omega arith)
+flags-second (suc zero) h m = absurd (omega arith)
+flags-second (suc (suc zero)) h m = refl
+flags-second (suc (suc (suc zero))) h m = refl
+flags-second (suc (suc (suc (suc n)))) h m = absurd (omega arith)
 
 module _ (bytes : List ℕ) (room : ℕ) where
-  told : (x : Solution) → JobOutcome bytes x → answerTo bytes room ≡ answered (listPlace (layoutOf bytes)) room x
+  told : (x : Solution) → JobOutcome bytes x → answerTo bytes room ≡ answered (beginIn bytes) room x
   unfolding answerTo
-  told x o = ap (answered (listPlace (layoutOf bytes)) room) (job.outcome-promise bytes x .1 o)
+  told x o = ap (answered (beginIn bytes) room) (job.outcome-promise bytes x .1 o)
 
-  pub job-numbers : (s : Tree) (X : List Label) (text : List ℕ) → JobOutcome bytes (solved s X text) → length (recordLines X text) ≤ room
-      → jobNumbers (answerTo bytes room) ≡ succeeded 0 (length (recordLines X text))
+  pub job-numbers : (e : Edition) (s : Tree) (X : List Label) (text : List ℕ) → JobOutcome bytes (solved e s X text) → length (recordLines (map (nameIn e s) X) text) ≤ room
+      → jobNumbers (answerTo bytes room) ≡ succeeded 0 (length (recordLines (map (nameIn e s) X) text))
   unfolding answered recordAnswer linesAnswer lineAnswer jobNumbers
-  job-numbers s X text o h =
-      ap jobNumbers (told (solved s X text) o) ∙ rw (le-leb (length (recordLines X text)) room h) refl
+  job-numbers e s X text o h =
+      ap jobNumbers (told (solved e s X text) o) ∙ rw (le-leb (length (recordLines (map (nameIn e s) X) text)) room h) refl
 
-  pub job-nine-numbers : (s : Tree) (X : List Label) (text : List ℕ) → JobOutcome bytes (solved s X text) → room < length (recordLines X text)
+  pub job-nine-numbers : (e : Edition) (s : Tree) (X : List Label) (text : List ℕ) → JobOutcome bytes (solved e s X text) → room < length (recordLines (map (nameIn e s) X) text)
       → jobNumbers (answerTo bytes room) ≡ refusedWith outputShort
   unfolding answered recordAnswer linesAnswer lineAnswer jobNumbers
-  job-nine-numbers s X text o h =
-      ap jobNumbers (told (solved s X text) o) ∙ rw (lt-leb (length (recordLines X text)) room h) refl
+  job-nine-numbers e s X text o h =
+      ap jobNumbers (told (solved e s X text) o) ∙ rw (lt-leb (length (recordLines (map (nameIn e s) X) text)) room h) refl
 
-  pub job-eight-numbers : (xs : List Token) (a b c : Label) → JobOutcome bytes (clashed xs a b c)
+  pub job-eight-numbers : (e : Edition) (s : Tree) (xs : List Token) (a b c : Label) → JobOutcome bytes (clashed e s xs a b c)
       → jobNumbers (answerTo bytes room)
-      ≡ disagreed (listPlace (layoutOf bytes) + placeOfLabel xs 0 a) (listPlace (layoutOf bytes) + placeOfLabel xs 0 b)
-      (listPlace (layoutOf bytes) + placeOfLabel xs 0 c)
-  unfolding answered partOfLabel jobNumbers
-  job-eight-numbers xs a b c o = ap jobNumbers (told (clashed xs a b c) o)
+      ≡ disagreed (listPlace (layoutOf bytes) + placeOfLabel (foldedList e xs) 0 a) (listPlace (layoutOf bytes) + placeOfLabel (foldedList e xs) 0 b)
+      (listPlace (layoutOf bytes) + placeOfLabel (foldedList e xs) 0 c)
+  unfolding answered namedLabel jobNumbers
+  job-eight-numbers e s xs a b c o = ap jobNumbers (told (clashed e s xs a b c) o)
 
   pub job-refusal-numbers : (q : Refusal) → JobOutcome bytes (turned q) → jobNumbers (answerTo bytes room) ≡ refusedWith q
   unfolding answered jobNumbers

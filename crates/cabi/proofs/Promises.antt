@@ -8,11 +8,15 @@ use Rattle.trees.specs.declared.Reason.the-variants.{Contents}
 use Rattle.trees.specs.declared.Body.the-variants.{J}
 use Rattle.trees.specs.declared.Refusal.{Refusal}
 use Rattle.trees.specs.Label.{Label}
-use Rattle.trees.specs.Token.{Token, spelling}
-use Rattle.trees.specs.Tree.{Tree, decoded}
+use Rattle.trees.specs.Token.{Token}
+use Rattle.trees.specs.Tree.{Tree}
+use Rattle.trees.specs.declared.Edition.{Edition}
+use Rattle.trees.specs.declared.Edition.the-variants.{One, Two}
+use Rattle.trees.specs.Edition.{keyed}
+use Rattle.lists.specs.ReadList.{foldedList, keysOf}
 use Rattle.agreement.specs.Closer.{Common}
 use Rattle.agreement.specs.Sets.{setOf}
-use Rattle.agreement.specs.Places.{placeOfLabel}
+use Rattle.agreement.specs.Places.{placeOfLabel, nameIn}
 use Rattle.agreement.specs.Demand.{IsDisagreement}
 use Rattle.contents.specs.Contents.{layoutOf, listPlace}
 use Rattle.mast.specs.Given.{Reads, SetGiven}
@@ -26,48 +30,57 @@ use Rattle.cabi.proofs.HostLaws
 -- two trees and a list, with whatever is asked beside them. Demand 3: number 0, the size of the answer, the length of its text
 module _ (q : Task) (room : ℕ) where
   module _ (s t : Tree) (xs : List Token) (reads : Reads q s t xs) where
-    pub set-promise : (X : List Label) (text : List ℕ) → SetGiven s t xs X text room
+    pub set-promise : (X : List Label) (text : List ℕ) → SetGiven (q .options .edition) s t xs X text room
         → numbersOf (solve q room) ≡ succeeded (length X) (length text)
     set-promise = HostLaws.set-numbers q room s t xs reads
 
     -- number 8 with the places of the first three in the list
-    pub eight-promise : (a b c : Label) → Common (decoded s) (decoded t) (setOf (map spelling xs))
-        → IsDisagreement (decoded s) (decoded t) (map spelling xs) a b c
-        → numbersOf (solve q room) ≡ disagreed (placeOfLabel xs 0 a) (placeOfLabel xs 0 b) (placeOfLabel xs 0 c)
+    pub eight-promise : (a b c : Label) → Common (keyed (q .options .edition) s) (keyed (q .options .edition) t) (setOf (keysOf (q .options .edition) xs))
+        → IsDisagreement (keyed (q .options .edition) s) (keyed (q .options .edition) t) (keysOf (q .options .edition) xs) a b c
+        → numbersOf (solve q room) ≡ disagreed (placeOfLabel (foldedList (q .options .edition) xs) 0 a) (placeOfLabel (foldedList (q .options .edition) xs) 0 b)
+        (placeOfLabel (foldedList (q .options .edition) xs) 0 c)
     eight-promise = HostLaws.eight-numbers q room s t xs reads
 
   -- any other row: its number, letter and place
   pub refusal-promise : (p : Refusal) → solve q room ≡ turned p → numbersOf (solve q room) ≡ refusedWith p
   refusal-promise = HostLaws.refusal-numbers q room
 
--- flags: 0 asks for nothing beside the texts, 1 for `strict`; any other number is refused with 10, J 0
+-- flags: 0 asks for nothing beside the texts, 1 for `strict`, 2 for the second edition, 3 for both; any other number is refused with 10, J 0
 module _ (first second required : List ℕ) (room : ℕ) where
-  pub no-flags : solveWith 0 first second required room ≡ solve (task plain first second required) room
+  pub no-flags : solveWith 0 first second required room ≡ solve (task (plain One) first second required) room
   unfolding solveWith
   no-flags = refl
 
-  pub strict-flag : solveWith 1 first second required room ≡ solve (task (record { strict = true }) first second required) room
+  pub strict-flag : solveWith 1 first second required room ≡ solve (task (record { strict = true; edition = One }) first second required) room
   unfolding solveWith
   strict-flag = refl
 
-  pub unknown-flags : (flags : ℕ) → 1 < flags → solveWith flags first second required room ≡ turned (record { reason = Contents; body = J; place = 0 })
+  pub edition-flag : solveWith 2 first second required room ≡ solve (task (plain Two) first second required) room
+  unfolding solveWith
+  edition-flag = refl
+
+  pub both-flags : solveWith 3 first second required room ≡ solve (task (record { strict = true; edition = Two }) first second required) room
+  unfolding solveWith
+  both-flags = refl
+
+  pub unknown-flags : (flags : ℕ) → 3 < flags → solveWith flags first second required room ≡ turned (record { reason = Contents; body = J; place = 0 })
   unknown-flags = HostLaws.flags-refused first second required room
 
 -- a job: the length of its lines, or number 9 where the output has fewer bytes
 module _ (bytes : List ℕ) (room : ℕ) where
-  pub job-promise : (s : Tree) (X : List Label) (text : List ℕ) → JobOutcome bytes (solved s X text) → length (recordLines X text) ≤ room
-      → jobNumbers (answerTo bytes room) ≡ succeeded 0 (length (recordLines X text))
+  pub job-promise : (e : Edition) (s : Tree) (X : List Label) (text : List ℕ) → JobOutcome bytes (solved e s X text) → length (recordLines (map (nameIn e s) X) text) ≤ room
+      → jobNumbers (answerTo bytes room) ≡ succeeded 0 (length (recordLines (map (nameIn e s) X) text))
   job-promise = HostLaws.job-numbers bytes room
 
-  pub job-nine-promise : (s : Tree) (X : List Label) (text : List ℕ) → JobOutcome bytes (solved s X text) → room < length (recordLines X text)
+  pub job-nine-promise : (e : Edition) (s : Tree) (X : List Label) (text : List ℕ) → JobOutcome bytes (solved e s X text) → room < length (recordLines (map (nameIn e s) X) text)
       → jobNumbers (answerTo bytes room) ≡ refusedWith outputShort
   job-nine-promise = HostLaws.job-nine-numbers bytes room
 
-  -- number 8 with the places of the first three in the job
-  pub job-eight-promise : (xs : List Token) (a b c : Label) → JobOutcome bytes (clashed xs a b c)
+  -- number 8 with the places of the first three in the job's list
+  pub job-eight-promise : (e : Edition) (s : Tree) (xs : List Token) (a b c : Label) → JobOutcome bytes (clashed e s xs a b c)
       → jobNumbers (answerTo bytes room)
-      ≡ disagreed (listPlace (layoutOf bytes) + placeOfLabel xs 0 a) (listPlace (layoutOf bytes) + placeOfLabel xs 0 b)
-      (listPlace (layoutOf bytes) + placeOfLabel xs 0 c)
+      ≡ disagreed (listPlace (layoutOf bytes) + placeOfLabel (foldedList e xs) 0 a) (listPlace (layoutOf bytes) + placeOfLabel (foldedList e xs) 0 b)
+      (listPlace (layoutOf bytes) + placeOfLabel (foldedList e xs) 0 c)
   job-eight-promise = HostLaws.job-eight-numbers bytes room
 
   pub job-refusal-promise : (q : Refusal) → JobOutcome bytes (turned q) → jobNumbers (answerTo bytes room) ≡ refusedWith q

@@ -1,14 +1,16 @@
 -- The numbers that a host gets. Scope paper, "Why a job is turned down".
 use Prim.Native.Nat.{ℕ}
-use mathlib.Core.Bool.{cond}
+use mathlib.Core.Bool.{cond, _||_}
 use mathlib.Core.List.{List}
 use mathlib.Core.Option.{Option, some, none}
-use lib.Dec.{eqb, leb}
+use lib.Dec.{eqb, ltb, leb}
 use lib.ListN.{length}
 use Rattle.trees.specs.declared.Reason.the-variants.{Disagree, Contents}
 use Rattle.trees.specs.declared.Body.the-variants.{K, J}
 use Rattle.trees.specs.declared.Refusal.{Refusal}
 use Rattle.trees.specs.Refusals.{numberOf, letterOf}
+use Rattle.trees.specs.declared.Edition.the-variants.{One, Two}
+use Rattle.lists.specs.ReadList.{foldedList}
 use Rattle.agreement.specs.Places.{placeOfLabel}
 use Rattle.mast.specs.declared.Options.{Options}
 use Rattle.mast.specs.Largest.{Solution, solved, clashed, turned, task, solve}
@@ -45,13 +47,16 @@ refusedWith q =
 -- of two trees and a list: the places of number 8 are in the list
 unfoldable pub numbersOf : Solution → AgreeResult
 unfolding succeeded disagreed refusedWith placeOfLabel
-numbersOf (solved s X text) = succeeded (length X) (length text)
-numbersOf (clashed xs a b c) = disagreed (placeOfLabel xs 0 a) (placeOfLabel xs 0 b) (placeOfLabel xs 0 c)
+numbersOf (solved e s X text) = succeeded (length X) (length text)
+numbersOf (clashed e s xs a b c) =
+    disagreed (placeOfLabel (foldedList e xs) 0 a) (placeOfLabel (foldedList e xs) 0 b) (placeOfLabel (foldedList e xs) 0 c)
 numbersOf (turned q) = refusedWith q
 
--- what the flags ask for: 1 is `strict` (request C-11); a number with any other bit asks for nothing that is known
+-- what the flags ask for: 1 is `strict` (request C-11), 2 the second edition (request C-15), 3 both; a greater number asks for something
+-- that is not known
 unfoldable pub optionsOf : ℕ → Option Options
-optionsOf flags = cond (leb flags 1) (some (record { strict = eqb flags 1 })) none
+optionsOf flags =
+    cond (leb flags 3) (some (record { strict = eqb flags 1 || eqb flags 3; edition = cond (ltb flags 2) One Two })) none
 
 -- flags that are not known break the rules of what may be asked: 10, J 0
 unfoldable pub solveIf : Option Options → List ℕ → List ℕ → List ℕ → ℕ → Solution
@@ -63,9 +68,9 @@ unfoldable pub solveWith : ℕ → List ℕ → List ℕ → List ℕ → ℕ �
 unfolding solveIf optionsOf
 solveWith flags first second required room = solveIf (optionsOf flags) first second required room
 
--- of a job: the length of its lines, of which the first tells the size; the places of number 8 are in the job
+-- of a job: the length of its lines, of which the first tells the size; the places of number 8 are those in the job's list
 unfoldable pub jobNumbers : JobAnswer → AgreeResult
 unfolding succeeded disagreed refusedWith
 jobNumbers (job-answer.Written n) = succeeded 0 n
-jobNumbers (job-answer.Disagree n) = disagreed (n .first .start) (n .second .start) (n .third .start)
+jobNumbers (job-answer.Disagree n) = disagreed (n .first .place) (n .second .place) (n .third .place)
 jobNumbers (job-answer.Refused q) = refusedWith q

@@ -3,20 +3,26 @@
 // No function has a `requires`. A struct of numbers comes back by value, since every answer is a handful of numbers and a host
 // then reads them by name; a packed number would have to be taken apart.
 ghost use mathlib.Core.Path.{_≡_};
+ghost use mathlib.Core.Option.{some};
+ghost use Prim.Native.Nat.{_≤_};
 ghost use lib.ListN.{length};
 ghost use Rattle.mast.specs.Largest.{task, plain, solve, outputOf};
 ghost use Rattle.job.specs.Printed.{solveJob};
 ghost use Rattle.job.specs.Answered.{answerTo, jobOutput};
-ghost use Rattle.cabi.specs.Numbers.{succeeded, disagreed, refusedWith, numbersOf, solveWith, jobNumbers};
+ghost use Rattle.cabi.specs.Numbers.{succeeded, disagreed, refusedWith, numbersOf, optionsOf, solveWith, jobNumbers};
 use job::JobAnswer;
 use mast::LargestAnswer;
 use mast::Options;
 use trees::Body;
+use trees::Edition;
 use trees::Reason;
 use trees::Refusal;
 
-// The flag for a job that a leaf in only one tree stops; no greater flag is known.
+// The flag for a job that a leaf in only one tree stops.
 const STRICT: usize = 1;
+
+// The flag for the second edition of the naming code; no greater flag is known.
+const EDITION_2: usize = 2;
 
 // The refusal's number (0 on success), its letter and place; on success the length of the text in the output and, of
 // `agree_largest`, the size of the set; for number 8 where the three labels stand, in the list or, of `agree_job`, in the job.
@@ -119,17 +125,38 @@ pub extern "C" fn agree_largest(
 ) -> AgreeResult
     ensures numbers { λ r.
         ⌜ r ≡ numbersOf
-        (solve (task plain (now (first .entry)) (now (second .entry)) (now (required .entry))) (length (now (out .entry)))) ⌝ }
+        (solve (task (plain Edition.One) (now (first .entry)) (now (second .entry)) (now (required .entry))) (length (now (out .entry)))) ⌝ }
     ensures output { λ r.
         ⌜ now (out .exit) ≡ outputOf
-        (solve (task plain (now (first .entry)) (now (second .entry)) (now (required .entry))) (length (now (out .entry))))
+        (solve (task (plain Edition.One) (now (first .entry)) (now (second .entry)) (now (required .entry))) (length (now (out .entry))))
         (now (out .entry)) ⌝ }
 {
-    let options = Options { strict: false };
+    let options = Options {
+        strict: false,
+        edition: Edition::One,
+    };
     answered(options, first, second, required, out)
 }
 
-// The same with flags: 1 asks for `strict`. Flags that are not known are refused with 10, J, 0, before anything is read.
+// What flags of at most 3 ask for.
+fn options_of(flags: usize) -> Options
+    requires { ⌜ flags ≤ 3 ⌝ }
+    ensures { λ r. ⌜ some r ≡ optionsOf flags ⌝ }
+{
+    if flags < EDITION_2 {
+        return Options {
+            strict: flags == STRICT,
+            edition: Edition::One,
+        };
+    }
+    Options {
+        strict: flags == STRICT + EDITION_2,
+        edition: Edition::Two,
+    }
+}
+
+// The same with flags: 1 asks for `strict`, 2 for the second edition, 3 for both. Flags that are not known are refused with
+// 10, J, 0, before anything is read.
 #[no_mangle]
 pub extern "C" fn agree_largest_with(
     flags: usize,
@@ -146,16 +173,14 @@ pub extern "C" fn agree_largest_with(
         (solveWith flags (now (first .entry)) (now (second .entry)) (now (required .entry)) (length (now (out .entry))))
         (now (out .entry)) ⌝ }
 {
-    if STRICT < flags {
+    if STRICT + EDITION_2 < flags {
         return refused_with(Refusal {
             reason: Reason::Contents,
             body: Body::J,
             place: 0,
         });
     }
-    let options = Options {
-        strict: flags == STRICT,
-    };
+    let options = options_of(flags);
     answered(options, first, second, required, out)
 }
 
@@ -172,7 +197,7 @@ pub extern "C" fn agree_job(bytes: &[u8], out: &mut [u8]) -> AgreeResult
             let one = named.first;
             let two = named.second;
             let three = named.third;
-            disagreed(one.start, two.start, three.start)
+            disagreed(one.place, two.place, three.place)
         }
         JobAnswer::Refused(refusal) => refused_with(refusal),
     }

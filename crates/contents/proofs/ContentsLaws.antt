@@ -17,15 +17,18 @@ use Rattle.trees.specs.declared.Body.the-variants.{S, T, K}
 use Rattle.trees.specs.Refusals.{letterOf}
 use Rattle.trees.specs.Words.{bytesOf, Within}
 use Rattle.trees.proofs.Bools.{bool-cases, and-left, and-right, and-intro, or-cases}
+use Rattle.contents.specs.declared.Stated.the-variants as states
 use Rattle.contents.specs.declared.Table.{Table}
 use Rattle.contents.specs.declared.Layout.{Layout}
 use Rattle.contents.specs.declared.Layout.the-variants as layout
 use Rattle.decimals.specs.Decimal.{decimalFrom, decimalOf, isDigit, digitRun, valueFrom}
 use Rattle.contents.specs.Contents.{Bodies, Short, Laid, line, entryLine, tableText, lengthsOf, jobOf, digitLimit, goodDigits, Number, numberAt}
 use Rattle.contents.specs.Contents.{Progress, _andThen_, byteOf, byte, putDown, withLength, lengthStep, entry, emptyLine}
-use Rattle.contents.specs.Contents.{begins, withStrict, strictLine, strictText, tableLines, begun, laidOut, layoutOf, bodiesIn, bodiesOf, listPlace}
+use Rattle.contents.specs.Contents.{begins, strictLine, strictText, editionLine, editionText, headed}
+use Rattle.contents.specs.Contents.{tableLines, begun, laidOut, layoutOf, bodiesIn, bodiesOf, firstPlace, listPlace}
 use Rattle.decimals.proofs.DecimalLaws.{allDigits, from-small, from-digits, from-some, from-few, no-leading-zero, decimal-value, from-read, value-below, digit-small}
-use Rattle.contents.proofs.OptionalLaws.{Carried, begins-if, optional-written, optional-took}
+use Rattle.contents.proofs.HeadLaws.{carrying, entry-next, not-strict, strict-written, head-read, strict-took, edition-took}
+use Rattle.contents.proofs.OptionalLaws.{begins-if}
 use Rattle.contents.proofs.RunLaws.{run-first, number-one, number-more}
 use Rattle.contents.proofs.StepLaws.{then-some, between, none-some}
 
@@ -98,7 +101,7 @@ module _ (body : Body) (n : ℕ) (small : n < 10 ^ digitLimit) (t : Table) (rest
   unfolding lengthStep putDown
   length-written = ap (putDown body t) (number-written n small rest)
 
-  entry-written : entry body (record { table = t; rest = entryLine body n ++ rest }) ≡ some (record { table = withLength body n t; rest = rest })
+  pub entry-written : entry body (record { table = t; rest = entryLine body n ++ rest }) ≡ some (record { table = withLength body n t; rest = rest })
   unfolding entry entryLine line
   entry-written =
       let digits : List ℕ = (decimalOf n ++ (10 ∷ [])) ++ rest in
@@ -114,35 +117,17 @@ module _ (body : Body) (n : ℕ) (small : n < 10 ^ digitLimit) (t : Table) (rest
       (ap (λ (l : List ℕ). lengthStep body (record { table = t; rest = l })) same ∙ length-written)
       ∙ byte-same 10 (withLength body n t) rest
 
-table-text : (t : Table) (rest : List ℕ)
+pub table-text : (t : Table) (rest : List ℕ)
     → tableText t ++ rest
-    ≡ strictText (t .strict) ++ (entryLine S (t .first) ++ (entryLine T (t .second) ++ (entryLine K (t .required) ++ (10 ∷ rest))))
+    ≡ strictText (t .strict)
+    ++ (editionText (t .stated) ++ (entryLine S (t .first) ++ (entryLine T (t .second) ++ (entryLine K (t .required) ++ (10 ∷ rest)))))
 unfolding tableText line
-table-text t rest = joined (strictText (t .strict)) (entryLine S (t .first)) (entryLine T (t .second)) (entryLine K (t .required)) (line [])
+table-text t rest =
+    joined (strictText (t .strict)) (editionText (t .stated)) (entryLine S (t .first)) (entryLine T (t .second)) (entryLine K (t .required))
+    (line [])
   where
-    joined : (h s u k e : List ℕ) → (h ++ (s ++ (u ++ (k ++ e)))) ++ rest ≡ h ++ (s ++ (u ++ (k ++ (e ++ rest))))
-    joined h s u k e = simp append-assoc
-
--- the table after the line `strict`, or before any line
-abbrev carrying : Bool → Table
-carrying strict = record { strict = strict; first = 0; second = 0; required = 0 }
-
-carried : (strict : Bool) → cond strict (withStrict (carrying false)) (carrying false) ≡ carrying strict
-unfolding withStrict
-carried true = refl
-carried false = refl
-
--- an entry is no line `strict`: its first letter is another
-not-strict : (n : ℕ) (rest : List ℕ) → begins (line (bytesOf "strict")) (entryLine S n ++ rest) ≡ false
-unfolding begins line bytesOf entryLine letterOf
-not-strict n rest = refl
-
-strict-written : (strict : Bool) (n : ℕ) (rest : List ℕ)
-    → strictLine (begun (strictText strict ++ (entryLine S n ++ rest))) ≡ some (record { table = carrying strict; rest = entryLine S n ++ rest })
-unfolding strictLine strictText
-strict-written strict n rest =
-    optional-written (bytesOf "strict") withStrict strict (carrying false) (entryLine S n ++ rest) (not-strict n rest)
-    ∙ ap (λ (t : Table). some (record { table = t; rest = entryLine S n ++ rest })) (carried strict)
+    joined : (h g s u k e : List ℕ) → (h ++ (g ++ (s ++ (u ++ (k ++ e))))) ++ rest ≡ h ++ (g ++ (s ++ (u ++ (k ++ (e ++ rest)))))
+    joined h g s u k e = simp append-assoc
 
 table-written : (t : Table) (rest : List ℕ) → Short t → tableLines (begun (tableText t ++ rest)) ≡ some (record { table = t; rest = rest })
 unfolding tableLines emptyLine withLength
@@ -151,13 +136,11 @@ table-written t rest short =
     let third : List ℕ = entryLine K (t .required) ++ end in
     let second : List ℕ = entryLine T (t .second) ++ third in
     let first : List ℕ = entryLine S (t .first) ++ second in
-    let a : Table = carrying (t .strict) in
+    let a : Table = carrying (t .strict) (t .stated) in
     let b : Table = withLength S (t .first) a in
     let c : Table = withLength T (t .second) b in
     ap (λ (l : List ℕ). tableLines (begun l)) (table-text t rest)
-    ∙ then-some strictLine (entry S andThen entry T andThen entry K andThen byte 10)
-    (begun (strictText (t .strict) ++ first)) (record { table = a; rest = first })
-    (strict-written (t .strict) (t .first) second)
+    ∙ head-read (t .strict) (t .stated) first (λ (e : t .stated ≡ states.Nothing). entry-next (t .first) second)
     ∙ then-some (entry S) (entry T andThen entry K andThen byte 10) (record { table = a; rest = first }) (record { table = b; rest = second })
     (entry-written S (t .first) (short .one) a second)
     ∙ then-some (entry T) (entry K andThen byte 10) (record { table = b; rest = second }) (record { table = c; rest = third })
@@ -359,34 +342,34 @@ record Tabled (job : List ℕ) (q : Progress) : Type 0 where
   text : job ≡ tableText (q .table) ++ q .rest
   short : Short (q .table)
 
-strict-took : (job : List ℕ) (q : Progress) → strictLine (begun job) ≡ some q → Carried (bytesOf "strict") withStrict (begun job) q
-unfolding strictLine
-strict-took job q e = optional-took (bytesOf "strict") withStrict (begun job) q e
-
 table-took : (job : List ℕ) (q : Progress) → tableLines (begun job) ≡ some q → Tabled job q
-unfolding tableLines emptyLine withLength strictText
+unfolding tableLines emptyLine withLength
 table-took job q e =
-    let v = between strictLine (entry S andThen entry T andThen entry K andThen byte 10) (begun job) q e in
+    let u = between strictLine (editionLine andThen entry S andThen entry T andThen entry K andThen byte 10) (begun job) q e in
+    let v = between editionLine (entry S andThen entry T andThen entry K andThen byte 10) (u .mid) q (u .two) in
     let w = between (entry S) (entry T andThen entry K andThen byte 10) (v .mid) q (v .two) in
     let x = between (entry T) (entry K andThen byte 10) (w .mid) q (w .two) in
     let y = between (entry K) (byte 10) (x .mid) q (x .two) in
-    let s = strict-took job (v .mid) (v .one) in
+    let s = strict-took job (u .mid) (u .one) in
+    let g = edition-took (s .which) (u .mid) (v .mid) (s .table) (v .one) in
     let a = entry-took S (v .mid) (w .mid) (w .one) in
     let b = entry-took T (w .mid) (x .mid) (x .one) in
     let c = entry-took K (x .mid) (y .mid) (y .one) in
     let d = byte-took 10 (y .mid) q (y .two) in
-    let read : Table = record { strict = s .stood; first = a .n; second = b .n; required = c .n } in
+    let read : Table = record { strict = s .which; stated = g .which; first = a .n; second = b .n; required = c .n } in
     let t : q .table ≡ read =
     d .1 ∙ c .table ∙ ap (withLength K (c .n))
-    (b .table ∙ ap (withLength T (b .n)) (a .table ∙ ap (withLength S (a .n)) (s .table ∙ carried (s .stood)))) in
-    let head : List ℕ = strictText (s .stood) in
+    (b .table ∙ ap (withLength T (b .n)) (a .table ∙ ap (withLength S (a .n)) (g .table))) in
+    let head : List ℕ = strictText (s .which) in
+    let said : List ℕ = editionText (g .which) in
     record {
       text =
           s .text
-          ∙ ap (λ (l : List ℕ). head ++ l) (a .text)
-          ∙ ap (λ (l : List ℕ). head ++ (entryLine S (a .n) ++ l)) (b .text)
-          ∙ ap (λ (l : List ℕ). head ++ (entryLine S (a .n) ++ (entryLine T (b .n) ++ l))) (c .text)
-          ∙ ap (λ (l : List ℕ). head ++ (entryLine S (a .n) ++ (entryLine T (b .n) ++ (entryLine K (c .n) ++ l)))) (d .0)
+          ∙ ap (λ (l : List ℕ). head ++ l) (g .text)
+          ∙ ap (λ (l : List ℕ). head ++ (said ++ l)) (a .text)
+          ∙ ap (λ (l : List ℕ). head ++ (said ++ (entryLine S (a .n) ++ l))) (b .text)
+          ∙ ap (λ (l : List ℕ). head ++ (said ++ (entryLine S (a .n) ++ (entryLine T (b .n) ++ l)))) (c .text)
+          ∙ ap (λ (l : List ℕ). head ++ (said ++ (entryLine S (a .n) ++ (entryLine T (b .n) ++ (entryLine K (c .n) ++ l))))) (d .0)
           ∙ sym (ap (λ (u : Table). tableText u ++ q .rest) t ∙ table-text read (q .rest));
       short = subst Short (sym t) (record { one = a .small; two = b .small; three = c .small });
     }
@@ -466,7 +449,7 @@ module _ (job : List ℕ) (at : ℕ) (t : Table) (w : Laid job at t) where
       ∙ ap (λ (l : List ℕ). second ++ l) (drop-drop (t .second) (at + t .first) job ∙ sym list-whole))
 
   abbrev bodies : Bodies
-  bodies = record { strict = t .strict; first = first; second = second; list = list }
+  bodies = record { strict = t .strict; stated = t .stated; first = first; second = second; list = list }
 
   laid-lengths : lengthsOf bodies ≡ t
   unfolding lengthsOf
@@ -485,6 +468,15 @@ module _ (job : List ℕ) (at : ℕ) (t : Table) (w : Laid job at t) where
         after = [];
         is = sym (take-append-drop n job) ∙ ap (λ (l : List ℕ). take n job ++ l) (sym list-whole ∙ sym (append-nil list));
         place = omega (arith, w .sum, length-take n job);
+      }
+
+  first-within : Within job at (take (t .first) (drop at job))
+  first-within =
+      record {
+        before = take at job;
+        after = drop (t .first) (drop at job);
+        is = sym (take-append-drop at job) ∙ ap (λ (l : List ℕ). take at job ++ l) (sym (take-append-drop (t .first) (drop at job)));
+        place = omega (arith, w .sum, length-take at job);
       }
 
 pub contents-read : (job : List ℕ) (b : Bodies) → bodiesOf job ≡ some b → (job ≡ jobOf b) × Short (lengthsOf b)
@@ -516,36 +508,49 @@ list-stands job b e = go (layoutOf job) refl e
         let m : bodies job at t w ≡ b = cc in
         subst (λ (c : Bodies). Within job (at + t .first + t .second) (c .list)) m (list-within job at t w)
 
+-- and so does the first tree
+pub first-stands : (job : List ℕ) (b : Bodies) → bodiesOf job ≡ some b → Within job (firstPlace (layoutOf job)) (b .first)
+unfolding bodiesOf bodiesIn firstPlace
+first-stands job b e = go (layoutOf job) refl e
+  where
+    go : (l : Layout) → layoutOf job ≡ l → bodiesIn job l ≡ some b → Within job (firstPlace l) (b .first)
+    go layout.Broken k h = absurd (none-some b h)
+    go (layout.Bodies at t) k h =
+        let w = laid-job job at t k in
+        let m : bodies job at t w ≡ b = cc in
+        subst (λ (c : Bodies). Within job at (c .first)) m (first-within job at t w)
+
+-- a job is that of one choice of bodies and lines
+pub contents-once : (b c : Bodies) → Short (lengthsOf b) → Short (lengthsOf c) → jobOf b ≡ jobOf c → b ≡ c
+contents-once b c p q e = let h = sym (contents-written b p) ∙ ap bodiesOf e ∙ contents-written c q in cc
+
 -- ---- with the line `strict` and without it
 
--- the same bodies, not strict
-abbrev plain : Bodies → Bodies
-plain b = record { strict = false; first = b .first; second = b .second; list = b .list }
-
-job-parts : (b : Bodies) → jobOf b ≡ strictText (b .strict) ++ jobOf (plain b)
+pub strict-parts : (b : Bodies) → jobOf b ≡ strictText (b .strict) ++ jobOf (headed false (b .stated) b)
 unfolding jobOf lengthsOf tableText strictText
-job-parts b = append-assoc (strictText (b .strict)) (tableText (lengthsOf (plain b))) (b .first ++ (b .second ++ b .list))
+strict-parts b =
+    append-assoc (strictText (b .strict)) (tableText (lengthsOf (headed false (b .stated) b))) (b .first ++ (b .second ++ b .list))
 
-pub strict-line : (b : Bodies) → b .strict ≡ true → jobOf b ≡ line (bytesOf "strict") ++ jobOf (plain b)
+pub strict-line : (b : Bodies) → b .strict ≡ true → jobOf b ≡ line (bytesOf "strict") ++ jobOf (headed false (b .stated) b)
 unfolding strictText
-strict-line b e = job-parts b ∙ ap (λ (s : Bool). strictText s ++ jobOf (plain b)) e
+strict-line b e = strict-parts b ∙ ap (λ (s : Bool). strictText s ++ jobOf (headed false (b .stated) b)) e
 
-plain-begins : (b : Bodies) → begins (line (bytesOf "strict")) (jobOf (plain b)) ≡ false
+plain-begins : (b : Bodies) → begins (line (bytesOf "strict")) (jobOf (headed false (b .stated) b)) ≡ false
 unfolding jobOf strictText
 plain-begins b =
-    ap (begins (line (bytesOf "strict"))) (table-text (lengthsOf (plain b)) (b .first ++ (b .second ++ b .list)))
-    ∙ not-strict (length (b .first)) _
+    ap (begins (line (bytesOf "strict"))) (table-text (lengthsOf (headed false (b .stated) b)) (b .first ++ (b .second ++ b .list)))
+    ∙ not-strict (b .stated) _ (λ (e : b .stated ≡ states.Nothing). entry-next (length (b .first)) _)
 
 pub strict-exactly : (job : List ℕ) (b : Bodies) → bodiesOf job ≡ some b → b .strict ≡ begins (line (bytesOf "strict")) job
 unfolding strictText
 strict-exactly job b e =
-    sym (ap (begins (line (bytesOf "strict"))) (contents-read job b e .0 ∙ job-parts b)
-    ∙ begins-if (b .strict) (bytesOf "strict") (jobOf (plain b)) (plain-begins b))
+    sym (ap (begins (line (bytesOf "strict"))) (contents-read job b e .0 ∙ strict-parts b)
+    ∙ begins-if (b .strict) (bytesOf "strict") (jobOf (headed false (b .stated) b)) (plain-begins b))
 
 pub plain-job : (job : List ℕ) → begins (line (bytesOf "strict")) job ≡ false
-    → layoutOf job ≡ laidOut job ((entry S andThen entry T andThen entry K andThen emptyLine) (begun job))
-unfolding layoutOf tableLines strictLine
+    → layoutOf job ≡ laidOut job ((editionLine andThen entry S andThen entry T andThen entry K andThen emptyLine) (begun job))
+unfolding layoutOf tableLines strictText
 plain-job job e =
     ap (laidOut job)
-    (then-some strictLine (entry S andThen entry T andThen entry K andThen emptyLine) (begun job) (begun job)
-    (optional-written (bytesOf "strict") withStrict false (carrying false) job e))
+    (then-some strictLine (editionLine andThen entry S andThen entry T andThen entry K andThen emptyLine) (begun job) (begun job)
+    (strict-written false job e))

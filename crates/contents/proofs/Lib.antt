@@ -1,4 +1,6 @@
 pub mod ContentsLaws
+pub mod EditionLaws
+pub mod HeadLaws
 pub mod OptionalLaws
 pub mod Promises
 pub mod RunLaws

@@ -1,5 +1,5 @@
--- A line that a job may carry: where it stands, where it does not, and what is read of it. Each law is of any line and any change of
--- the table. Assumes nothing.
+-- A line that a job may carry: where it stands, where it does not, and what is read of it. Each law is of any line, any change of the
+-- table and any step that is taken where the line does not stand. Assumes nothing.
 use Prim.Native.Nat.{ℕ, _+_, _≤_, _<_}
 use mathlib.Core.Path.{_≡_, refl, sym, _∙_, ap, ap₂}
 use mathlib.Core.Bool.{Bool, true, false, cond}
@@ -13,8 +13,9 @@ use lib.Seq.{drop-append-seam, drop-drop}
 use borrow.Author.Tests.{eq-eqb, ne-eqb, eqb-true}
 use Rattle.trees.proofs.Bools.{bool-cases, clash, and-left, and-right}
 use Rattle.contents.specs.declared.Table.{Table}
+use Rattle.contents.specs.declared.Reading.{Reading}
 use Rattle.contents.specs.declared.Reading.the-variants as reading
-use Rattle.contents.specs.Contents.{Progress, onward, line, lineIf, begins, optional}
+use Rattle.contents.specs.Contents.{Progress, Step, onward, line, lineIf, begins, lineOr, stay, optional}
 use Rattle.contents.specs.Steps.{told}
 use Rattle.contents.proofs.RunLaws.{at-place}
 
@@ -38,7 +39,7 @@ module _ (word text : List ℕ) (i k : ℕ) where
   unfolding begins
   begins-done h = rw (drop-of-length-le word h) refl
 
-begins-own : (word rest : List ℕ) → begins word (word ++ rest) ≡ true
+pub begins-own : (word rest : List ℕ) → begins word (word ++ rest) ≡ true
 unfolding begins
 begins-own [] rest = refl
 begins-own (b ∷ word) rest = rw (eq-eqb b b refl, begins-own word rest) refl
@@ -64,55 +65,92 @@ begins-inside word text k h e =
       length-drop k text,
     )
 
--- ---- the step over such a line
+-- the same bytes in front of both
+pub begins-both : (front word text : List ℕ) → begins (front ++ word) (front ++ text) ≡ begins word text
+unfolding begins
+begins-both [] word text = refl
+begins-both (b ∷ front) word text = rw (eq-eqb b b refl) (begins-both front word text)
 
-module _ (words : List ℕ) (change : Table → Table) where
-  optional-if : (t : Table) (rest : List ℕ) (b : Bool) → begins (line words) rest ≡ b
-      → optional words change (record { table = t; rest = rest })
-      ≡ cond b (some (record { table = change t; rest = drop (length (line words)) rest })) (some (record { table = t; rest = rest }))
-  unfolding optional
-  optional-if t rest b e = rw e refl
+-- ---- the step over such a line, or another step
+
+module _ (words : List ℕ) (change : Table → Table) (other : Step) where
+  line-if : (t : Table) (rest : List ℕ) (b : Bool) → begins (line words) rest ≡ b
+      → lineOr words change other (record { table = t; rest = rest })
+      ≡ cond b (some (record { table = change t; rest = drop (length (line words)) rest })) (other (record { table = t; rest = rest }))
+  unfolding lineOr
+  line-if t rest b e = rw e refl
 
   -- at a place of the job
-  pub line-stood : (job : List ℕ) (at : ℕ) (t : Table) → begins (line words) (drop at job) ≡ true
-      → told job (reading.At (change t) (at + length (line words))) ≡ onward (told job (reading.At t at)) (optional words change)
+  pub line-stood : (job : List ℕ) (at : ℕ) (t u : Table) → u ≡ change t → begins (line words) (drop at job) ≡ true
+      → told job (reading.At u (at + length (line words))) ≡ onward (told job (reading.At t at)) (lineOr words change other)
   unfolding told onward
-  line-stood job at t e =
-      sym (optional-if t (drop at job) true e
-      ∙ ap (λ (l : List ℕ). some (record { table = change t; rest = l })) (drop-drop (length (line words)) at job))
+  line-stood job at t u c e =
+      ap₂ (λ (v : Table) (l : List ℕ). some (record { table = v; rest = l })) c (sym (drop-drop (length (line words)) at job))
+      ∙ sym (line-if t (drop at job) true e)
 
-  pub line-absent : (job : List ℕ) (at : ℕ) (t : Table) → begins (line words) (drop at job) ≡ false
-      → told job (reading.At t at) ≡ onward (told job (reading.At t at)) (optional words change)
+  pub line-passed : (job : List ℕ) (at : ℕ) (t : Table) (r : Reading) → begins (line words) (drop at job) ≡ false
+      → told job r ≡ onward (told job (reading.At t at)) other → told job r ≡ onward (told job (reading.At t at)) (lineOr words change other)
   unfolding told onward
-  line-absent job at t e = sym (optional-if t (drop at job) false e)
+  line-passed job at t r e h = h ∙ sym (line-if t (drop at job) false e)
 
-  -- what is written is read, where what follows does not begin with the line
-  pub optional-written : (b : Bool) (t : Table) (rest : List ℕ) → begins (line words) rest ≡ false
-      → optional words change (record { table = t; rest = lineIf b words ++ rest }) ≡ some (record { table = cond b (change t) t; rest = rest })
-  optional-written true t rest e =
-      optional-if t (line words ++ rest) true (begins-own (line words) rest)
+  -- what is written is read
+  pub line-written : (t : Table) (rest : List ℕ)
+      → lineOr words change other (record { table = t; rest = line words ++ rest }) ≡ some (record { table = change t; rest = rest })
+  line-written t rest =
+      line-if t (line words ++ rest) true (begins-own (line words) rest)
       ∙ ap (λ (l : List ℕ). some (record { table = change t; rest = l })) (drop-append-seam (line words) rest)
-  optional-written false t rest e = optional-if t rest false e
 
--- what was read of a line that a job may carry
-pub record Carried (words : List ℕ) (change : Table → Table) (p q : Progress) : Type 0 where
-  pub stood : Bool
-  pub text : p .rest ≡ lineIf stood words ++ q .rest
-  pub table : q .table ≡ cond stood (change (p .table)) (p .table)
+  -- where the line does not stand next, the other step is all that is taken
+  pub line-unwritten : (t : Table) (rest : List ℕ) → begins (line words) rest ≡ false
+      → lineOr words change other (record { table = t; rest = rest }) ≡ other (record { table = t; rest = rest })
+  line-unwritten t rest e = line-if t rest false e
 
-pub optional-took : (words : List ℕ) (change : Table → Table) (p q : Progress) → optional words change p ≡ some q → Carried words change p q
-optional-took words change p q e = go (bool-cases (begins (line words) (p .rest)))
+-- where the line does not stand next and no other step is left, nothing is taken
+pub line-absent : (words : List ℕ) (change : Table → Table) (job : List ℕ) (at : ℕ) (t : Table) → begins (line words) (drop at job) ≡ false
+    → told job (reading.At t at) ≡ onward (told job (reading.At t at)) (optional words change)
+unfolding optional told onward
+line-absent words change job at t e = line-passed words change stay job at t (reading.At t at) e refl
+
+-- ---- what was read
+
+-- the line was read
+pub record Taken (words : List ℕ) (change : Table → Table) (p q : Progress) : Type 0 where
+  pub text : p .rest ≡ line words ++ q .rest
+  pub table : q .table ≡ change (p .table)
+
+pub line-took : (words : List ℕ) (change : Table → Table) (other : Step) (p q : Progress) → lineOr words change other p ≡ some q
+    → Taken words change p q ⊎ (other p ≡ some q)
+line-took words change other p q e = go (bool-cases (begins (line words) (p .rest)))
   where
-    go : (begins (line words) (p .rest) ≡ true) ⊎ (begins (line words) (p .rest) ≡ false) → Carried words change p q
+    go : (begins (line words) (p .rest) ≡ true) ⊎ (begins (line words) (p .rest) ≡ false) → Taken words change p q ⊎ (other p ≡ some q)
     go (inl k) =
-        let h = sym (optional-if words change (p .table) (p .rest) true k) ∙ e in
+        let h = sym (line-if words change other (p .table) (p .rest) true k) ∙ e in
         let m : record { table = change (p .table); rest = drop (length (line words)) (p .rest) } ≡ q = cc in
-        record {
-          stood = true;
+        inl (record {
           text = begins-split (line words) (p .rest) k ∙ ap (λ (r : Progress). line words ++ r .rest) m;
           table = sym (ap (λ (r : Progress). r .table) m);
-        }
-    go (inr k) =
-        let h = sym (optional-if words change (p .table) (p .rest) false k) ∙ e in
-        let m : p ≡ q = cc in
-        record { stood = false; text = ap (λ (r : Progress). r .rest) m; table = sym (ap (λ (r : Progress). r .table) m) }
+        })
+    go (inr k) = inr (sym (line-if words change other (p .table) (p .rest) false k) ∙ e)
+
+-- which of some texts was read, the empty one perhaps; the table goes by it
+pub record Carried {A : Type 0} (textOf : A → List ℕ) (tableOf : A → Table) (p q : Progress) : Type 0 where
+  pub which : A
+  pub text : p .rest ≡ textOf which ++ q .rest
+  pub table : q .table ≡ tableOf which
+
+module _ {A : Type 0} (textOf : A → List ℕ) (tableOf : A → Table) (p q : Progress) (which : A) where
+  -- it was a line
+  pub carried-line : (words : List ℕ) (change : Table → Table) → Taken words change p q → textOf which ≡ line words
+      → change (p .table) ≡ tableOf which → Carried textOf tableOf p q
+  carried-line words change w l t =
+      record { which = which; text = w .text ∙ ap (λ (x : List ℕ). x ++ q .rest) (sym l); table = w .table ∙ t }
+
+  -- it was nothing
+  pub carried-none : some p ≡ some q → textOf which ≡ [] → p .table ≡ tableOf which → Carried textOf tableOf p q
+  carried-none e l t =
+      let m : p ≡ q = cc in
+      record {
+        which = which;
+        text = ap (λ (r : Progress). r .rest) m ∙ ap (λ (x : List ℕ). x ++ q .rest) (sym l);
+        table = sym (ap (λ (r : Progress). r .table) m) ∙ t;
+      }

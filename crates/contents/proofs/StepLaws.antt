@@ -10,6 +10,7 @@ use lib.ListN.{length, getD, drop, length-drop, drop-of-length-le}
 use borrow.Author.Tests.{eq-eqb, ne-eqb, not-true, not-false}
 use Rattle.trees.specs.declared.Body.{Body}
 use Rattle.trees.specs.declared.Body.the-variants.{S, T, K, J, O}
+use Rattle.contents.specs.declared.Stated.{Stated}
 use Rattle.contents.specs.declared.Table.{Table}
 use Rattle.contents.specs.declared.Layout.{Layout}
 use Rattle.contents.specs.declared.Layout.the-variants as layout
@@ -17,7 +18,7 @@ use Rattle.contents.specs.declared.Reading.{Reading}
 use Rattle.contents.specs.declared.Reading.the-variants as reading
 use Rattle.trees.specs.Refusals.{letterOf}
 use Rattle.contents.specs.Contents.{Step, Progress, onward, _andThen_, byteOf, byte, numberAt, putDown, lengthStep, withLength}
-use Rattle.contents.specs.Contents.{entry, emptyLine, strictLine, tableLines, begun, laidOut, layoutOf}
+use Rattle.contents.specs.Contents.{entry, emptyLine, strictLine, withStated, editionLine, tableLines, begun, laidOut, layoutOf}
 use Rattle.contents.specs.Steps.{Stands, told, Small, SmallTable, lengthBound}
 use Rattle.contents.proofs.RunLaws.{at-place}
 
@@ -35,6 +36,10 @@ step-then o f g e h = h ∙ ap (λ (k : Option Progress). onward k g) e ∙ sym 
 pub then-some : (f g : Step) (p m : Progress) → f p ≡ some m → (f andThen g) p ≡ g m
 unfolding onward _andThen_
 then-some f g p m e = ap (λ (o : Option Progress). onward o g) e
+
+pub then-none : (f g : Step) (p : Progress) → f p ≡ none → (f andThen g) p ≡ none
+unfolding onward _andThen_
+then-none f g p e = ap (λ (o : Option Progress). onward o g) e
 
 -- what lies between two steps that were taken
 pub record Between (f g : Step) (p q : Progress) : Type 0 where
@@ -129,6 +134,10 @@ small-with body n t u e h s = subst SmallTable (sym e) (go body)
     go J = s
     go O = s
 
+pub small-stated : (stated : Stated) (t u : Table) → u ≡ withStated stated t → SmallTable t → SmallTable u
+unfolding withStated
+small-stated stated t u e s = subst SmallTable (sym e) (record { one = s .one; two = s .two; three = s .three })
+
 pub laid-broken : (job : List ℕ) (x : Reading) → x ≡ reading.Broken → layout.Broken ≡ laidOut job (told job x)
 unfolding told laidOut
 laid-broken job x e = ap (λ (y : Reading). laidOut job (told job y)) (sym e)
@@ -152,14 +161,15 @@ entry-steps job body letter x a b c d l ea eb ec ed =
     (step-then (told job b) (lengthStep body) (byte 10) ec ed))
 
 -- the lines of the contents, one after another
-pub table-steps : (job : List ℕ) (s a b c d : Reading)
-    → told job s ≡ onward (told job (reading.At (begun job .table) 0)) strictLine → told job a ≡ onward (told job s) (entry S)
-    → told job b ≡ onward (told job a) (entry T) → told job c ≡ onward (told job b) (entry K) → told job d ≡ onward (told job c) (byte 10)
-    → laidOut job (told job d) ≡ layoutOf job
+pub table-steps : (job : List ℕ) (s e a b c d : Reading)
+    → told job s ≡ onward (told job (reading.At (begun job .table) 0)) strictLine → told job e ≡ onward (told job s) editionLine
+    → told job a ≡ onward (told job e) (entry S) → told job b ≡ onward (told job a) (entry T) → told job c ≡ onward (told job b) (entry K)
+    → told job d ≡ onward (told job c) (byte 10) → laidOut job (told job d) ≡ layoutOf job
 unfolding tableLines emptyLine layoutOf onward told
-table-steps job s a b c d es ea eb ec ed =
+table-steps job s e a b c d es ee ea eb ec ed =
     ap (laidOut job)
-    (step-then (some (begun job)) strictLine (entry S andThen entry T andThen entry K andThen byte 10) es
-    (step-then (told job s) (entry S) (entry T andThen entry K andThen byte 10) ea
+    (step-then (some (begun job)) strictLine (editionLine andThen entry S andThen entry T andThen entry K andThen byte 10) es
+    (step-then (told job s) editionLine (entry S andThen entry T andThen entry K andThen byte 10) ee
+    (step-then (told job e) (entry S) (entry T andThen entry K andThen byte 10) ea
     (step-then (told job a) (entry T) (entry K andThen byte 10) eb
-    (step-then (told job b) (entry K) (byte 10) ec ed))))
+    (step-then (told job b) (entry K) (byte 10) ec ed)))))

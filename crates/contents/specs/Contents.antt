@@ -1,6 +1,6 @@
 -- The table of contents of a job. Scope paper, "Job and printed result": "three lines `S n`, `T n`, `K n`, an empty line, then the
 -- first tree, the second tree and the required list, joined directly". Change requests, C-11: "A job may carry `strict` as its first
--- contents line".
+-- contents line". C-15: "A contents line `E 1` or `E 2`, after `strict` if that is there, picks the edition".
 use Prim.Native.Nat.{ℕ, _+_, _-_, _^_, _<_}
 use mathlib.Core.Path.{_≡_}
 use mathlib.Core.Bool.{Bool, true, false, cond, _&&_, _||_, not}
@@ -10,8 +10,12 @@ use lib.Dec.{eqb, leb}
 use lib.ListN.{length, take, drop, getD}
 use Rattle.trees.specs.declared.Body.{Body}
 use Rattle.trees.specs.declared.Body.the-variants.{S, T, K, J, O}
+use Rattle.trees.specs.declared.Edition.{Edition}
+use Rattle.trees.specs.declared.Edition.the-variants as edition
 use Rattle.trees.specs.Refusals.{letterOf}
 use Rattle.trees.specs.Words.{bytesOf}
+use Rattle.contents.specs.declared.Stated.{Stated}
+use Rattle.contents.specs.declared.Stated.the-variants as states
 use Rattle.contents.specs.declared.Table.{Table}
 use Rattle.contents.specs.declared.Layout.{Layout}
 use Rattle.contents.specs.declared.Layout.the-variants as layout
@@ -21,12 +25,19 @@ use Rattle.decimals.specs.Decimal.{decimalOf, digitRun, valueFrom}
 abbrev pub digitLimit : ℕ
 digitLimit = 5
 
--- what a job holds; `strict`: whether it carries that line
+-- what a job holds; `strict`: whether it carries that line; `stated`: which line of the edition it carries, if any
 pub record Bodies : Type 0 where
   pub strict : Bool
+  pub stated : Stated
   pub first : List ℕ
   pub second : List ℕ
   pub list : List ℕ
+
+-- C-15: the line "picks the edition, and a job without it has edition 1"
+unfoldable pub editionOf : Stated → Edition
+editionOf states.Nothing = edition.One
+editionOf states.One = edition.One
+editionOf states.Two = edition.Two
 
 -- ---- what a job is
 
@@ -49,17 +60,31 @@ unfoldable pub strictText : Bool → List ℕ
 unfolding line bytesOf
 strictText strict = lineIf strict (bytesOf "strict")
 
--- C-11: "as its first contents line"; then "three lines `S n`, `T n`, `K n`, an empty line"
+-- C-15: "A contents line `E 1` or `E 2`", or none of them
+unfoldable pub editionText : Stated → List ℕ
+unfolding line bytesOf
+editionText states.Nothing = []
+editionText states.One = line (bytesOf "E 1")
+editionText states.Two = line (bytesOf "E 2")
+
+-- C-11: "as its first contents line"; C-15: "after `strict` if that is there"; then "three lines `S n`, `T n`, `K n`, an empty line"
 unfoldable pub tableText : Table → List ℕ
-unfolding strictText entryLine line
+unfolding strictText editionText entryLine line
 tableText t =
     strictText (t .strict)
-    ++ (entryLine S (t .first) ++ (entryLine T (t .second) ++ (entryLine K (t .required) ++ line [])))
+    ++ (editionText (t .stated)
+    ++ (entryLine S (t .first) ++ (entryLine T (t .second) ++ (entryLine K (t .required) ++ line []))))
 
 -- "Each n is the body's length in bytes"
 unfoldable pub lengthsOf : Bodies → Table
 lengthsOf b =
-    record { strict = b .strict; first = length (b .first); second = length (b .second); required = length (b .list) }
+    record {
+      strict = b .strict;
+      stated = b .stated;
+      first = length (b .first);
+      second = length (b .second);
+      required = length (b .list);
+    }
 
 -- one to five digits
 pub record Short (t : Table) : Type 0 where
@@ -78,6 +103,10 @@ pub record Laid (job : List ℕ) (at : ℕ) (t : Table) : Type 0 where
 unfoldable pub jobOf : Bodies → List ℕ
 unfolding tableText lengthsOf
 jobOf b = tableText (lengthsOf b) ++ (b .first ++ (b .second ++ b .list))
+
+-- the same three bodies under other lines
+abbrev pub headed : Bool → Stated → Bodies → Bodies
+headed strict stated b = record { strict = strict; stated = stated; first = b .first; second = b .second; list = b .list }
 
 -- ---- how a job is read
 
@@ -126,9 +155,9 @@ numberAt text =
 
 -- a length put down for its body
 unfoldable pub withLength : Body → ℕ → Table → Table
-withLength S n t = record { strict = t .strict; first = n; second = t .second; required = t .required }
-withLength T n t = record { strict = t .strict; first = t .first; second = n; required = t .required }
-withLength K n t = record { strict = t .strict; first = t .first; second = t .second; required = n }
+withLength S n t = record { strict = t .strict; stated = t .stated; first = n; second = t .second; required = t .required }
+withLength T n t = record { strict = t .strict; stated = t .stated; first = t .first; second = n; required = t .required }
+withLength K n t = record { strict = t .strict; stated = t .stated; first = t .first; second = t .second; required = n }
 withLength J n t = t
 withLength O n t = t
 
@@ -157,26 +186,46 @@ begins [] text = true
 begins (b ∷ word) [] = false
 begins (b ∷ word) (x ∷ text) = eqb x b && begins word text
 
--- a line that a job may carry: taken where the whole line stands next, else nothing is taken
-unfoldable pub optional : List ℕ → (Table → Table) → Step
+-- a line taken where the whole of it stands next; else another step, from the same place
+unfoldable pub lineOr : List ℕ → (Table → Table) → Step → Step
 unfolding begins line
-optional words change p =
+lineOr words change other p =
     cond (begins (line words) (p .rest))
-    (some (record { table = change (p .table); rest = drop (length (line words)) (p .rest) })) (some p)
+    (some (record { table = change (p .table); rest = drop (length (line words)) (p .rest) })) (other p)
+
+-- nothing is taken
+abbrev pub stay : Step
+stay p = some p
+
+-- a line that a job may carry: where it does not stand next, nothing is taken
+unfoldable pub optional : List ℕ → (Table → Table) → Step
+unfolding lineOr
+optional words change = lineOr words change stay
 
 -- C-11: the job carries `strict`
 unfoldable pub withStrict : Table → Table
-withStrict t = record { strict = true; first = t .first; second = t .second; required = t .required }
+withStrict t = record { strict = true; stated = t .stated; first = t .first; second = t .second; required = t .required }
 
 -- the line `strict`, or nothing
 unfoldable pub strictLine : Step
 unfolding optional withStrict bytesOf
 strictLine = optional (bytesOf "strict") withStrict
 
--- the lines in their order; a further line is a further step. C-11: `strict` is "its first contents line"
+-- C-15: the job states this of its edition
+unfoldable pub withStated : Stated → Table → Table
+withStated stated t =
+    record { strict = t .strict; stated = stated; first = t .first; second = t .second; required = t .required }
+
+-- the line `E 1`, else the line `E 2`, else nothing: at most one of them is taken
+unfoldable pub editionLine : Step
+unfolding lineOr optional withStated bytesOf
+editionLine = lineOr (bytesOf "E 1") (withStated states.One) (optional (bytesOf "E 2") (withStated states.Two))
+
+-- the lines in their order; a further line is a further step. C-11: `strict` is "its first contents line"; C-15: the edition is "after
+-- `strict` if that is there", and "Any other `E` line" stands where the step of S wants its letter
 unfoldable pub tableLines : Step
-unfolding _andThen_ strictLine entry emptyLine
-tableLines = strictLine andThen entry S andThen entry T andThen entry K andThen emptyLine
+unfolding _andThen_ strictLine editionLine entry emptyLine
+tableLines = strictLine andThen editionLine andThen entry S andThen entry T andThen entry K andThen emptyLine
 
 -- "The lengths must add up to exactly the rest of the job": where the bodies begin, and their lengths
 unfoldable pub laidOut : List ℕ → Option Progress → Layout
@@ -187,7 +236,8 @@ laidOut job (some p) =
 
 -- before the first line
 abbrev pub begun : List ℕ → Progress
-begun job = record { table = record { strict = false; first = 0; second = 0; required = 0 }; rest = job }
+begun job =
+    record { table = record { strict = false; stated = states.Nothing; first = 0; second = 0; required = 0 }; rest = job }
 
 unfoldable pub layoutOf : List ℕ → Layout
 unfolding laidOut tableLines
@@ -198,6 +248,7 @@ unfoldable pub bodiesIn : List ℕ → Layout → Option Bodies
 bodiesIn job (layout.Bodies at t) =
     some (record {
       strict = t .strict;
+      stated = t .stated;
       first = take (t .first) (drop at job);
       second = take (t .second) (drop (at + t .first) job);
       list = take (t .required) (drop (at + t .first + t .second) job);
@@ -208,6 +259,11 @@ bodiesIn job layout.Broken = none
 unfoldable pub bodiesOf : List ℕ → Option Bodies
 unfolding bodiesIn layoutOf
 bodiesOf job = bodiesIn job (layoutOf job)
+
+-- where the first tree begins in the job
+unfoldable pub firstPlace : Layout → ℕ
+firstPlace (layout.Bodies at t) = at
+firstPlace layout.Broken = 0
 
 -- where the required list begins in the job
 unfoldable pub listPlace : Layout → ℕ

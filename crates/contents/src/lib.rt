@@ -1,21 +1,29 @@
-// The table of contents of a job: the line `strict` where the job carries it, a line with the length of each body, an empty line, then
-// the bodies.
+// The table of contents of a job: the line `strict` and a line of the edition where the job carries them, a line with the length of
+// each body, an empty line, then the bodies.
 //
-// The one public function has no `requires`. Each line is a step from one state of reading to the next, so a further line is a
-// further step.
+// No public function has a `requires`. Each line is a step from one state of reading to the next, so a further line is a further step.
 use crate::decimal::Digits;
 use trees::Body;
+use trees::Edition;
 ghost use mathlib.Core.Path.{_≡_};
 ghost use lib.ListN.{drop};
 ghost use Rattle.contents.specs.Contents.{onward, byte, lengthStep, entry, withLength, laidOut, layoutOf};
-ghost use Rattle.contents.specs.Contents.{begins, strictLine};
+ghost use Rattle.contents.specs.Contents.{begins, strictLine, withStated, editionLine, editionOf};
 ghost use Rattle.contents.specs.Steps.{Stands, told, Small};
 
 mod decimal;
 
-// Whether the job carries the line `strict`, and the lengths of the bodies, in bytes.
+// What a job states of its edition: no line, `E 1` or `E 2`.
+pub enum Stated {
+    Nothing,
+    One,
+    Two,
+}
+
+// Whether the job carries the line `strict`, what it states of its edition, and the lengths of the bodies, in bytes.
 pub struct Table {
     pub strict: bool,
+    pub stated: Stated,
     pub first: usize,
     pub second: usize,
     pub required: usize,
@@ -87,8 +95,10 @@ fn strict_after(job: &[u8], state: Reading) -> Reading
     if !begins_at(job, at, line) {
         return state;
     }
+    let stated = table.stated;
     let strict = Table {
         strict: true,
+        stated: stated,
         first: table.first,
         second: table.second,
         required: table.required,
@@ -96,25 +106,62 @@ fn strict_after(job: &[u8], state: Reading) -> Reading
     Reading::At(strict, at + line.len())
 }
 
+// What the job states of its edition, put down.
+fn with_stated(table: Table, stated: Stated) -> Table
+    ensures { λ r. ⌜ r ≡ withStated stated table ⌝ }
+{
+    Table {
+        strict: table.strict,
+        stated: stated,
+        first: table.first,
+        second: table.second,
+        required: table.required,
+    }
+}
+
+// The step over the line of the edition, which a job may leave out: at most one line is taken.
+fn edition_after(job: &[u8], state: Reading) -> Reading
+    requires { ⌜ Small (now job) state ⌝ }
+    ensures step { λ r. ⌜ told (now (job .entry)) r ≡ onward (told (now (job .entry)) state) editionLine ⌝ }
+    ensures small { λ r. ⌜ Small (now (job .entry)) r ⌝ }
+{
+    let Reading::At(table, at) = state else {
+        return Reading::Broken;
+    };
+    let one = b"E 1\n";
+    if begins_at(job, at, one) {
+        return Reading::At(with_stated(table, Stated::One), at + one.len());
+    }
+    let two = b"E 2\n";
+    if begins_at(job, at, two) {
+        return Reading::At(with_stated(table, Stated::Two), at + two.len());
+    }
+    state
+}
+
 // A length put down for its body.
 fn with_length(table: Table, body: Body, n: usize) -> Table
     ensures { λ r. ⌜ r ≡ withLength body n table ⌝ }
 {
+    let stated = table.stated;
     match body {
         Body::S => Table {
             strict: table.strict,
+            stated: stated,
             first: n,
             second: table.second,
             required: table.required,
         },
         Body::T => Table {
             strict: table.strict,
+            stated: stated,
             first: table.first,
             second: n,
             required: table.required,
         },
         Body::K => Table {
             strict: table.strict,
+            stated: stated,
             first: table.first,
             second: table.second,
             required: n,
@@ -173,15 +220,28 @@ pub fn contents(job: &[u8]) -> Layout
 {
     let nothing = Table {
         strict: false,
+        stated: Stated::Nothing,
         first: 0,
         second: 0,
         required: 0,
     };
     let start = Reading::At(nothing, 0);
     let strict = strict_after(job, start);
-    let first = entry_after(job, strict, Body::S);
+    let edition = edition_after(job, strict);
+    let first = entry_after(job, edition, Body::S);
     let second = entry_after(job, first, Body::T);
     let required = entry_after(job, second, Body::K);
     let end = byte_after(job, required, b'\n');
     laid_out(job, end)
+}
+
+// The edition that a job has by what it states: the first one if it states nothing.
+pub fn edition_of(stated: Stated) -> Edition
+    ensures { λ r. ⌜ r ≡ editionOf stated ⌝ }
+{
+    match stated {
+        Stated::Nothing => Edition::One,
+        Stated::One => Edition::One,
+        Stated::Two => Edition::Two,
+    }
 }

@@ -5,9 +5,9 @@ use mathlib.Core.List.{List, [], _∷_, _++_, map, append-assoc, append-nil, map
 use native.Mathlib.Nat.{add-zero, zero-add}
 use native.Mathlib.Numerals.{add-one}
 use native.Mathlib.Omega.{arith}
-use lib.ListN.{length, getD, set, take, drop, replicate, length-append, length-take, length-map, length-set, take-append-drop, drop-of-length-le}
+use lib.ListN.{length, getD, set, take, drop, replicate, length-append, length-take, length-map, length-set, take-append-drop}
 use lib.Seq.{take-at, take-suc, take-suc-set, drop-set-lt, drop-drop, take-length}
-use borrow.Author.Tests.{le-leb, lt-leb, eq-eqb, ne-eqb}
+use borrow.Author.Tests.{le-leb, lt-leb}
 use Rattle.trees.specs.Label.{Label, labelLimit}
 use Rattle.trees.specs.Stored.{partOf, storedOf, storedBytes, shownOf, shownBytes}
 use Rattle.trees.specs.Token.{Token, spelling, tokenOf, tokenLimit}
@@ -16,8 +16,7 @@ use Rattle.trees.proofs.TokenLaws.{token-short}
 use Rattle.lists.specs.ReadList.{joined}
 use Rattle.job.specs.declared.LineAnswer.the-variants.{Written, TooShort}
 use Rattle.job.specs.Answered.{outputShort, lineAnswer, lineOutput, labelIn}
-use Rattle.contents.proofs.RunLaws.{at-place}
-use Rattle.job.specs.Areas.{Put, item, labelsIn, untilComma}
+use Rattle.job.specs.Areas.{Put, item, labelsIn}
 use Rattle.job.specs.Printed.{itemRoom}
 
 -- ---- one text after another
@@ -186,18 +185,3 @@ put-label text starts sizes n p q =
 pub first-none : (a : List ℕ) (at : ℕ) (text starts sizes : List ℕ) → Put a at (joined (map tokenOf (labelsIn text starts sizes 0))) at a
 unfolding labelsIn joined
 first-none a at text starts sizes = put-to (at + 0) at (add-zero at) (put-none a at)
-
--- ---- the bytes before a comma
-
-pub until-go : (list : List ℕ) (i : ℕ) → i < length list → (getD list i 0 ≡ 44 → ⊥)
-    → length (untilComma (drop i list)) ≡ suc (length (untilComma (drop (i + 1) list)))
-unfolding untilComma
-until-go list i h d = rw (at-place list i h, ne-eqb (getD list i 0) 44 d) refl
-
-pub until-stop : (list : List ℕ) (i : ℕ) → i < length list → getD list i 0 ≡ 44 → length (untilComma (drop i list)) ≡ 0
-unfolding untilComma
-until-stop list i h d = rw (at-place list i h, eq-eqb (getD list i 0) 44 d) refl
-
-pub until-end : (list : List ℕ) (i : ℕ) → length list ≤ i → length (untilComma (drop i list)) ≡ 0
-unfolding untilComma
-until-end list i h = rw (drop-of-length-le list h) refl

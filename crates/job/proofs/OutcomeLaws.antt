@@ -3,7 +3,7 @@ use Prim.Native.Nat.{ℕ, _≤_}
 use mathlib.Core.Path.{_≡_, refl, sym, _∙_, ap, subst}
 use mathlib.Core.Bool.{true, false, cond}
 use mathlib.Core.Logic.{_⊎_, inl, inr, _↔_}
-use mathlib.Core.List.{List, map}
+use mathlib.Core.List.{List}
 use mathlib.Core.Option.{Option, some, none}
 use native.Mathlib.Omega.{arith}
 use lib.Dec.{leb}
@@ -12,14 +12,17 @@ use borrow.Author.Tests.{le-leb, lt-leb, leb-true, leb-false}
 use Rattle.trees.specs.declared.Reason.the-variants.{Contents, JobTooLong}
 use Rattle.trees.specs.declared.Body.the-variants.{J}
 use Rattle.trees.specs.Text.{treeRoom}
-use Rattle.trees.specs.Token.{Token, spelling}
-use Rattle.trees.specs.Tree.{Tree, decoded}
+use Rattle.trees.specs.declared.Edition.{Edition}
+use Rattle.trees.specs.Edition.{folded, keyed}
+use Rattle.trees.specs.Token.{Token}
+use Rattle.trees.specs.Tree.{Tree}
 use Rattle.trees.specs.Reading.{Reading, good, refused}
 use Rattle.trees.proofs.Bools.{bool-cases}
 use Rattle.trees.proofs.TokenLaws.{valid-decoded}
-use Rattle.newick.specs.ReadTree.{readTree}
+use Rattle.trees.proofs.EditionLaws.{valid-folded}
+use Rattle.newick.specs.ReadTree.{readTreeIn}
 use Rattle.newick.proofs.Promises as newick
-use Rattle.lists.specs.ReadList.{readList}
+use Rattle.lists.specs.ReadList.{readListIn, keysOf}
 use Rattle.lists.proofs.Promises as lists
 use Rattle.agreement.specs.Answer.{Answer, firstLacks, secondLacks, disagree, largest, answer}
 use Rattle.agreement.specs.Outcome.{Outcome}
@@ -29,29 +32,21 @@ use Rattle.contents.specs.Contents.{Bodies, bodiesOf}
 use Rattle.contents.proofs.Promises as contents
 use Rattle.contents.proofs.StepLaws.{none-some}
 use Rattle.mast.specs.Given.{Reads}
-use Rattle.mast.specs.Largest.{Solution, solutionOf, solveList, strayFor, solveShared, solveSecond, solveFirst, solve}
+use Rattle.mast.specs.Largest.{Solution, solutionOf, solveList, strayFor, solveShared, solveSecond, solveFirst, Task, task, solve}
 use Rattle.mast.proofs.Promises as mast
 use Rattle.mast.proofs.StrayLaws.{nowhere-shared, stray-strict}
 use Rattle.job.specs.Printed.{jobLimit, taskOf, solveBodies, solveJob, printedOf, printed}
-use Rattle.job.specs.Outcome.{Follows, Holds, TreeBody, ListBody, Asks, refusal, JobOutcome}
+use Rattle.job.specs.Outcome.{Follows, Holds, editionIn, TreeBody, Asks, refusal, JobOutcome}
 use Rattle.job.specs.Outcome.{too-long, no-contents, first-fault, second-fault, list-fault, stray-first, stray-second, first-lacks, second-lacks, disagreement, largest-set}
 use Rattle.job.proofs.RoomLaws.{text-fits}
 
 -- ---- bodies that are read
 
-tree-body : (text : List ℕ) (t : Tree) → readTree text ≡ good t → TreeBody text t
-tree-body text t e = let w = newick.accepted-text text t e in record { is = w .0; valid = w .1 }
+tree-body : (e : Edition) (text : List ℕ) (t : Tree) → readTreeIn e text ≡ good t → TreeBody e text t
+tree-body e text t d = let w = newick.accepted-text e text t d in record { is = w .0; valid = w .1 }
 
-pub body-tree : (text : List ℕ) (t : Tree) → TreeBody text t → readTree text ≡ good t
-body-tree text t b = ap readTree (b .is) ∙ newick.valid-read t (b .valid)
-
-list-body : (text : List ℕ) (xs : List Token) → readList text ≡ good xs → ListBody text xs
-list-body text xs e =
-    let w = lists.accepted-list text xs e in
-    record { is = w .0; labels = w .1; different = w .2; few = w .3 }
-
-body-list : (text : List ℕ) (xs : List Token) → ListBody text xs → readList text ≡ good xs
-body-list text xs b = ap readList (b .is) ∙ lists.labels-read xs (b .labels) (b .different) (b .few)
+pub body-tree : (e : Edition) (text : List ℕ) (t : Tree) → TreeBody e text t → readTreeIn e text ≡ good t
+body-tree e text t b = ap (readTreeIn e) (b .is) ∙ newick.valid-read e t (b .valid)
 
 holds-bodies : (job : List ℕ) (b : Bodies) → Holds job b → bodiesOf job ≡ some b
 holds-bodies job b h = contents.bodies-promise job b .1 (h .contents .text, h .contents .short)
@@ -62,47 +57,51 @@ bodies-follow job b e = let w = contents.bodies-promise job b .0 e in record { t
 -- ---- each job has an outcome
 
 module _ (job : List ℕ) (b : Bodies) (held : Holds job b) where
-  module _ (s t : Tree) (first : readTree (b .first) ≡ good s) (second : readTree (b .second) ≡ good t) where
-    abbrev one-body : TreeBody (b .first) s
-    one-body = tree-body (b .first) s first
+  abbrev E : Edition
+  E = editionIn b
 
-    abbrev two-body : TreeBody (b .second) t
-    two-body = tree-body (b .second) t second
+  module _ (s t : Tree) (first : readTreeIn E (b .first) ≡ good s) (second : readTreeIn E (b .second) ≡ good t) where
+    abbrev one-body : TreeBody E (b .first) s
+    one-body = tree-body E (b .first) s first
 
-    module _ (shared : b .strict ≡ true → SameLeaves (decoded s) (decoded t)) where
-      asks : (xs : List Token) → readList (b .list) ≡ good xs → Asks job s t xs
+    abbrev two-body : TreeBody E (b .second) t
+    two-body = tree-body E (b .second) t second
+
+    module _ (shared : b .strict ≡ true → SameLeaves (keyed E s) (keyed E t)) where
+      asks : (xs : List Token) → readListIn E (b .list) ≡ good xs → Asks job E s t xs
       asks xs e = record {
         bodies = b;
         held = held;
+        edition = refl;
         first = one-body;
         second = two-body;
         shared = shared;
-        required = list-body (b .list) xs e;
+        required = lists.accepted-list E (b .list) xs e;
       }
 
-      listed : (z : Reading (List Token)) → readList (b .list) ≡ z → JobOutcome job (solveList s t treeRoom z)
+      listed : (z : Reading (List Token)) → readListIn E (b .list) ≡ z → JobOutcome job (solveList E s t treeRoom z)
       unfolding solveList solutionOf
-      listed (refused r i) e = list-fault b held s t one-body two-body shared r i (lists.refused-first (b .list) r i e)
-      listed (good xs) e = answers (answer (decoded s) (decoded t) (map spelling xs)) refl
+      listed (refused r i) e = list-fault b held s t one-body two-body shared r i (lists.refused-first E (b .list) r i e)
+      listed (good xs) e = answers (answer (keyed E s) (keyed E t) (keysOf E xs)) refl
         where
-          a : Asks job s t xs
+          a : Asks job E s t xs
           a = asks xs e
 
-          told : (A : Answer) → answer (decoded s) (decoded t) (map spelling xs) ≡ A → Outcome (decoded s) (decoded t) (map spelling xs) A
+          told : (A : Answer) → answer (keyed E s) (keyed E t) (keysOf E xs) ≡ A → Outcome (keyed E s) (keyed E t) (keysOf E xs) A
           told A k =
-              agreement.answer-promise (decoded s) (decoded t) (map spelling xs) (valid-decoded s (a .first .valid)) (a .required .different) A .0 k
+              agreement.answer-promise (keyed E s) (keyed E t) (keysOf E xs) (valid-decoded (folded E s) (valid-folded E s (a .first .valid))) (a .required .different) A .0 k
 
-          answers : (A : Answer) → answer (decoded s) (decoded t) (map spelling xs) ≡ A → JobOutcome job (solutionOf s xs treeRoom A)
-          answers (firstLacks n) k = first-lacks s t xs a n (told (firstLacks n) k)
-          answers (secondLacks n) k = second-lacks s t xs a n (told (secondLacks n) k)
+          answers : (A : Answer) → answer (keyed E s) (keyed E t) (keysOf E xs) ≡ A → JobOutcome job (solutionOf E s xs treeRoom A)
+          answers (firstLacks n) k = first-lacks E s t xs a n (told (firstLacks n) k)
+          answers (secondLacks n) k = second-lacks E s t xs a n (told (secondLacks n) k)
           answers (disagree p q r) k =
               let o = told (disagree p q r) k in
-              disagreement s t xs a p q r (o .0) (o .1)
+              disagreement E s t xs a p q r (o .0) (o .1)
           answers (largest X) k =
-              subst (JobOutcome job) (sym (text-fits s X (a .first .valid))) (largest-set s t xs a X (told (largest X) k))
+              subst (JobOutcome job) (sym (text-fits E s X (a .first .valid))) (largest-set E s t xs a X (told (largest X) k))
 
     -- number 12 only where the job is strict
-    shared-outcome : (z : Stray) → strayFor (taskOf b .options) s t ≡ z → JobOutcome job (solveShared s t treeRoom (readList (b .list)) z)
+    shared-outcome : (z : Stray) → strayFor (taskOf b .options) s t ≡ z → JobOutcome job (solveShared E s t treeRoom (readListIn E (b .list)) z)
     unfolding solveShared
     shared-outcome (inFirst x) e =
         let w = stray-strict (taskOf b .options) s t (inFirst x) e (λ k. let z : _≡_ {A = ℕ} 0 1 = cc in absurd (omega arith)) in
@@ -110,17 +109,17 @@ module _ (job : List ℕ) (b : Bodies) (held : Holds job b) where
     shared-outcome (inSecond x) e =
         let w = stray-strict (taskOf b .options) s t (inSecond x) e (λ k. let z : _≡_ {A = ℕ} 0 1 = cc in absurd (omega arith)) in
         stray-second b held (w .0) s t one-body two-body x (w .1 .0) (w .1 .1)
-    shared-outcome nowhere e = listed (nowhere-shared (taskOf b .options) s t e) (readList (b .list)) refl
+    shared-outcome nowhere e = listed (nowhere-shared (taskOf b .options) s t e) (readListIn E (b .list)) refl
 
   bodies-outcome : JobOutcome job (solve (taskOf b) treeRoom)
   unfolding solve solveFirst solveSecond
-  bodies-outcome = go (readTree (b .first)) (readTree (b .second)) refl refl
+  bodies-outcome = go (readTreeIn E (b .first)) (readTreeIn E (b .second)) refl refl
     where
-      go : (x y : Reading Tree) → readTree (b .first) ≡ x → readTree (b .second) ≡ y
-          → JobOutcome job (solveFirst (taskOf b .options) treeRoom x y (readList (b .list)))
-      go (refused r i) y ex ey = first-fault b held r i (newick.refused-first (b .first) r i ex)
+      go : (x y : Reading Tree) → readTreeIn E (b .first) ≡ x → readTreeIn E (b .second) ≡ y
+          → JobOutcome job (solveFirst (taskOf b .options) treeRoom x y (readListIn E (b .list)))
+      go (refused r i) y ex ey = first-fault b held r i (newick.refused-first E (b .first) r i ex)
       go (good s) (refused r i) ex ey =
-          second-fault b held s (tree-body (b .first) s ex) r i (newick.refused-first (b .second) r i ey)
+          second-fault b held s (tree-body E (b .first) s ex) r i (newick.refused-first E (b .second) r i ey)
       go (good s) (good t) ex ey = shared-outcome s t ex ey (strayFor (taskOf b .options) s t) refl
 
 outcome : (job : List ℕ) → JobOutcome job (solveJob job)
@@ -143,23 +142,34 @@ module _ (job : List ℕ) (b : Bodies) (held : Holds job b) where
   unfolding solveJob solveBodies
   job-solve = rw (le-leb (length job) jobLimit (held .size)) (ap solveBodies (holds-bodies job b held))
 
-module _ (job : List ℕ) (s t : Tree) (xs : List Token) (asks : Asks job s t xs) where
+module _ (job : List ℕ) (e : Edition) (s t : Tree) (xs : List Token) (asks : Asks job e s t xs) where
   abbrev bodies : Bodies
   bodies = asks .bodies
 
-  reads : Reads (taskOf bodies) s t xs
+  -- the edition is the one that the job states
+  asked : Task
+  asked = task (record { strict = bodies .strict; edition = e }) (bodies .first) (bodies .second) (bodies .list)
+
+  asked-is : asked ≡ taskOf bodies
+  unfolding asked
+  asked-is = ap (λ (d : Edition). task (record { strict = bodies .strict; edition = d }) (bodies .first) (bodies .second) (bodies .list)) (asks .edition)
+
+  reads : Reads asked s t xs
+  unfolding asked
   reads =
       record {
-        first-is = body-tree (bodies .first) s (asks .first);
-        second-is = body-tree (bodies .second) t (asks .second);
+        first-is = body-tree e (bodies .first) s (asks .first);
+        second-is = body-tree e (bodies .second) t (asks .second);
         shared = asks .shared;
-        list-is = body-list (bodies .list) xs (asks .required);
+        list-is = lists.labels-read e (bodies .list) xs (asks .required);
       }
 
-  decided : (A : Answer) → Outcome (decoded s) (decoded t) (map spelling xs) A → solveJob job ≡ solutionOf s xs treeRoom A
+  decided : (A : Answer) → Outcome (keyed e s) (keyed e t) (keysOf e xs) A → solveJob job ≡ solutionOf e s xs treeRoom A
+  unfolding asked
   decided A o =
       job-solve job bodies (asks .held)
-      ∙ mast.outcome-promise (taskOf bodies) treeRoom s t xs reads A o
+      ∙ ap (λ (q : Task). solve q treeRoom) (sym asked-is)
+      ∙ mast.outcome-promise asked treeRoom s t xs reads A o
 
 one : (job : List ℕ) (x : Solution) → JobOutcome job x → solveJob job ≡ x
 unfolding solutionOf solveJob solveBodies
@@ -170,22 +180,22 @@ one job x (no-contents h never) = rw (le-leb (length job) jobLimit h) (go (bodie
     go none e = refl
     go (some b) e = absurd (never b (bodies-follow job b e))
 one job x (first-fault b held r i f) =
-    job-solve job b held ∙ mast.first-body (taskOf b) treeRoom r i (newick.first-refused (b .first) r i f)
+    job-solve job b held ∙ mast.first-body (taskOf b) treeRoom r i (newick.first-refused (editionIn b) (b .first) r i f)
 one job x (second-fault b held s p r i f) =
     job-solve job b held
-    ∙ mast.second-body (taskOf b) treeRoom r i s (body-tree (b .first) s p) (newick.first-refused (b .second) r i f)
+    ∙ mast.second-body (taskOf b) treeRoom r i s (body-tree (editionIn b) (b .first) s p) (newick.first-refused (editionIn b) (b .second) r i f)
 one job x (list-fault b held s t p q h r i f) =
     job-solve job b held
-    ∙ mast.third-body (taskOf b) treeRoom r i s t (body-tree (b .first) s p) (body-tree (b .second) t q) h
-    (lists.first-refused (b .list) r i f)
+    ∙ mast.third-body (taskOf b) treeRoom r i s t (body-tree (editionIn b) (b .first) s p) (body-tree (editionIn b) (b .second) t q) h
+    (lists.first-refused (editionIn b) (b .list) r i f)
 one job x (stray-first b held e s t p q y k) =
-    job-solve job b held ∙ mast.stray-in-first (taskOf b) treeRoom s t (body-tree (b .first) s p) (body-tree (b .second) t q) e y k
+    job-solve job b held ∙ mast.stray-in-first (taskOf b) treeRoom s t (body-tree (editionIn b) (b .first) s p) (body-tree (editionIn b) (b .second) t q) e y k
 one job x (stray-second b held e s t p q y a k) =
-    job-solve job b held ∙ mast.stray-in-second (taskOf b) treeRoom s t (body-tree (b .first) s p) (body-tree (b .second) t q) e y a k
-one job x (first-lacks s t xs asks n o) = decided job s t xs asks (firstLacks n) o
-one job x (second-lacks s t xs asks n o) = decided job s t xs asks (secondLacks n) o
-one job x (disagreement s t xs asks a b c held o) = decided job s t xs asks (disagree a b c) (held, o)
-one job x (largest-set s t xs asks X o) = decided job s t xs asks (largest X) o ∙ text-fits s X (asks .first .valid)
+    job-solve job b held ∙ mast.stray-in-second (taskOf b) treeRoom s t (body-tree (editionIn b) (b .first) s p) (body-tree (editionIn b) (b .second) t q) e y a k
+one job x (first-lacks e s t xs asks n o) = decided job e s t xs asks (firstLacks n) o
+one job x (second-lacks e s t xs asks n o) = decided job e s t xs asks (secondLacks n) o
+one job x (disagreement e s t xs asks a b c held o) = decided job e s t xs asks (disagree a b c) (held, o)
+one job x (largest-set e s t xs asks X o) = decided job e s t xs asks (largest X) o ∙ text-fits e s X (asks .first .valid)
 
 pub outcome-exactly : (job : List ℕ) (x : Solution) → (solveJob job ≡ x) ↔ JobOutcome job x
 outcome-exactly job x = (λ (e : solveJob job ≡ x). subst (JobOutcome job) e (outcome job), one job x)

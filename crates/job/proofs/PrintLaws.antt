@@ -1,19 +1,19 @@
 -- What is printed for a job, from the answer to it. Assumes nothing.
 use Prim.Native.Nat.{ℕ}
 use mathlib.Core.Path.{_≡_, refl, sym, _∙_, ap}
-use mathlib.Core.List.{List}
+use mathlib.Core.List.{List, map}
 use native.Mathlib.Omega.{arith}
 use lib.ListN.{length}
 use Rattle.trees.specs.declared.Refusal.{Refusal}
 use Rattle.trees.specs.Refusals.{numberOf}
-use Rattle.contents.specs.Contents.{layoutOf, listPlace}
+use Rattle.agreement.specs.Places.{nameIn}
 use Rattle.mast.specs.Largest.{Solution, solved, clashed, turned}
 use Rattle.job.specs.declared.JobAnswer.{JobAnswer}
 use Rattle.job.specs.declared.JobAnswer.the-variants as job-answer
 use Rattle.job.specs.declared.LineAnswer.the-variants.{Written, TooShort}
 use Rattle.job.specs.declared.Named.{Named}
 use Rattle.job.specs.Printed.{recordLines, printedOf, printed, solveJob}
-use Rattle.job.specs.Answered.{lineAnswer, lineOutput, answered, answerTo, jobOutput}
+use Rattle.job.specs.Answered.{lineAnswer, lineOutput, beginIn, answered, answerTo, jobOutput}
 use Rattle.job.proofs.RecordLaws.{record-written, record-refused, record-no-clash}
 use Rattle.job.proofs.RoomLaws.{job-fits}
 
@@ -22,7 +22,7 @@ module _ (job out : List ℕ) where
   room = length out
 
   abbrev told : Solution → JobAnswer
-  told x = answered (listPlace (layoutOf job)) room x
+  told x = answered (beginIn job) room x
 
   pub printed-lines : (n : ℕ) → answerTo job room ≡ job-answer.Written n
       → (Written n ≡ lineAnswer (printed job) room) × (jobOutput (solveJob job) out ≡ lineOutput (printed job) out)
@@ -31,8 +31,8 @@ module _ (job out : List ℕ) where
     where
       go : (x : Solution) → told x ≡ job-answer.Written n
           → (Written n ≡ lineAnswer (printedOf x) room) × (jobOutput x out ≡ lineOutput (printedOf x) out)
-      go (solved s X text) h = (record-written (recordLines X text) room n h, refl)
-      go (clashed xs a b c) h = let z : _≡_ {A = ℕ} 0 1 = cc in absurd (omega arith)
+      go (solved d s X text) h = (record-written (recordLines (map (nameIn d s) X) text) room n h, refl)
+      go (clashed d s xs a b c) h = let z : _≡_ {A = ℕ} 0 1 = cc in absurd (omega arith)
       go (turned q) h = let z : _≡_ {A = ℕ} 0 1 = cc in absurd (omega arith)
 
   pub output-clash : (n : Named) → answerTo job room ≡ job-answer.Disagree n → jobOutput (solveJob job) out ≡ out
@@ -40,8 +40,8 @@ module _ (job out : List ℕ) where
   output-clash n e = go (solveJob job) e
     where
       go : (x : Solution) → told x ≡ job-answer.Disagree n → jobOutput x out ≡ out
-      go (solved s X text) h = absurd (record-no-clash (recordLines X text) room n h)
-      go (clashed xs a b c) h = refl
+      go (solved d s X text) h = absurd (record-no-clash (recordLines (map (nameIn d s) X) text) room n h)
+      go (clashed d s xs a b c) h = refl
       go (turned q) h = refl
 
   module _ (q : Refusal) (e : answerTo job room ≡ job-answer.Refused q) where
@@ -53,8 +53,8 @@ module _ (job out : List ℕ) where
       where
         go : (x : Solution) → solveJob job ≡ x → told x ≡ job-answer.Refused q
             → (TooShort q ≡ lineAnswer (printedOf x) room) × (jobOutput x out ≡ lineOutput (printedOf x) out)
-        go (solved s X text) k h = (record-refused (recordLines X text) room q h .0, refl)
-        go (clashed xs a b c) k h = let z : _≡_ {A = ℕ} 0 1 = cc in absurd (omega arith)
+        go (solved d s X text) k h = (record-refused (recordLines (map (nameIn d s) X) text) room q h .0, refl)
+        go (clashed d s xs a b c) k h = let z : _≡_ {A = ℕ} 0 1 = cc in absurd (omega arith)
         go (turned p) k h =
             let g : p ≡ q = cc in
             absurd (job-fits job p k (ap (λ (r : Refusal). numberOf (r .reason)) g ∙ n))
@@ -65,6 +65,6 @@ module _ (job out : List ℕ) where
     printed-refusal n = go (solveJob job) e
       where
         go : (x : Solution) → told x ≡ job-answer.Refused q → (printedOf (turned q) ≡ printedOf x) × (jobOutput x out ≡ out)
-        go (solved s X text) h = absurd (n (record-refused (recordLines X text) room q h .1))
-        go (clashed xs a b c) h = let z : _≡_ {A = ℕ} 0 1 = cc in absurd (omega arith)
+        go (solved d s X text) h = absurd (n (record-refused (recordLines (map (nameIn d s) X) text) room q h .1))
+        go (clashed d s xs a b c) h = let z : _≡_ {A = ℕ} 0 1 = cc in absurd (omega arith)
         go (turned p) h = let g : p ≡ q = cc in (ap (λ (r : Refusal). printedOf (turned r)) (sym g), refl)

@@ -15,22 +15,23 @@ use Rattle.trees.specs.declared.Refusal.{Refusal}
 use Rattle.trees.specs.Label.{Label}
 use Rattle.trees.specs.Text.{treeRoom}
 use Rattle.trees.specs.Token.{Token, tokenOf, goodLabels}
-use Rattle.trees.specs.Tree.{Tree, leafLimit, decoded}
+use Rattle.trees.specs.Tree.{Tree, leafLimit}
+use Rattle.trees.specs.declared.Edition.{Edition}
 use Rattle.trees.specs.Stored.{partOf}
 use Rattle.trees.specs.Words.{bytesOf}
 use Rattle.trees.specs.Writable.{writableLabels}
 use Rattle.trees.proofs.Bools.{bool-cases}
 use Rattle.trees.proofs.ListLaws.{good-head}
 use Rattle.trees.proofs.TokenLaws.{good-short}
-use Rattle.trees.proofs.WritableLaws.{decoded-writable, tokens-good}
+use Rattle.trees.proofs.WritableLaws.{tokens-good}
 use Rattle.lists.specs.ReadList.{joined}
 use Rattle.agreement.specs.Sets.{setOf}
-use Rattle.agreement.specs.Restrict.{restrict}
-use Rattle.agreement.specs.Places.{keptText}
+use Rattle.agreement.specs.Restrict.{restrictIn}
+use Rattle.agreement.specs.Places.{keptTextIn, nameIn}
 use Rattle.contents.specs.Contents.{line}
 use Rattle.decimals.specs.Decimal.{decimalOf}
 use Rattle.mast.specs.Largest.{Solution, solved, clashed, turned}
-use Rattle.job.specs.Printed.{jobLimit, itemRoom, recordRoom, solveJob, refusedWords, recordLines, printedOf, printed}
+use Rattle.job.specs.Printed.{jobLimit, itemRoom, recordRoom, solveJob, refusedWords, recordLines, printedOf, printed, eightLine}
 use Rattle.job.specs.Outcome.{JobOutcome, too-long, no-contents, first-fault, second-fault, list-fault, stray-first, stray-second, first-lacks, second-lacks, disagreement, largest-set}
 use Rattle.job.specs.Answered.{lineAnswer, lineOutput, writtenPart}
 use Rattle.job.proofs.AnswerLaws.{job-long}
@@ -87,10 +88,10 @@ line-size : (w v : List ℕ) → length (line (w ++ v)) ≡ length w + length v 
 unfolding line
 line-size w v = omega (arith, length-append (w ++ v) (10 ∷ []), length-append w v)
 
-record-short : (s : Tree) (X : List Label) (text : List ℕ) → length X ≤ leafLimit → writableLabels X ≡ true → length text ≤ treeRoom
-    → length (printedOf (solved s X text)) ≤ recordRoom
-unfolding printedOf recordLines bytesOf
-record-short s X text few can short =
+record-short : (X : List Label) (text : List ℕ) → length X ≤ leafLimit → writableLabels X ≡ true → length text ≤ treeRoom
+    → length (recordLines X text) ≤ recordRoom
+unfolding recordLines bytesOf
+record-short X text few can short =
     let one : List ℕ = line (bytesOf "size " ++ decimalOf (length X)) in
     let two : List ℕ = line (bytesOf "set " ++ joined (map tokenOf X)) in
     let three : List ℕ = line (bytesOf "tree " ++ text) in
@@ -109,10 +110,9 @@ refusal-short : (q : Refusal) → length (printedOf (turned q)) ≤ recordRoom
 unfolding printedOf line
 refusal-short q = omega (arith, length-append (refusedWords q) (10 ∷ []), words-short q)
 
-eight-short : (xs : List Token) (a b c : Label) → writableLabels (a ∷ b ∷ c ∷ []) ≡ true
-    → length (printedOf (clashed xs a b c)) ≤ recordRoom
-unfolding printedOf
-eight-short xs a b c can =
+eight-short : (a b c : Label) → writableLabels (a ∷ b ∷ c ∷ []) ≡ true → length (eightLine a b c) ≤ recordRoom
+unfolding eightLine
+eight-short a b c can =
     let three : List Label = a ∷ b ∷ c ∷ [] in
     let words : Refusal = record { reason = Disagree; body = K; place = 0 } in
     omega (
@@ -122,6 +122,16 @@ eight-short xs a b c can =
       forms-short three can,
     )
 
+set-short : (e : Edition) (s : Tree) (X : List Label) (text : List ℕ) → length (map (nameIn e s) X) ≤ leafLimit
+    → writableLabels (map (nameIn e s) X) ≡ true → length text ≤ treeRoom → length (printedOf (solved e s X text)) ≤ recordRoom
+unfolding printedOf
+set-short e s X text = record-short (map (nameIn e s) X) text
+
+clash-short : (e : Edition) (s : Tree) (xs : List Token) (a b c : Label) → writableLabels (nameIn e s a ∷ nameIn e s b ∷ nameIn e s c ∷ []) ≡ true
+    → length (printedOf (clashed e s xs a b c)) ≤ recordRoom
+unfolding printedOf
+clash-short e s xs a b c = eight-short (nameIn e s a) (nameIn e s b) (nameIn e s c)
+
 short : (job : List ℕ) (x : Solution) → JobOutcome job x → length (printedOf x) ≤ recordRoom
 short job x (too-long h) = refusal-short _
 short job x (no-contents h never) = refusal-short _
@@ -130,13 +140,13 @@ short job x (second-fault b held s p r i f) = refusal-short _
 short job x (list-fault b held s t p q h r i f) = refusal-short _
 short job x (stray-first b held k s t p q y o) = refusal-short _
 short job x (stray-second b held k s t p q y a o) = refusal-short _
-short job x (first-lacks s t xs asks n o) = refusal-short _
-short job x (second-lacks s t xs asks n o) = refusal-short _
-short job x (disagreement s t xs asks a b c held o) =
-    eight-short xs a b c (eight-writable job s t xs asks a b c o)
-short job x (largest-set s t xs asks X o) =
-    record-short s X (keptText (restrict (setOf X) (decoded s))) (answer-few job s t xs asks X o) (answer-writable job s t xs asks X o)
-    (kept-short (setOf X) (decoded s) (decoded-writable s (asks .first .valid)))
+short job x (first-lacks e s t xs asks n o) = refusal-short _
+short job x (second-lacks e s t xs asks n o) = refusal-short _
+short job x (disagreement e s t xs asks a b c held o) =
+    clash-short e s xs a b c (eight-writable job e s t xs asks a b c held o)
+short job x (largest-set e s t xs asks X o) =
+    set-short e s X (keptTextIn e (restrictIn e (setOf X) s)) (answer-few job e s t xs asks X o)
+    (answer-writable job e s t xs asks X o) (kept-short e (setOf X) s (asks .first .valid))
 
 pub printed-short : (job : List ℕ) → length (printed job) ≤ recordRoom
 unfolding printed

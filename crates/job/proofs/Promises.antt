@@ -1,6 +1,6 @@
 -- What jobs promise, in the scope paper's order; each theorem cites one name. Assumes nothing.
 use Prim.Native.Nat.{ℕ, _+_, _<_, _≤_}
-use mathlib.Core.Path.{_≡_}
+use mathlib.Core.Path.{_≡_, refl}
 use mathlib.Core.Bool.{true}
 use mathlib.Core.Logic.{_↔_}
 use mathlib.Core.List.{List, [], _∷_}
@@ -11,18 +11,24 @@ use Rattle.trees.specs.Refusals.{numberOf}
 use Rattle.trees.specs.Label.{Label, isIn}
 use Rattle.trees.specs.Text.{treeRoom}
 use Rattle.trees.specs.Token.{Token, spelling}
-use Rattle.trees.specs.Tree.{Tree, decoded}
+use Rattle.trees.specs.declared.Edition.{Edition}
+use Rattle.trees.specs.declared.Edition.the-variants.{One}
+use Rattle.trees.specs.Edition.{inEdition, key, folded, keyed}
+use Rattle.trees.specs.Tree.{Tree}
+use Rattle.lists.specs.ReadList.{foldedList}
 use Rattle.trees.specs.Words.{Within}
 use Rattle.trees.specs.Writable.{writableLabels}
-use Rattle.agreement.specs.Places.{placeOfLabel, tokenOfLabel}
+use Rattle.agreement.specs.Closer.{holds}
+use Rattle.agreement.specs.Places.{placeIn, placeOfLabel, tokenOfLabel, spelledIn}
 use Rattle.agreement.specs.Strict.{SameLeaves}
-use Rattle.contents.specs.Contents.{Bodies, layoutOf, listPlace}
+use Rattle.contents.specs.declared.Stated.the-variants as states
+use Rattle.contents.specs.Contents.{Bodies, editionOf, headed, layoutOf, listPlace}
 use Rattle.mast.specs.Largest.{Solution, solved, clashed, turned, Task, solve}
 use Rattle.job.specs.declared.JobAnswer.the-variants as job-answer
 use Rattle.job.specs.declared.Named.{Named}
-use Rattle.job.specs.Printed.{jobLimit, recordRoom, solveBodies, solveJob, recordLines, printedOf, printed}
-use Rattle.job.specs.Answered.{outputShort, lineAnswer, lineOutput, writtenPart, namedLine, answerTo}
-use Rattle.job.specs.Outcome.{TreeBody, SetAnswered, EightAnswered, JobOutcome, Stopped, withoutLine}
+use Rattle.job.specs.Printed.{jobLimit, recordRoom, solveBodies, solveJob, recordLines, eightLine, printedOf, printed}
+use Rattle.job.specs.Answered.{outputShort, lineAnswer, lineOutput, writtenPart, namedLine, beginIn, answerTo}
+use Rattle.job.specs.Outcome.{editionIn, TreeBody, SetAnswered, EightAnswered, JobOutcome, Stopped, withoutLine}
 use Rattle.job.specs.Rows.{saidOfLine, saidOfJob, saidOfText, saidOfOutcome}
 use Rattle.job.proofs.ClashLaws
 use Rattle.job.proofs.DemandLaws
@@ -32,16 +38,17 @@ use Rattle.job.proofs.RoomLaws
 use Rattle.job.proofs.RowLaws
 use Rattle.job.proofs.StrictLaws
 
--- demand 3 from the bytes of a job, "made on decoded labels" (request C-12): the labels of X can be written, and the lines of X and its text
--- are printed, exactly if the bodies are read and X is the answer
-pub demand-promise : (job : List ℕ) (X : List Label) (text : List ℕ)
-    → ((writableLabels X ≡ true) × (printed job ≡ recordLines X text)) ↔ SetAnswered job X text
+-- demand 3 from the bytes of a job, "made on decoded labels" (request C-12) as the edition reads them: some labels can be written, and the
+-- lines of these labels and a text are printed, exactly if the bodies are read, the labels are those of the answer "as the first tree
+-- spells them" (request C-15), and the text is that of the common restriction
+pub demand-promise : (job : List ℕ) (N : List Label) (text : List ℕ)
+    → ((writableLabels N ≡ true) × (printed job ≡ recordLines N text)) ↔ SetAnswered job N text
 demand-promise = DemandLaws.set-lines
 
 -- three labels can be written, and number 8's line is printed with them, exactly if they are the first required labels with different
--- closer pairs
-pub eight-promise : (job : List ℕ) (a b c : Label)
-    → ((writableLabels (a ∷ b ∷ c ∷ []) ≡ true) × (printed job ≡ printedOf (clashed [] a b c))) ↔ EightAnswered job a b c
+-- closer pairs, as the first tree spells them
+pub eight-promise : (job : List ℕ) (u v w : Label)
+    → ((writableLabels (u ∷ v ∷ w ∷ []) ≡ true) × (printed job ≡ eightLine u v w)) ↔ EightAnswered job u v w
 eight-promise = DemandLaws.eight-lines
 
 -- from the bytes of a job to demand 3, one row after another: what is printed is what belongs to the outcome that the papers give the
@@ -61,7 +68,8 @@ twelve-promise = StrictLaws.twelve-exactly
 
 -- "a larger set is still impossible in both sorts": where both trees hold the same leaves, a strict job comes to what it comes to
 -- without the line
-pub strict-promise : (b : Bodies) (s t : Tree) → TreeBody (b .first) s → TreeBody (b .second) t → SameLeaves (decoded s) (decoded t)
+pub strict-promise : (b : Bodies) (s t : Tree) → TreeBody (editionIn b) (b .first) s → TreeBody (editionIn b) (b .second) t
+    → SameLeaves (keyed (editionIn b) s) (keyed (editionIn b) t)
     → solveBodies (some b) ≡ solveBodies (some (withoutLine b))
 strict-promise = StrictLaws.strict-same
 
@@ -85,7 +93,7 @@ pub nine-of-output : (job : List ℕ) (room : ℕ) (q : Refusal) → answerTo jo
     → numberOf (q .reason) ≡ 9 → room < length (printed job)
 nine-of-output = RoomLaws.nine-output
 
-pub nine-when-short : (job : List ℕ) (room : ℕ) (s : Tree) (X : List Label) (text : List ℕ) → solveJob job ≡ solved s X text
+pub nine-when-short : (job : List ℕ) (room : ℕ) (e : Edition) (s : Tree) (X : List Label) (text : List ℕ) → solveJob job ≡ solved e s X text
     → room < length (printed job) → answerTo job room ≡ job-answer.Refused outputShort
 nine-when-short = RoomLaws.short-output
 
@@ -93,11 +101,24 @@ nine-when-short = RoomLaws.short-output
 pub eight-line : (job : List ℕ) (room : ℕ) (n : Named) → answerTo job room ≡ job-answer.Disagree n → namedLine job n ≡ printed job
 eight-line = ClashLaws.clash-line
 
--- and each of its labels stands in the job where the answer says, as a token of the list that stands for it
-pub eight-places : (job : List ℕ) (xs : List Token) (a b c : Label) → solveJob job ≡ clashed xs a b c
+-- and each of its labels stands in the job's list where the answer says, as a token that has its key, and in the job's first tree, as it is
+-- spelled there
+pub eight-places : (job : List ℕ) (e : Edition) (s : Tree) (xs : List Token) (a b c : Label) → solveJob job ≡ clashed e s xs a b c
     → (x : Label) → isIn x (a ∷ b ∷ c ∷ []) ≡ true
-    → Within job (listPlace (layoutOf job) + placeOfLabel xs 0 x) (tokenOfLabel xs x) × (spelling (tokenOfLabel xs x) ≡ x)
+    → Within (inEdition e job) (beginIn job .list + placeOfLabel (foldedList e xs) 0 x) (tokenOfLabel (foldedList e xs) x)
+    × (spelling (tokenOfLabel (foldedList e xs) x) ≡ x)
+    × Within job (beginIn job .tree + placeIn (folded e s) 0 x) (spelledIn e s x) × (key e (spelledIn e s x) ≡ x)
 eight-places = ClashLaws.clash-shown
+
+-- request C-15, "a job without it has edition 1": the same job with the line `E 1`, or without it, comes to the same and prints the same
+pub edition-one-written : (b : Bodies) → solveBodies (some (headed (b .strict) states.Nothing b)) ≡ solveBodies (some (headed (b .strict) states.One b))
+unfolding solveBodies editionOf
+edition-one-written b = refl
+
+-- and under edition 1 each label of the answer is printed as itself: "Old records must still be judged by the first edition"
+pub first-edition-prints : (s : Tree) (X : List Label) (text : List ℕ) → ((x : Label) → isIn x X ≡ true → holds (keyed One s) x ≡ true)
+    → printedOf (solved One s X text) ≡ recordLines X text
+first-edition-prints = ClashLaws.one-printed
 
 -- "The program `agree` reads a job from standard input": it takes one byte over the limit in and no more, and writes what is printed for
 -- the whole input, into an area that any answer fits

@@ -17,24 +17,27 @@ use Rattle.trees.specs.declared.Refusal.{Refusal}
 use Rattle.trees.specs.Refusals.{numberOf, letterOf}
 use Rattle.trees.specs.Label.{Label}
 use Rattle.trees.specs.Token.{Token, spelling, tokenOf, goodLabels}
-use Rattle.trees.specs.Tree.{Tree, leaf, node, leafLimit, leaves, relabel, normal}
-use Rattle.trees.specs.Text.{written, textOf, normalText}
+use Rattle.trees.specs.declared.Edition.{Edition}
+use Rattle.trees.specs.Edition.{ValidIn, normalTextIn}
+use Rattle.trees.specs.Tree.{Tree, leaf, node, leafLimit, leaves}
+use Rattle.trees.specs.Text.{written, textOf}
 use Rattle.trees.specs.Faults.{occurrences}
 use Rattle.trees.specs.Words.{bytesOf}
-use Rattle.trees.specs.Writable.{writableLabels, Writable}
+use Rattle.trees.specs.Writable.{writableLabels}
 use Rattle.trees.proofs.Bools.{bool-cases, clash, and-left, and-right}
 use Rattle.trees.proofs.ListLaws.{good-head, good-split}
 use Rattle.trees.proofs.ReadingLaws.{occurrences-append}
-use Rattle.trees.proofs.WritableLaws.{tokens-good, tokens-back, writable-valid, normal-writable}
+use Rattle.trees.proofs.WritableLaws.{tokens-good, tokens-back}
+use Rattle.trees.proofs.EditionLaws.{normalTree, normal-tree-valid}
 use Rattle.lists.specs.ReadList.{joined}
-use Rattle.agreement.specs.Restrict.{restrict}
-use Rattle.agreement.specs.Places.{keptText}
-use Rattle.agreement.proofs.RestrictText.{restrict-writable}
+use Rattle.agreement.specs.Restrict.{restrictIn}
+use Rattle.agreement.specs.Places.{keptTextIn}
+use Rattle.agreement.proofs.EditionText.{restrict-valid}
 use Rattle.contents.specs.Contents.{line}
 use Rattle.decimals.specs.Decimal.{isDigit, valueFrom, decimalOf, digitRoom}
 use Rattle.decimals.proofs.DecimalLaws.{allDigits, from-digits, decimal-value}
-use Rattle.mast.specs.Largest.{clashed, turned}
-use Rattle.job.specs.Printed.{refusedWords, recordLines, printedOf}
+use Rattle.mast.specs.Largest.{turned}
+use Rattle.job.specs.Printed.{refusedWords, recordLines, eightLine, printedOf}
 use Rattle.job.proofs.ShownLaws.{cons-count}
 use Rattle.job.proofs.TokenBytes.{token-comma, token-line}
 
@@ -138,18 +141,18 @@ written-line (node a b) g =
     nothing : occurrences 10 [] ≡ 0
     nothing = unfold occurrences in refl
 
-pub kept-line : (X : Label → Bool) (t : Tree) → Writable t → occurrences 10 (keptText (restrict X t)) ≡ 0
-unfolding keptText normalText textOf occurrences
-kept-line X t w = go (restrict X t) refl
+pub kept-line : (e : Edition) (X : Label → Bool) (t : Tree) → ValidIn e t → occurrences 10 (keptTextIn e (restrictIn e X t)) ≡ 0
+unfolding keptTextIn normalTextIn textOf occurrences
+kept-line e X t v = go (restrictIn e X t) refl
   where
-    go : (o : Option Tree) → restrict X t ≡ o → occurrences 10 (keptText o) ≡ 0
-    go none e = refl
-    go (some r) e =
+    go : (o : Option Tree) → restrictIn e X t ≡ o → occurrences 10 (keptTextIn e o) ≡ 0
+    go none d = refl
+    go (some r) d =
         omega (
           arith,
-          occurrences-append 10 (written (relabel tokenOf (normal r))) (59 ∷ []),
+          occurrences-append 10 (written (normalTree e r)) (59 ∷ []),
           other-more 10 59 [] refl,
-          written-line (relabel tokenOf (normal r)) (writable-valid (normal r) (normal-writable r (restrict-writable X t r w e)) .labels),
+          written-line (normalTree e r) (normal-tree-valid e r (restrict-valid e X t r v d) .labels),
         )
 
 -- ---- the lines
@@ -290,9 +293,9 @@ line-blanks : (w : List ℕ) → occurrences 32 (line w) ≡ occurrences 32 w
 unfolding line occurrences
 line-blanks w = omega (arith, occurrences-append 32 w (10 ∷ []))
 
-pub refusal-no-eight : (q : Refusal) (xs : List Token) (a b c : Label) → printedOf (turned q) ≡ printedOf (clashed xs a b c) → ⊥
+pub refusal-no-eight : (q : Refusal) (a b c : Label) → printedOf (turned q) ≡ eightLine a b c → ⊥
 unfolding printedOf
-refusal-no-eight q xs a b c e =
+refusal-no-eight q a b c e =
     let w : List ℕ = refusedWords (record { reason = Disagree; body = K; place = 0 }) in
     let j : List ℕ = joined (map tokenOf (a ∷ b ∷ c ∷ [])) in
     omega (
@@ -310,10 +313,10 @@ after-words : (w r : List ℕ) → drop (length w) (line (w ++ r)) ≡ r ++ (10 
 unfolding line
 after-words w r = ap (drop (length w)) (append-assoc w r (10 ∷ [])) ∙ drop-append-seam w (r ++ (10 ∷ []))
 
-eight-joined : (xs ys : List Token) (a b c x y z : Label) → printedOf (clashed xs a b c) ≡ printedOf (clashed ys x y z)
+eight-joined : (a b c x y z : Label) → eightLine a b c ≡ eightLine x y z
     → joined (map tokenOf (a ∷ b ∷ c ∷ [])) ++ (10 ∷ []) ≡ joined (map tokenOf (x ∷ y ∷ z ∷ [])) ++ (10 ∷ [])
-unfolding printedOf
-eight-joined xs ys a b c x y z e =
+unfolding eightLine
+eight-joined a b c x y z e =
     let w : List ℕ = refusedWords (record { reason = Disagree; body = K; place = 0 }) in
     let j : List ℕ = joined (map tokenOf (a ∷ b ∷ c ∷ [])) in
     let k : List ℕ = joined (map tokenOf (x ∷ y ∷ z ∷ [])) in
@@ -321,14 +324,14 @@ eight-joined xs ys a b c x y z e =
     sym (after-words w (32 ∷ j)) ∙ ap (drop (length w)) e ∙ after-words w (32 ∷ k) in
     heads 32 32 (j ++ (10 ∷ [])) (k ++ (10 ∷ [])) f .1
 
-pub eight-back : (xs ys : List Token) (a b c x y z : Label) → writableLabels (a ∷ b ∷ c ∷ []) ≡ true → writableLabels (x ∷ y ∷ z ∷ []) ≡ true
-    → printedOf (clashed xs a b c) ≡ printedOf (clashed ys x y z) → (a ≡ x) × (b ≡ y) × (c ≡ z)
-eight-back xs ys a b c x y z v w e =
+pub eight-back : (a b c x y z : Label) → writableLabels (a ∷ b ∷ c ∷ []) ≡ true → writableLabels (x ∷ y ∷ z ∷ []) ≡ true
+    → eightLine a b c ≡ eightLine x y z → (a ≡ x) × (b ≡ y) × (c ≡ z)
+eight-back a b c x y z v w e =
     let one : List Label = a ∷ b ∷ c ∷ [] in
     let two : List Label = x ∷ y ∷ z ∷ [] in
     let goodOne = tokens-good one v in
     let goodTwo = tokens-good two w in
-    let j = eight-joined xs ys a b c x y z e in
+    let j = eight-joined a b c x y z e in
     let cut =
     cut-at 10 (joined (map tokenOf one)) (joined (map tokenOf two)) [] [] (joined-line (map tokenOf one) goodOne)
     (joined-line (map tokenOf two) goodTwo) j in

@@ -1,32 +1,29 @@
--- Labels taken from a text by their places: those of a set, and those of a list up to their comma. Assumes nothing.
+-- Labels taken from a text by their places: those of a set. Assumes nothing.
 use Prim.Native.Nat.{ℕ, zero, suc, _+_, _-_, _≤_, _<_}
 use mathlib.Core.Path.{_≡_, refl, sym, _∙_, ap, ap₂}
-use mathlib.Core.Bool.{Bool, true, false, cond}
+use mathlib.Core.Bool.{true, false}
 use mathlib.Core.Logic.{_⊎_, inl, inr, ⊎-elim}
 use mathlib.Core.List.{List, [], _∷_, _++_, map}
 use native.Mathlib.Omega.{arith}
 use lib.Dec.{eqb}
 use lib.ListN.{length, getD, take, drop, replicate, length-append, length-map, List·getD-append}
-use lib.Seq.{take-append-seam, take-all, drop-at, take-suc, take-length}
-use borrow.Author.Tests.{le-leb, ne-eqb, eq-eqb}
+use lib.Seq.{take-append-seam, take-all, drop-at, take-suc}
+use borrow.Author.Tests.{le-leb, eq-eqb}
 use Rattle.trees.specs.Faults.{occurrences}
-use Rattle.trees.specs.Label.{Label, labelLimit, sameLabel, isIn}
+use Rattle.trees.specs.Label.{Label, labelLimit, isIn}
 use Rattle.trees.specs.Stored.{partOf}
-use Rattle.trees.specs.Token.{Token, spelling, goodLabel, goodLabels}
-use Rattle.trees.specs.Tree.{Tree, leaf, node, leaves, decoded}
+use Rattle.trees.specs.Token.{Token, spelling, goodLabel}
 use Rattle.trees.specs.Words.{Within}
 use Rattle.trees.specs.Writable.{writableLabel, writableLabels}
 use Rattle.trees.proofs.Bools.{bool-cases, clash}
-use Rattle.trees.proofs.ListLaws.{in-one-eq, at-in, good-head, good-split}
+use Rattle.trees.proofs.ListLaws.{in-one-eq, at-in}
 use Rattle.trees.proofs.RelabelLaws.{map-at}
 use Rattle.trees.proofs.TokenLaws.{good-spelling}
-use Rattle.trees.proofs.WritableLaws.{writable-head, writable-cons}
+use Rattle.trees.proofs.WritableLaws.{writable-head, writable-cons, spelled-writable}
 use Rattle.lists.specs.ReadList.{padded, listLimit}
-use Rattle.agreement.specs.Closer.{holds}
-use Rattle.agreement.specs.Places.{Listed, tokenIn, tokenOfLabel}
 use Rattle.agreement.proofs.SetLaws.{in-head, in-tail, in-cases}
 use Rattle.job.specs.Answered.{labelIn}
-use Rattle.job.specs.Areas.{labelsIn, untilComma}
+use Rattle.job.specs.Areas.{labelsIn}
 
 -- a good token that stands for the label x stands in the text at place p
 pub record Stands (text : List ℕ) (p : ℕ) (token : Token) (x : Label) : Type 0 where
@@ -51,8 +48,6 @@ shown-label text p token x s =
     ∙ take-all labelLimit (spelling token) (good-spelling token (s .good) .1)
     ∙ s .spelled
 
--- ---- the tokens of a list, up to their commas
-
 -- a byte that does not stand in a text is not its first, and does not stand in the rest
 pub cons-count : (b c : ℕ) (x : List ℕ) → occurrences b (c ∷ x) ≡ 0 → (b ≡ c → ⊥) × (occurrences b x ≡ 0)
 unfolding occurrences
@@ -62,51 +57,7 @@ cons-count b c x h = go (bool-cases (eqb b c))
     go (inl e) = let k = rw e at h in absurd (omega arith)
     go (inr e) = (λ (k : b ≡ c). clash (eq-eqb b c k) e, rw e at h)
 
-until-append : (x rest : List ℕ) → occurrences 44 x ≡ 0 → untilComma (x ++ rest) ≡ x ++ untilComma rest
-unfolding untilComma
-until-append [] rest h = refl
-until-append (b ∷ x) rest h =
-    let w = cons-count 44 b x h in
-    rw (ne-eqb b 44 (λ (e : b ≡ 44). w .0 (sym e))) (ap (λ (l : List ℕ). b ∷ l) (until-append x rest (w .1)))
-
-until-ended : (after : List ℕ) → (after ≡ []) ⊎ ((rest : List ℕ) × (after ≡ 44 ∷ rest)) → untilComma after ≡ []
-unfolding untilComma
-until-ended after (inl e) = rw e refl
-until-ended after (inr w) = rw (w .1) refl
-
-pub listed-size : (text : List ℕ) (p : ℕ) (x : Token) → Listed text p x → occurrences 44 x ≡ 0 → length (untilComma (drop p text)) ≡ length x
-listed-size text p x l g =
-    let s = l .shown in
-    ap (λ (t : List ℕ). length (untilComma (drop p t))) (s .is)
-    ∙ ap (λ (t : List ℕ). length (untilComma t)) (drop-at (s .before) (x ++ s .after) p (sym (s .place)))
-    ∙ ap (length {A = ℕ}) (until-append x (s .after) g)
-    ∙ ap (λ (t : List ℕ). length (x ++ t)) (until-ended (s .after) (l .ends))
-    ∙ omega (arith, length-append x [])
-
--- ---- good tokens, and labels that can be written
-
-pub leaf-token-good : (t : Tree) (x : Label) → goodLabels (leaves t) ≡ true → goodLabel (tokenIn t x) ≡ true
-unfolding tokenIn leaves
-leaf-token-good (leaf y) x g = good-head y [] g .0
-leaf-token-good (node a b) x g =
-    let w = good-split (leaves a) (leaves b) g in
-    go (holds (decoded a) x) (leaf-token-good a x (w .0)) (leaf-token-good b x (w .1))
-  where
-    go : (q : Bool) → goodLabel (tokenIn a x) ≡ true → goodLabel (tokenIn b x) ≡ true
-        → goodLabel (cond q (tokenIn a x) (tokenIn b x)) ≡ true
-    go true h k = h
-    go false h k = k
-
-pub list-token-good : (xs : List Token) (x : Label) → goodLabels xs ≡ true → isIn x (map spelling xs) ≡ true
-    → goodLabel (tokenOfLabel xs x) ≡ true
-unfolding tokenOfLabel isIn
-list-token-good [] x g h = clash h refl
-list-token-good (y ∷ ys) x g h = go (bool-cases (sameLabel x (spelling y))) (list-token-good ys x (good-head y ys g .1))
-  where
-    go : (sameLabel x (spelling y) ≡ true) ⊎ (sameLabel x (spelling y) ≡ false)
-        → (isIn x (map spelling ys) ≡ true → goodLabel (tokenOfLabel ys x) ≡ true) → goodLabel (tokenOfLabel (y ∷ ys) x) ≡ true
-    go (inl k) f = rw k (good-head y ys g .0)
-    go (inr k) f = rw k (f (rw k at h))
+-- ---- labels that can be written
 
 pub writable-in : (xs : List Label) (x : Label) → writableLabels xs ≡ true → isIn x xs ≡ true → writableLabel x ≡ true
 unfolding isIn
@@ -139,20 +90,30 @@ padded-at : (f : Label → ℕ) (X : List Label) (n : ℕ) → n < length X → 
 padded-at f X n h =
     List·getD-append (map f X) (replicate (listLimit - length (map f X)) 0) 0 n (omega (arith, length-map X f)) ∙ map-at f X n [] 0 h
 
-module _ (text : List ℕ) (place : Label → ℕ) (token : Label → Token) (X : List Label)
-    (all : (x : Label) → isIn x X ≡ true → Stands text (place x) (token x) x) where
-  abbrev sizes : List ℕ
-  sizes = padded (map (λ (x : Label). length (token x)) X)
-
-  labels-to : (n : ℕ) → n ≤ length X → labelsIn text (padded (map place X)) sizes n ≡ take n X
+-- each label x has its place and size, where a token stands for its name
+module _ (text : List ℕ) (place size : Label → ℕ) (token : Label → Token) (name : Label → Label) (X : List Label)
+    (all : (x : Label) → isIn x X ≡ true → Stands text (place x) (token x) (name x))
+    (sized : (x : Label) → isIn x X ≡ true → size x ≡ length (token x)) where
+  labels-to : (n : ℕ) → n ≤ length X → labelsIn text (padded (map place X)) (padded (map size X)) n ≡ take n (map name X)
   unfolding labelsIn
   labels-to zero h = refl
   labels-to (suc n) h =
       let x : Label = getD X n [] in
+      let k = at-in X n h in
       ap₂ (λ (l : List Label) (y : Label). l ++ (y ∷ [])) (labels-to n (omega arith))
-      (ap₂ (λ (i j : ℕ). labelIn text i j) (padded-at place X n h) (padded-at (λ (y : Label). length (token y)) X n h)
-      ∙ shown-label text (place x) (token x) x (all x (at-in X n h)))
-      ∙ sym (take-suc X n [] h)
+      (ap₂ (λ (i j : ℕ). labelIn text i j) (padded-at place X n h) (padded-at size X n h ∙ sized x k)
+      ∙ shown-label text (place x) (token x) (name x) (all x k)
+      ∙ sym (map-at name X n [] [] h))
+      ∙ sym (take-suc (map name X) n [] (omega (arith, length-map X name)))
 
-  pub labels-are : labelsIn text (padded (map place X)) sizes (length X) ≡ X
-  labels-are = labels-to (length X) (omega arith) ∙ take-length X
+  pub labels-are : labelsIn text (padded (map place X)) (padded (map size X)) (length X) ≡ map name X
+  labels-are = labels-to (length X) (omega arith) ∙ take-all (length X) (map name X) (omega (arith, length-map X name))
+
+-- labels that good tokens stand for can be written
+pub writable-names : (token : Label → Token) (X : List Label) → ((x : Label) → isIn x X ≡ true → goodLabel (token x) ≡ true)
+    → writableLabels (map (λ (x : Label). spelling (token x)) X) ≡ true
+unfolding writableLabels
+writable-names token [] h = refl
+writable-names token (x ∷ X) h =
+    writable-cons (spelling (token x)) (map (λ (y : Label). spelling (token y)) X) (spelled-writable (token x) (h x (in-head x X)))
+    (writable-names token X (λ (y : Label) (k : isIn y X ≡ true). h y (in-tail y x X k)))

@@ -2,7 +2,7 @@
 -- and by its printed lines (`printedOf`). Scope paper, "Job and printed result" and "Why a job is turned down".
 use Prim.Native.Nat.{ℕ, _+_}
 use mathlib.Core.Bool.{Bool, cond}
-use mathlib.Core.List.{List, [], _++_}
+use mathlib.Core.List.{List, [], _++_, map}
 use lib.Dec.{leb}
 use lib.ListN.{length, take, drop}
 use Rattle.trees.specs.declared.Reason.the-variants.{TooShort as TooShortReason}
@@ -10,15 +10,19 @@ use Rattle.trees.specs.declared.Body.the-variants.{O}
 use Rattle.trees.specs.declared.Refusal.{Refusal}
 use Rattle.trees.specs.Label.{Label, labelLimit}
 use Rattle.trees.specs.Stored.{partOf}
+use Rattle.trees.specs.declared.Edition.{Edition}
+use Rattle.trees.specs.Edition.{folded}
 use Rattle.trees.specs.Token.{Token, spelling}
-use Rattle.contents.specs.Contents.{layoutOf, listPlace}
-use Rattle.agreement.specs.Places.{placeOfLabel, tokenOfLabel}
+use Rattle.trees.specs.Tree.{Tree}
+use Rattle.lists.specs.ReadList.{foldedList}
+use Rattle.contents.specs.Contents.{layoutOf, firstPlace, listPlace}
+use Rattle.agreement.specs.Places.{placeIn, tokenIn, placeOfLabel, nameIn}
 use Rattle.mast.specs.Largest.{Solution, solved, clashed, turned}
 use Rattle.job.specs.declared.JobAnswer.{JobAnswer}
 use Rattle.job.specs.declared.JobAnswer.the-variants as job-answer
 use Rattle.job.specs.declared.Named.{Named}
-use Rattle.job.specs.declared.Part.{Part}
-use Rattle.job.specs.Printed.{printedOf, recordLines, solveJob}
+use Rattle.job.specs.declared.NamedLabel.{NamedLabel}
+use Rattle.job.specs.Printed.{eightLine, recordLines, solveJob}
 use Rattle.job.specs.declared.LineAnswer.{LineAnswer}
 use Rattle.job.specs.declared.LineAnswer.the-variants.{Written, TooShort}
 
@@ -50,11 +54,10 @@ labelIn text start size = take labelLimit (spelling (partOf start size text))
 
 -- the line of number 8 with the labels that places and sizes in the job name
 unfoldable pub namedLine : List ℕ → Named → List ℕ
-unfolding printedOf labelIn
+unfolding eightLine labelIn
 namedLine job n =
-    printedOf
-    (clashed [] (labelIn job (n .first .start) (n .first .size)) (labelIn job (n .second .start) (n .second .size))
-    (labelIn job (n .third .start) (n .third .size)))
+    eightLine (labelIn job (n .first .start) (n .first .size)) (labelIn job (n .second .start) (n .second .size))
+    (labelIn job (n .third .start) (n .third .size))
 
 unfoldable pub linesAnswer : LineAnswer → JobAnswer
 linesAnswer (Written n) = job-answer.Written n
@@ -65,27 +68,41 @@ unfoldable pub recordAnswer : List ℕ → ℕ → JobAnswer
 unfolding linesAnswer lineAnswer
 recordAnswer lines room = linesAnswer (lineAnswer lines room)
 
--- a label of the list, which begins at `base` in the job: "the part of the text shown for it has both quotes"
-unfoldable pub partOfLabel : ℕ → List Token → Label → Part
-unfolding placeOfLabel tokenOfLabel
-partOfLabel base xs x = record { start = base + placeOfLabel xs 0 x; size = length (tokenOfLabel xs x) }
+-- where two bodies begin in a job
+pub record Begin : Type 0 where
+  pub tree : ℕ
+  pub list : ℕ
 
--- the answer to a job whose list begins at `base`, for an output of `room` bytes
-unfoldable pub answered : ℕ → ℕ → Solution → JobAnswer
-unfolding recordAnswer partOfLabel recordLines
-answered base room (solved s X text) = recordAnswer (recordLines X text) room
-answered base room (clashed xs a b c) =
-    job-answer.Disagree (record { first = partOfLabel base xs a; second = partOfLabel base xs b; third = partOfLabel base xs c })
-answered base room (turned q) = job-answer.Refused q
+abbrev pub beginIn : List ℕ → Begin
+beginIn job = record { tree = firstPlace (layoutOf job); list = listPlace (layoutOf job) }
+
+-- a label of the list: where it stands in the job's list, and where the first tree spells it, "the part of the text shown for it has both
+-- quotes"
+unfoldable pub namedLabel : Begin → Edition → Tree → List Token → Label → NamedLabel
+unfolding placeOfLabel placeIn tokenIn
+namedLabel at e s xs x =
+    record {
+      place = at .list + placeOfLabel (foldedList e xs) 0 x;
+      start = at .tree + placeIn (folded e s) 0 x;
+      size = length (tokenIn (folded e s) x);
+    }
+
+-- the answer to a job with bodies that begin there, for an output of `room` bytes
+unfoldable pub answered : Begin → ℕ → Solution → JobAnswer
+unfolding recordAnswer namedLabel recordLines
+answered at room (solved e s X text) = recordAnswer (recordLines (map (nameIn e s) X) text) room
+answered at room (clashed e s xs a b c) =
+    job-answer.Disagree (record { first = namedLabel at e s xs a; second = namedLabel at e s xs b; third = namedLabel at e s xs c })
+answered at room (turned q) = job-answer.Refused q
 
 -- the answer to a job, for an output of `room` bytes
 unfoldable pub answerTo : List ℕ → ℕ → JobAnswer
-unfolding answered solveJob listPlace layoutOf
-answerTo job room = answered (listPlace (layoutOf job)) room (solveJob job)
+unfolding answered solveJob firstPlace listPlace layoutOf
+answerTo job room = answered (beginIn job) room (solveJob job)
 
 -- what the output then holds: the three lines, further bytes unchanged; "On refusal .. an output keeps every byte."
 unfoldable pub jobOutput : Solution → List ℕ → List ℕ
 unfolding lineOutput recordLines
-jobOutput (solved s X text) out = lineOutput (recordLines X text) out
-jobOutput (clashed xs a b c) out = out
+jobOutput (solved e s X text) out = lineOutput (recordLines (map (nameIn e s) X) text) out
+jobOutput (clashed e s xs a b c) out = out
 jobOutput (turned q) out = out

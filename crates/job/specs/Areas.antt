@@ -1,8 +1,6 @@
 -- Lines put together in an area, part by part. Intermediate: nothing public rests on this text.
 use Prim.Native.Nat.{ℕ, zero, suc, _+_}
 use mathlib.Core.Path.{_≡_}
-use mathlib.Core.Bool.{cond}
-use lib.Dec.{eqb}
 use mathlib.Core.List.{List, [], _∷_, _++_}
 use lib.ListN.{length, getD, take, drop}
 use Rattle.trees.specs.Label.{Label}
@@ -27,8 +25,3 @@ unfolding labelIn
 labelsIn text starts sizes zero = []
 labelsIn text starts sizes (suc n) =
     labelsIn text starts sizes n ++ (labelIn text (getD starts n 0) (getD sizes n 0) ∷ [])
-
--- the bytes before the first comma
-unfoldable pub untilComma : List ℕ → List ℕ
-untilComma [] = []
-untilComma (b ∷ rest) = cond (eqb b 44) [] (b ∷ untilComma rest)

@@ -1,6 +1,6 @@
 -- What the papers say of a job, from its bytes to demand 3. Scope paper, "Job and printed result", "Agreement" and "Why a job is
--- turned down". Trees and the list are as they are read, of tokens; request C-12: "The comparison with the definition is made on decoded
--- labels."
+-- turned down". Trees and the list are as they stand, of tokens; request C-12: "The comparison with the definition is made on decoded
+-- labels.", as the edition reads them (request C-15).
 use Prim.Native.Nat.{ℕ, _≤_, _<_}
 use mathlib.Core.Path.{_≡_}
 use mathlib.Core.Bool.{true, false}
@@ -10,20 +10,22 @@ use Rattle.trees.specs.declared.Reason.{Reason}
 use Rattle.trees.specs.declared.Reason.the-variants.{FirstLacks, SecondLacks, Contents, JobTooLong, NotShared}
 use Rattle.trees.specs.declared.Body.{Body}
 use Rattle.trees.specs.declared.Body.the-variants.{S, T, K, J}
-use Rattle.trees.specs.Label.{Label, distinct}
-use Rattle.trees.specs.Token.{Token, spelling, goodLabels}
-use Rattle.trees.specs.Tree.{Tree, Valid, decoded}
+use Rattle.trees.specs.declared.Edition.{Edition}
+use Rattle.trees.specs.Edition.{inEdition, folded, keyed, ValidIn}
+use Rattle.trees.specs.Label.{Label}
+use Rattle.trees.specs.Token.{Token}
+use Rattle.trees.specs.Tree.{Tree}
 use Rattle.trees.specs.Text.{textOf}
 use Rattle.newick.specs.Grammar.{TreeFault}
-use Rattle.lists.specs.ReadList.{joined, listLimit}
+use Rattle.lists.specs.ReadList.{keysOf, IsList}
 use Rattle.lists.specs.ListGrammar.{ListFault}
 use Rattle.agreement.specs.Closer.{holds, Common}
 use Rattle.agreement.specs.Sets.{setOf}
-use Rattle.agreement.specs.Restrict.{restrict}
-use Rattle.agreement.specs.Places.{placeIn, placeOfNumber, keptText}
+use Rattle.agreement.specs.Restrict.{restrictIn}
+use Rattle.agreement.specs.Places.{placeIn, placeOfNumber, keptTextIn, nameIn}
 use Rattle.agreement.specs.Demand.{IsFirstLacks, IsSecondLacks, IsDisagreement, IsAnswer}
 use Rattle.agreement.specs.Strict.{SameLeaves, IsStray}
-use Rattle.contents.specs.Contents.{Bodies, Short, lengthsOf, jobOf}
+use Rattle.contents.specs.Contents.{Bodies, editionOf, Short, lengthsOf, jobOf, headed}
 use Rattle.mast.specs.Largest.{Solution, solved, clashed, turned}
 use Rattle.job.specs.Printed.{jobLimit}
 
@@ -37,26 +39,24 @@ pub record Holds (job : List ℕ) (b : Bodies) : Type 0 where
   pub size : length job ≤ jobLimit
   pub contents : Follows job b
 
--- a body that is the text of a tree
-pub record TreeBody (text : List ℕ) (t : Tree) : Type 0 where
-  pub is : text ≡ textOf t
-  pub valid : Valid t
+-- the edition that the job states (request C-15)
+abbrev pub editionIn : Bodies → Edition
+editionIn b = editionOf (b .stated)
 
--- a body that is the text of a list
-pub record ListBody (text : List ℕ) (xs : List Token) : Type 0 where
-  pub is : text ≡ joined xs
-  pub labels : goodLabels xs ≡ true
-  pub different : distinct (map spelling xs) ≡ true
-  pub few : length xs ≤ listLimit
+-- a body that is the text of a tree, its labels different as the edition reads them
+pub record TreeBody (e : Edition) (text : List ℕ) (t : Tree) : Type 0 where
+  pub is : text ≡ textOf t
+  pub valid : ValidIn e t
 
 -- the job holds two trees, which have the same leaves if it is strict (request C-11), and a required list: no row before 6 turns it away
-pub record Asks (job : List ℕ) (s t : Tree) (xs : List Token) : Type 0 where
+pub record Asks (job : List ℕ) (e : Edition) (s t : Tree) (xs : List Token) : Type 0 where
   pub bodies : Bodies
   pub held : Holds job bodies
-  pub first : TreeBody (bodies .first) s
-  pub second : TreeBody (bodies .second) t
-  pub shared : bodies .strict ≡ true → SameLeaves (decoded s) (decoded t)
-  pub required : ListBody (bodies .list) xs
+  pub edition : e ≡ editionIn bodies
+  pub first : TreeBody e (bodies .first) s
+  pub second : TreeBody e (bodies .second) t
+  pub shared : bodies .strict ≡ true → SameLeaves (keyed e s) (keyed e t)
+  pub required : IsList e (bodies .list) xs
 
 abbrev pub refusal : Reason → Body → ℕ → Solution
 refusal r b i = turned (record { reason = r; body = b; place = i })
@@ -68,49 +68,66 @@ pub data JobOutcome (job : List ℕ) : Solution → Type 0 where
   too-long : jobLimit < length job → JobOutcome job (refusal JobTooLong J 0)
   -- 10, "the contents break their rules"
   no-contents : length job ≤ jobLimit → ((b : Bodies) → Follows job b → ⊥) → JobOutcome job (refusal Contents J 0)
-  -- 1 to 5, "A body that fails to read ends the job there."
-  first-fault : (b : Bodies) → Holds job b → (r : Reason) (i : ℕ) → TreeFault (b .first) r i → JobOutcome job (refusal r S i)
-  second-fault : (b : Bodies) → Holds job b → (s : Tree) → TreeBody (b .first) s → (r : Reason) (i : ℕ) → TreeFault (b .second) r i
-      → JobOutcome job (refusal r T i)
-  list-fault : (b : Bodies) → Holds job b → (s t : Tree) → TreeBody (b .first) s → TreeBody (b .second) t
-      → (b .strict ≡ true → SameLeaves (decoded s) (decoded t)) → (r : Reason) (i : ℕ) → ListFault (b .list) r i
-      → JobOutcome job (refusal r K i)
+  -- 1 to 5 of the bodies as the edition reads them, "A body that fails to read ends the job there."
+  first-fault : (b : Bodies) → Holds job b → (r : Reason) (i : ℕ) → TreeFault (inEdition (editionIn b) (b .first)) r i
+      → JobOutcome job (refusal r S i)
+  second-fault : (b : Bodies) → Holds job b → (s : Tree) → TreeBody (editionIn b) (b .first) s → (r : Reason) (i : ℕ)
+      → TreeFault (inEdition (editionIn b) (b .second)) r i → JobOutcome job (refusal r T i)
+  list-fault : (b : Bodies) → Holds job b → (s t : Tree) → TreeBody (editionIn b) (b .first) s → TreeBody (editionIn b) (b .second) t
+      → (b .strict ≡ true → SameLeaves (keyed (editionIn b) s) (keyed (editionIn b) t)) → (r : Reason) (i : ℕ)
+      → ListFault (inEdition (editionIn b) (b .list)) r i → JobOutcome job (refusal r K i)
   -- 12, where the job is strict: "the letter and place of the first such leaf in S or, if S has none, in T"
-  stray-first : (b : Bodies) → Holds job b → b .strict ≡ true → (s t : Tree) → TreeBody (b .first) s → TreeBody (b .second) t
-      → (x : Label) → IsStray (decoded s) (decoded t) x → JobOutcome job (refusal NotShared S (placeIn s 0 x))
-  stray-second : (b : Bodies) → Holds job b → b .strict ≡ true → (s t : Tree) → TreeBody (b .first) s → TreeBody (b .second) t
-      → (x : Label) → ((y : Label) → holds (decoded s) y ≡ true → holds (decoded t) y ≡ true) → IsStray (decoded t) (decoded s) x
-      → JobOutcome job (refusal NotShared T (placeIn t 0 x))
+  stray-first : (b : Bodies) → Holds job b → b .strict ≡ true → (s t : Tree) → TreeBody (editionIn b) (b .first) s
+      → TreeBody (editionIn b) (b .second) t → (x : Label) → IsStray (keyed (editionIn b) s) (keyed (editionIn b) t) x
+      → JobOutcome job (refusal NotShared S (placeIn (folded (editionIn b) s) 0 x))
+  stray-second : (b : Bodies) → Holds job b → b .strict ≡ true → (s t : Tree) → TreeBody (editionIn b) (b .first) s
+      → TreeBody (editionIn b) (b .second) t → (x : Label)
+      → ((y : Label) → holds (keyed (editionIn b) s) y ≡ true → holds (keyed (editionIn b) t) y ≡ true)
+      → IsStray (keyed (editionIn b) t) (keyed (editionIn b) s) x
+      → JobOutcome job (refusal NotShared T (placeIn (folded (editionIn b) t) 0 x))
   -- 6 and 7, at the label's "first byte in K"
-  first-lacks : (s t : Tree) (xs : List Token) → Asks job s t xs → (n : ℕ) → IsFirstLacks (decoded s) (decoded t) (map spelling xs) n
+  first-lacks : (e : Edition) (s t : Tree) (xs : List Token) → Asks job e s t xs → (n : ℕ) → IsFirstLacks (keyed e s) (keyed e t) (keysOf e xs) n
       → JobOutcome job (refusal FirstLacks K (placeOfNumber xs n))
-  second-lacks : (s t : Tree) (xs : List Token) → Asks job s t xs → (n : ℕ) → IsSecondLacks (decoded s) (decoded t) (map spelling xs) n
+  second-lacks : (e : Edition) (s t : Tree) (xs : List Token) → Asks job e s t xs → (n : ℕ) → IsSecondLacks (keyed e s) (keyed e t) (keysOf e xs) n
       → JobOutcome job (refusal SecondLacks K (placeOfNumber xs n))
   -- 8, "three required leaves have different closer pairs"
-  disagreement : (s t : Tree) (xs : List Token) → Asks job s t xs → (a b c : Label) → Common (decoded s) (decoded t) (setOf (map spelling xs))
-      → IsDisagreement (decoded s) (decoded t) (map spelling xs) a b c → JobOutcome job (clashed xs a b c)
+  disagreement : (e : Edition) (s t : Tree) (xs : List Token) → Asks job e s t xs → (a b c : Label)
+      → Common (keyed e s) (keyed e t) (setOf (keysOf e xs)) → IsDisagreement (keyed e s) (keyed e t) (keysOf e xs) a b c
+      → JobOutcome job (clashed e s xs a b c)
   -- demand 3: the set, and "the normal text of the common restriction"
-  largest-set : (s t : Tree) (xs : List Token) → Asks job s t xs → (X : List Label) → IsAnswer (decoded s) (decoded t) (map spelling xs) X
-      → JobOutcome job (solved s X (keptText (restrict (setOf X) (decoded s))))
+  largest-set : (e : Edition) (s t : Tree) (xs : List Token) → Asks job e s t xs → (X : List Label)
+      → IsAnswer (keyed e s) (keyed e t) (keysOf e xs) X → JobOutcome job (solved e s X (keptTextIn e (restrictIn e (setOf X) s)))
 
--- demand 3 of a set and a text that are printed: the bodies are read, the set is the answer, the text that of the common restriction
-pub record SetAnswered (job : List ℕ) (X : List Label) (text : List ℕ) : Type 0 where
+-- demand 3 of labels and a text that are printed: the bodies are read, the labels are those of the answer "as the first tree spells
+-- them", the text is that of the first tree's restriction, and up to spelling that of the second's
+pub record SetAnswered (job : List ℕ) (names : List Label) (text : List ℕ) : Type 0 where
+  pub e : Edition
   pub s : Tree
   pub t : Tree
   pub xs : List Token
-  pub asked : Asks job s t xs
-  pub isAnswer : IsAnswer (decoded s) (decoded t) (map spelling xs) X
-  pub first-text : text ≡ keptText (restrict (setOf X) (decoded s))
-  pub second-text : text ≡ keptText (restrict (setOf X) (decoded t))
+  pub X : List Label
+  pub asked : Asks job e s t xs
+  pub isAnswer : IsAnswer (keyed e s) (keyed e t) (keysOf e xs) X
+  pub spelled : names ≡ map (nameIn e s) X
+  pub first-text : text ≡ keptTextIn e (restrictIn e (setOf X) s)
+  pub second-text : inEdition e text ≡ inEdition e (keptTextIn e (restrictIn e (setOf X) t))
 
--- number 8 of three labels: the bodies are read, both trees hold what is required, and these are the first three that disagree
-pub record EightAnswered (job : List ℕ) (a b c : Label) : Type 0 where
+-- number 8 of three printed labels: the bodies are read, both trees hold what is required, and these are the first three that disagree, as
+-- the first tree spells them
+pub record EightAnswered (job : List ℕ) (one two three : Label) : Type 0 where
+  pub e : Edition
   pub s : Tree
   pub t : Tree
   pub xs : List Token
-  pub asked : Asks job s t xs
-  pub common : Common (decoded s) (decoded t) (setOf (map spelling xs))
-  pub isDisagreement : IsDisagreement (decoded s) (decoded t) (map spelling xs) a b c
+  pub a : Label
+  pub b : Label
+  pub c : Label
+  pub asked : Asks job e s t xs
+  pub common : Common (keyed e s) (keyed e t) (setOf (keysOf e xs))
+  pub isDisagreement : IsDisagreement (keyed e s) (keyed e t) (keysOf e xs) a b c
+  pub one-is : one ≡ nameIn e s a
+  pub two-is : two ≡ nameIn e s b
+  pub three-is : three ≡ nameIn e s c
 
 -- number 12: the job is strict, its trees are read, and they do not hold the same leaves
 pub record Stopped (job : List ℕ) : Type 0 where
@@ -119,10 +136,10 @@ pub record Stopped (job : List ℕ) : Type 0 where
   pub strict : bodies .strict ≡ true
   pub s : Tree
   pub t : Tree
-  pub first : TreeBody (bodies .first) s
-  pub second : TreeBody (bodies .second) t
-  pub differ : SameLeaves (decoded s) (decoded t) → ⊥
+  pub first : TreeBody (editionIn bodies) (bodies .first) s
+  pub second : TreeBody (editionIn bodies) (bodies .second) t
+  pub differ : SameLeaves (keyed (editionIn bodies) s) (keyed (editionIn bodies) t) → ⊥
 
 -- the bodies of the same job without the line `strict`
 abbrev pub withoutLine : Bodies → Bodies
-withoutLine b = record { strict = false; first = b .first; second = b .second; list = b .list }
+withoutLine b = headed false (b .stated) b

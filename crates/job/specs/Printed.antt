@@ -1,5 +1,5 @@
--- What is printed for a job. Scope paper, "Job and printed result" and "Why a job is turned down". Sets and their labels are decoded; each
--- label is printed in the one form by which it is written (request C-12: "for trees and every printed label").
+-- What is printed for a job. Scope paper, "Job and printed result" and "Why a job is turned down". "Labels are printed as the first tree
+-- spells them" (request C-15), each in the one form by which it is written (request C-12: "for trees and every printed label").
 use Prim.Native.Nat.{ℕ, _+_, _-_, _*_}
 use mathlib.Core.Bool.{cond}
 use mathlib.Core.List.{List, [], _∷_, _++_, map}
@@ -17,7 +17,8 @@ use Rattle.trees.specs.Tree.{leafLimit}
 use Rattle.trees.specs.Words.{bytesOf}
 use Rattle.lists.specs.ReadList.{joined}
 use Rattle.decimals.specs.Decimal.{digitRoom, decimalOf}
-use Rattle.contents.specs.Contents.{Bodies, bodiesOf, line}
+use Rattle.agreement.specs.Places.{nameIn}
+use Rattle.contents.specs.Contents.{Bodies, editionOf, bodiesOf, line}
 use Rattle.mast.specs.Largest.{Solution, solved, clashed, turned, Task, task, solve}
 
 -- "the job limit becomes 16,384 bytes" (request C-14)
@@ -43,7 +44,7 @@ recordRoom = 17 + 2 + (leafLimit * itemRoom - 1) + treeRoom
 
 -- what is asked by these bodies
 abbrev pub taskOf : Bodies → Task
-taskOf b = task (record { strict = b .strict }) (b .first) (b .second) (b .list)
+taskOf b = task (record { strict = b .strict; edition = editionOf (b .stated) }) (b .first) (b .second) (b .list)
 
 unfoldable pub solveBodies : Option Bodies → Solution
 unfolding solve
@@ -62,18 +63,23 @@ unfolding bytesOf numberOf letterOf decimalOf
 refusedWords q =
     bytesOf "refused " ++ (decimalOf (numberOf (q .reason)) ++ (32 ∷ letterOf (q .body) ∷ 32 ∷ decimalOf (q .place)))
 
--- "They are the count of leaves, the set in label order, and the normal text of the common restriction."
+-- "They are the count of leaves, the set in label order, and the normal text of the common restriction.": the set by its labels as they
+-- are spelled
 unfoldable pub recordLines : List Label → List ℕ → List ℕ
 unfolding bytesOf decimalOf joined line
 recordLines X text =
     line (bytesOf "size " ++ decimalOf (length X)) ++ (line (bytesOf "set " ++ joined (map tokenOf X)) ++ line (bytesOf "tree " ++ text))
 
--- "Number 8 adds a space and its three labels joined by commas."
-unfoldable pub printedOf : Solution → List ℕ
-unfolding refusedWords recordLines joined line
-printedOf (solved s X text) = recordLines X text
-printedOf (clashed xs a b c) =
+-- "Number 8 adds a space and its three labels joined by commas.", as they are spelled
+unfoldable pub eightLine : Label → Label → Label → List ℕ
+unfolding refusedWords joined line
+eightLine a b c =
     line (refusedWords (record { reason = Disagree; body = K; place = 0 }) ++ (32 ∷ joined (map tokenOf (a ∷ b ∷ c ∷ []))))
+
+unfoldable pub printedOf : Solution → List ℕ
+unfolding refusedWords recordLines eightLine line
+printedOf (solved e s X text) = recordLines (map (nameIn e s) X) text
+printedOf (clashed e s xs a b c) = eightLine (nameIn e s a) (nameIn e s b) (nameIn e s c)
 printedOf (turned q) = line (refusedWords q)
 
 unfoldable pub printed : List ℕ → List ℕ

@@ -1,9 +1,10 @@
 -- The papers' number and values for each case of the answers over jobs. Scope paper, "Why a job is turned down".
 use Prim.Native.Nat.{ℕ, _+_}
 use mathlib.Core.Bool.{cond}
-use mathlib.Core.List.{List, [], _∷_}
+use mathlib.Core.List.{List, [], _∷_, map}
 use lib.ListN.{length}
-use Rattle.agreement.specs.Places.{placeOfLabel}
+use Rattle.lists.specs.ReadList.{foldedList}
+use Rattle.agreement.specs.Places.{placeOfLabel, nameIn}
 use Rattle.mast.specs.Largest.{Solution, solved, clashed, turned}
 use Rattle.mast.specs.Rows.{Said, granted, refusalRow, eightRow}
 use Rattle.job.specs.declared.LineAnswer.{LineAnswer}
@@ -23,7 +24,7 @@ saidOfLine (TooShort q) = refusalRow q
 unfoldable pub saidOfJob : JobAnswer → Said
 unfolding refusalRow eightRow
 saidOfJob (job-answer.Written n) = granted (n ∷ [])
-saidOfJob (job-answer.Disagree n) = eightRow (n .first .start) (n .second .start) (n .third .start)
+saidOfJob (job-answer.Disagree n) = eightRow (n .first .place) (n .second .place) (n .third .place)
 saidOfJob (job-answer.Refused q) = refusalRow q
 
 -- what has to be said of a text for an output of `room` bytes
@@ -34,7 +35,8 @@ saidOfText text room = cond (fits text room) (granted (length text ∷ [])) (ref
 -- what has to be said of a job's outcome, where its list begins at `base`
 unfoldable pub saidOfOutcome : ℕ → ℕ → Solution → Said
 unfolding saidOfText refusalRow eightRow placeOfLabel recordLines
-saidOfOutcome base room (solved s X text) = saidOfText (recordLines X text) room
-saidOfOutcome base room (clashed xs a b c) =
-    eightRow (base + placeOfLabel xs 0 a) (base + placeOfLabel xs 0 b) (base + placeOfLabel xs 0 c)
+saidOfOutcome base room (solved e s X text) = saidOfText (recordLines (map (nameIn e s) X) text) room
+saidOfOutcome base room (clashed e s xs a b c) =
+    eightRow (base + placeOfLabel (foldedList e xs) 0 a) (base + placeOfLabel (foldedList e xs) 0 b)
+    (base + placeOfLabel (foldedList e xs) 0 c)
 saidOfOutcome base room (turned q) = refusalRow q

@@ -15,14 +15,14 @@ use trees::TREE_ROOM;
 ghost use mathlib.Core.Path.{_≡_};
 ghost use lib.ListN.{length};
 ghost use Prim.Native.Nat.{_+_, _≤_};
-ghost use lib.ListN.{drop, replicate};
+ghost use lib.ListN.{replicate};
 ghost use Rattle.mast.specs.Largest.{turned, task, solve};
 ghost use Rattle.job.specs.declared.JobAnswer as JobAnswer;
 ghost use Rattle.trees.specs.declared.Body.the-variants.{J};
 ghost use Rattle.trees.specs.Text.{treeRoom};
 ghost use Rattle.trees.specs.Tree.{leafLimit};
 ghost use Rattle.job.specs.Printed.{printedOf, printed, recordLines, solveJob, jobLimit};
-ghost use Rattle.job.specs.Areas.{labelsIn, untilComma};
+ghost use Rattle.job.specs.Areas.{labelsIn};
 ghost use Rattle.job.specs.Answered.{lineAnswer, lineOutput, writtenPart, namedLine, answered, answerTo, jobOutput, recordAnswer};
 
 mod lines;
@@ -49,17 +49,18 @@ pub enum LineAnswer {
     TooShort(Refusal),
 }
 
-// A part of the job: where it starts, and its size.
-pub struct Part {
+// A label of number 8: where it stands in the job's list, and the part of the job that spells it, in the first tree.
+pub struct NamedLabel {
+    pub place: usize,
     pub start: usize,
     pub size: usize,
 }
 
-// Three labels, sorted, as parts of the job.
+// Three labels, sorted.
 pub struct Named {
-    pub first: Part,
-    pub second: Part,
-    pub third: Part,
+    pub first: NamedLabel,
+    pub second: NamedLabel,
+    pub third: NamedLabel,
 }
 
 // How many bytes the three lines have that now stand in the output; number 8 with its three labels; or why the job was
@@ -98,7 +99,7 @@ pub fn refusal_line(refusal: Refusal, out: &mut [u8]) -> LineAnswer
     lines::hand_over(&line[..n], out)
 }
 
-// The line of number 8 into `out`: the labels are those that the parts of the job, named by places and sizes, stand for.
+// The line of number 8 into `out`: the labels are those that the parts of the job, named by starts and sizes, stand for.
 pub fn disagreement_line(job: &[u8], named: Named, out: &mut [u8]) -> LineAnswer
     ensures answer { λ r. ⌜ r ≡ lineAnswer (namedLine (now (job .entry)) named) (length (now (out .entry))) ⌝ }
     ensures output { λ _. ⌜ now (out .exit) ≡ lineOutput (namedLine (now (job .entry)) named) (now (out .entry)) ⌝ }
@@ -143,44 +144,31 @@ fn answer_set(first: &[u8], set: LabelPlaces, tree: &[u8], out: &mut [u8]) -> Jo
     }
 }
 
-// How many bytes stand before the next comma or the end of the list.
-fn label_size(list: &[u8], at: usize) -> usize
-    ensures { λ r. ⌜ r ≡ length (untilComma (drop at (now (list .entry)))) ⌝ }
+// A label of the list, which begins at `base` in the job, as it is spelled in the first tree, which begins at `origin`.
+fn spelled_label(origin: usize, base: usize, place: usize, start: usize, size: usize) -> NamedLabel
+    requires { ⌜ (base + place ≤ jobLimit) × (origin + start ≤ jobLimit) ⌝ }
+    ensures { λ r. ⌜ r ≡ record { place = base + place; start = origin + start; size = size } ⌝ }
 {
-    let mut i = at;
-    while i < list.len() {
-        if list[i] == b',' {
-            return i - at;
-        }
-        i += 1;
-    }
-    i - at
-}
-
-// A label of the list, which begins at `base` in the job, as a part of the job.
-fn part_at(list: &[u8], base: usize, at: usize) -> Part
-    requires { ⌜ base + at ≤ jobLimit ⌝ }
-    ensures { λ r. ⌜ r ≡ record { start = base + at; size = length (untilComma (drop at (now (list .entry)))) } ⌝ }
-{
-    let size = label_size(list, at);
-    Part {
-        start: base + at,
+    NamedLabel {
+        place: base + place,
+        start: origin + start,
         size,
     }
 }
 
-// The answer to three bodies, of which the list begins at `base` in the job.
+// The answer to three bodies, of which the first begins at `origin` in the job and the list at `base`.
 fn answer_bodies(
     options: Options,
     first: &[u8],
     second: &[u8],
     list: &[u8],
+    origin: usize,
     base: usize,
     out: &mut [u8],
 ) -> JobAnswer
-    requires { ⌜ base + length (now list) ≤ jobLimit ⌝ }
+    requires { ⌜ (base + length (now list) ≤ jobLimit) × (origin + length (now first) ≤ jobLimit) ⌝ }
     ensures answer { λ r.
-        ⌜ r ≡ answered base (length (now (out .entry)))
+        ⌜ r ≡ answered (record { tree = origin; list = base }) (length (now (out .entry)))
         (solve (task options (now (first .entry)) (now (second .entry)) (now (list .entry))) treeRoom) ⌝ }
     ensures output { λ _.
         ⌜ now (out .exit) ≡ jobOutput
@@ -190,16 +178,18 @@ fn answer_bodies(
     let mut tree = [0u8; TREE_ROOM];
     let result = mast::largest(options, first, second, list, &mut tree);
     let answer = result.answer;
+    let set = result.set;
     match answer {
-        LargestAnswer::Found(_, bytes) => {
-            let set = result.set;
-            answer_set(first, set, &tree[..bytes], out)
+        LargestAnswer::Found(_, bytes) => answer_set(first, set, &tree[..bytes], out),
+        LargestAnswer::Disagree(a, b, c) => {
+            let starts = set.start;
+            let sizes = set.size;
+            JobAnswer::Disagree(Named {
+                first: spelled_label(origin, base, a, starts[0], sizes[0]),
+                second: spelled_label(origin, base, b, starts[1], sizes[1]),
+                third: spelled_label(origin, base, c, starts[2], sizes[2]),
+            })
         }
-        LargestAnswer::Disagree(a, b, c) => JobAnswer::Disagree(Named {
-            first: part_at(list, base, a),
-            second: part_at(list, base, b),
-            third: part_at(list, base, c),
-        }),
         LargestAnswer::Refused(refusal) => JobAnswer::Refused(refusal),
     }
 }
@@ -219,14 +209,18 @@ pub fn answer_job(job: &[u8], out: &mut [u8]) -> JobAnswer
     let second_at = at + table.first;
     let list_at = second_at + table.second;
     let end = list_at + table.required;
+    let stated = table.stated;
+    let edition = contents::edition_of(stated);
     let options = Options {
         strict: table.strict,
+        edition,
     };
     answer_bodies(
         options,
         &job[at..second_at],
         &job[second_at..list_at],
         &job[list_at..end],
+        at,
         list_at,
         out,
     )

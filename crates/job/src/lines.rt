@@ -2,6 +2,7 @@
 use crate::LineAnswer;
 use crate::Named;
 use trees::Body;
+use trees::Edition;
 use trees::Reason;
 use trees::Refusal;
 use trees::ShownLabel;
@@ -53,11 +54,12 @@ pub(crate) fn put_number(n: usize, area: &mut [u8], at: usize) -> usize
     put_bytes(trees::first_bytes(&bytes, numeral.len), area, at)
 }
 
-// The label that the `size` bytes at a place of a text stand for, as it is printed; of one that no reader accepts, its first bytes.
+// The label that the `size` bytes at a place of a text stand for, as it is spelled there and printed; of one that no reader accepts, its
+// first bytes.
 pub(crate) fn label_in(text: &[u8], start: usize, size: usize) -> ShownLabel
     ensures { λ r. ⌜ shownBytes r ≡ tokenOf (labelIn (now (text .entry)) start size) ⌝ }
 {
-    trees::shown(trees::stored(trees::part(text, start, size)))
+    trees::shown(trees::stored(Edition::One, trees::part(text, start, size)))
 }
 
 // Puts a label as it is printed.

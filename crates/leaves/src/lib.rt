@@ -6,11 +6,13 @@ ghost use mathlib.Core.Path.{_≡_};
 ghost use Prim.Native.Nat.{_<_};
 ghost use Rattle.leaves.specs.Find.{labelled, foundLeaf};
 ghost use Rattle.trees.specs.Arrays.{nodeLimit};
-ghost use Rattle.trees.specs.Token.{spelling};
+ghost use Rattle.trees.specs.Edition.{inEdition, key};
+use trees::Edition;
 use trees::NODE_LIMIT;
 
-// Leaf u of the arrays has the label that a token stands for.
+// Leaf u of the arrays has the label that a token stands for, as an edition reads both.
 fn has_label(
+    edition: Edition,
     text: &[u8],
     left: &[usize; NODE_LIMIT],
     start: &[usize; NODE_LIMIT],
@@ -23,11 +25,11 @@ fn has_label(
         ⌜
         r ≡
         labelled
-        (now (text .entry))
+        (inEdition edition (now (text .entry)))
         (now (left .entry))
         (now (start .entry))
         (now (size .entry))
-        (spelling (now (token .entry)))
+        (key edition (now (token .entry)))
         u
         ⌝ }
 {
@@ -35,11 +37,13 @@ fn has_label(
     if child != u {
         return false;
     }
-    trees::same_label(trees::leaf_label(text, start, size, u), token)
+    trees::same_label(edition, trees::leaf_label(text, start, size, u), token)
 }
 
-// The number of the first leaf with the label that a token stands for; where no leaf has it, how many nodes there are, 159 at the most.
+// The number of the first leaf with the label that a token stands for, as an edition reads both; where no leaf has it, how many nodes
+// there are, 159 at the most.
 pub fn find_leaf(
+    edition: Edition,
     text: &[u8],
     left: &[usize; NODE_LIMIT],
     start: &[usize; NODE_LIMIT],
@@ -51,18 +55,18 @@ pub fn find_leaf(
         ⌜
         r ≡
         foundLeaf
-        (now (text .entry))
+        (inEdition edition (now (text .entry)))
         (now (left .entry))
         (now (start .entry))
         (now (size .entry))
-        (spelling (now (token .entry)))
+        (key edition (now (token .entry)))
         nodes
         ⌝ }
 {
     let end = trees::least(nodes, NODE_LIMIT);
     let mut u: usize = 0;
     while u < end {
-        if has_label(text, left, start, size, token, u) {
+        if has_label(edition, text, left, start, size, token, u) {
             return u;
         }
         u += 1;

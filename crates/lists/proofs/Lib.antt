@@ -1,5 +1,6 @@
 pub mod Accepts
 pub mod AcceptsRaw
+pub mod EditionLists
 pub mod ListFaults
 pub mod ListFaultsWalk
 pub mod ListPlaces

@@ -3,17 +3,18 @@
 use Prim.Native.Nat.{ℕ}
 use mathlib.Core.List.{List}
 use Rattle.trees.specs.declared.Body.{Body}
+use Rattle.trees.specs.declared.Edition.{Edition}
 use Rattle.trees.specs.Refusals.{Said, value, rowOf}
 use Rattle.lists.specs.declared.ListAnswer.{ListAnswer}
 use Rattle.lists.specs.declared.ListAnswer.the-variants.{Labels, Refused}
-use Rattle.lists.specs.ReadList.{readList, listRead}
+use Rattle.lists.specs.ReadList.{readListIn, listRead}
 
 unfoldable pub listSays : ListAnswer → Said ℕ
 unfolding rowOf
 listSays (Labels n) = value n
 listSays (Refused r) = rowOf r
 
--- what the reader says of a text that is given as a body
-unfoldable pub saysOf : Body → List ℕ → Said ℕ
-unfolding listRead readList listSays
-saysOf body text = listSays (listRead body (readList text) .answer)
+-- what the reader says by an edition of a text that is given as a body
+unfoldable pub saysOf : Edition → Body → List ℕ → Said ℕ
+unfolding listRead readListIn listSays
+saysOf e body text = listSays (listRead body (readListIn e text) .answer)

@@ -1,8 +1,9 @@
 -- Reading a list of labels from left to right: "The required list is empty, or labels joined by `,` with nothing else, at most
 -- 80, all different." Scope paper, "Tree text" and rows 1 to 5 of "Why a job is turned down"; request paper, C-12. The labels read are
 -- tokens, as they stand in the text; they are compared as decoded.
-use Prim.Native.Nat.{ℕ, _+_}
-use mathlib.Core.Bool.{Bool, cond}
+use Prim.Native.Nat.{ℕ, _+_, _≤_}
+use mathlib.Core.Path.{_≡_}
+use mathlib.Core.Bool.{Bool, true, cond}
 use mathlib.Core.List.{List, [], _∷_, _++_, map}
 use lib.Dec.{eqb}
 use lib.ListN.{length}
@@ -11,11 +12,13 @@ use Rattle.trees.specs.declared.Kind.the-variants.{Label as LabelByte, Open, Cl
 use Rattle.trees.specs.declared.Reason.{Reason}
 use Rattle.trees.specs.declared.Reason.the-variants.{BadByte, EndsTooSoon, LabelTooLong, TooMany, Repeated}
 use Rattle.trees.specs.declared.Body.{Body}
+use Rattle.trees.specs.declared.Edition.{Edition}
 use Rattle.trees.specs.Bytes.{kindOf}
-use Rattle.trees.specs.Label.{labelLimit}
-use Rattle.trees.specs.Token.{Token, spelling, quotedToken}
+use Rattle.trees.specs.Label.{Label, labelLimit, distinct}
+use Rattle.trees.specs.Token.{Token, spelling, quotedToken, goodLabels}
 use Rattle.trees.specs.Arrays.{paddedTo}
-use Rattle.trees.specs.Reading.{Reading, good, refused, repeats}
+use Rattle.trees.specs.Edition.{inEdition}
+use Rattle.trees.specs.Reading.{Reading, good, refused, asStands, repeats}
 use Rattle.lists.specs.declared.ListAnswer.the-variants.{Labels, Refused}
 use Rattle.lists.specs.declared.LabelPlaces.{LabelPlaces}
 use Rattle.lists.specs.declared.ListRead.{ListRead}
@@ -121,11 +124,31 @@ unfoldable pub readList : List ℕ → Reading (List Token)
 unfolding readFrom
 readList text = readFrom atStart [] 0 text
 
+-- by an edition, which decides whether a label repeats
+unfoldable pub readListIn : Edition → List ℕ → Reading (List Token)
+unfolding readList asStands
+readListIn e text = asStands (readList (inEdition e text)) (readList text)
+
 -- the labels joined by commas
 unfoldable pub joined : List Token → List ℕ
 joined [] = []
 joined (x ∷ []) = x
 joined (x ∷ y ∷ ys) = x ++ (44 ∷ joined (y ∷ ys))
+
+-- the labels as an edition reads them, still tokens
+abbrev pub foldedList : Edition → List Token → List Token
+foldedList e xs = map (inEdition e) xs
+
+-- what they are compared by
+abbrev pub keysOf : Edition → List Token → List Label
+keysOf e xs = map spelling (foldedList e xs)
+
+-- the text of labels, "at most 80, all different" as an edition reads them
+pub record IsList (e : Edition) (text : List ℕ) (xs : List Token) : Type 0 where
+  pub is : text ≡ joined xs
+  pub labels : goodLabels xs ≡ true
+  pub different : distinct (keysOf e xs) ≡ true
+  pub few : length xs ≤ listLimit
 
 -- where labels joined by commas start, when the first starts at p
 unfoldable pub startsOf : List Token → ℕ → List ℕ

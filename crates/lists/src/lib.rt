@@ -2,6 +2,7 @@
 //
 // No public function has a `requires`: a text of any length and any bytes is answered.
 use trees::Body;
+use trees::Edition;
 use trees::Kind;
 use trees::LABEL_LIMIT;
 use trees::Reason;
@@ -10,7 +11,8 @@ use trees::SLOTS;
 ghost use mathlib.Core.Path.{_≡_};
 ghost use Prim.Native.Nat.{_+_, _<_, _≤_};
 ghost use lib.ListN.{length, set};
-ghost use Rattle.lists.specs.ReadList.{listLimit, listRead, readList};
+ghost use Rattle.lists.specs.ReadList.{listLimit, listRead, readListIn};
+ghost use Rattle.trees.specs.Edition.{inEdition};
 ghost use Rattle.trees.specs.Label.{labelLimit};
 ghost use Rattle.trees.specs.Slots.{Marked};
 ghost use Rattle.trees.specs.declared.Reason.the-variants.{EndsTooSoon};
@@ -116,6 +118,7 @@ fn due(kind: Kind, at: usize, count: usize) -> Outcome
 // Keeps the place of a label that has ended, and says whether one of the `count` before it is the same.
 // A label whose slot has no mark is compared with nothing.
 fn keep(
+    edition: Edition,
     text: &[u8],
     first: usize,
     len: usize,
@@ -125,15 +128,15 @@ fn keep(
     seen: &mut [u8; SLOTS],
 ) -> bool
     requires { ⌜ count < listLimit ⌝ }
-    requires { ⌜ Marked listLimit (now text) (now start) (now size) (now seen) ⌝ }
-    ensures { λ r. ⌜ r ≡ repeatOf (now (text .entry)) (now (start .entry)) (now (size .entry)) count first len ⌝ }
+    requires { ⌜ Marked listLimit (inEdition edition (now text)) (now start) (now size) (now seen) ⌝ }
+    ensures { λ r. ⌜ r ≡ repeatOf (inEdition edition (now (text .entry))) (now (start .entry)) (now (size .entry)) count first len ⌝ }
     ensures { λ r. ⌜ now (start .exit) ≡ set (now (start .entry)) count first ⌝ }
     ensures { λ r. ⌜ now (size .exit) ≡ set (now (size .entry)) count len ⌝ }
-    ensures { λ r. ⌜ Marked listLimit (now (text .entry)) (now (start .exit)) (now (size .exit)) (now (seen .exit)) ⌝ }
+    ensures { λ r. ⌜ Marked listLimit (inEdition edition (now (text .entry))) (now (start .exit)) (now (size .exit)) (now (seen .exit)) ⌝ }
 {
     let token = trees::part(text, first, len);
-    let slot = trees::slot(token);
-    let found = trees::is_met(text, start, size, count, token, seen, slot);
+    let slot = trees::slot(edition, token);
+    let found = trees::is_met(edition, text, start, size, count, token, seen, slot);
     seen[slot] = 1;
     start[count] = first;
     size[count] = len;
@@ -142,6 +145,7 @@ fn keep(
 
 // The label that began at `first` has ended: a repeat is told at its first byte, a new label leaves what follows.
 fn close(
+    edition: Edition,
     text: &[u8],
     first: usize,
     len: usize,
@@ -152,14 +156,14 @@ fn close(
     following: Outcome,
 ) -> Outcome
     requires { ⌜ count < listLimit ⌝ }
-    requires { ⌜ Marked listLimit (now text) (now start) (now size) (now seen) ⌝ }
+    requires { ⌜ Marked listLimit (inEdition edition (now text)) (now start) (now size) (now seen) ⌝ }
     ensures { λ r. ⌜
         after r (now (start .exit)) (now (size .exit))
-        ≡ closeOf (now (text .entry)) (now (start .entry)) (now (size .entry)) count first len following
+        ≡ closeOf (inEdition edition (now (text .entry))) (now (start .entry)) (now (size .entry)) count first len following
         ⌝ }
-    ensures { λ r. ⌜ Marked listLimit (now (text .entry)) (now (start .exit)) (now (size .exit)) (now (seen .exit)) ⌝ }
+    ensures { λ r. ⌜ Marked listLimit (inEdition edition (now (text .entry))) (now (start .exit)) (now (size .exit)) (now (seen .exit)) ⌝ }
 {
-    if keep(text, first, len, count, start, size, seen) {
+    if keep(edition, text, first, len, count, start, size, seen) {
         return Outcome::Stop(Reason::Repeated, first);
     }
     following
@@ -167,6 +171,7 @@ fn close(
 
 // A byte inside a label without quotes or just after it. The byte past a label's limit is refused before the label is compared.
 fn bare(
+    edition: Edition,
     text: &[u8],
     kind: Kind,
     at: usize,
@@ -178,12 +183,12 @@ fn bare(
     seen: &mut [u8; SLOTS],
 ) -> Outcome
     requires { ⌜ count < listLimit ⌝ }
-    requires { ⌜ Marked listLimit (now text) (now start) (now size) (now seen) ⌝ }
+    requires { ⌜ Marked listLimit (inEdition edition (now text)) (now start) (now size) (now seen) ⌝ }
     ensures { λ r. ⌜
         after r (now (start .exit)) (now (size .exit))
-        ≡ bareOf (now (text .entry)) kind at first len count (now (start .entry)) (now (size .entry))
+        ≡ bareOf (inEdition edition (now (text .entry))) kind at first len count (now (start .entry)) (now (size .entry))
         ⌝ }
-    ensures { λ r. ⌜ Marked listLimit (now (text .entry)) (now (start .exit)) (now (size .exit)) (now (seen .exit)) ⌝ }
+    ensures { λ r. ⌜ Marked listLimit (inEdition edition (now (text .entry))) (now (start .exit)) (now (size .exit)) (now (seen .exit)) ⌝ }
 {
     let bad = Outcome::Stop(Reason::BadByte, at);
     match kind {
@@ -199,6 +204,7 @@ fn bare(
             }
         }
         Kind::Comma => close(
+            edition,
             text,
             first,
             len,
@@ -208,12 +214,12 @@ fn bare(
             seen,
             Outcome::Next(Stage::Due { count: count + 1 }),
         ),
-        Kind::Quote => close(text, first, len, count, start, size, seen, bad),
-        Kind::Open => close(text, first, len, count, start, size, seen, bad),
-        Kind::Close => close(text, first, len, count, start, size, seen, bad),
-        Kind::Semicolon => close(text, first, len, count, start, size, seen, bad),
-        Kind::Blank => close(text, first, len, count, start, size, seen, bad),
-        Kind::Other => close(text, first, len, count, start, size, seen, bad),
+        Kind::Quote => close(edition, text, first, len, count, start, size, seen, bad),
+        Kind::Open => close(edition, text, first, len, count, start, size, seen, bad),
+        Kind::Close => close(edition, text, first, len, count, start, size, seen, bad),
+        Kind::Semicolon => close(edition, text, first, len, count, start, size, seen, bad),
+        Kind::Blank => close(edition, text, first, len, count, start, size, seen, bad),
+        Kind::Other => close(edition, text, first, len, count, start, size, seen, bad),
     }
 }
 
@@ -234,6 +240,7 @@ fn more(at: usize, first: usize, len: usize, count: usize) -> Outcome
 
 // The second quote of a label: a byte at least stands before it, and only now is the label compared.
 fn quote(
+    edition: Edition,
     text: &[u8],
     at: usize,
     first: usize,
@@ -245,22 +252,33 @@ fn quote(
 ) -> Outcome
     requires { ⌜ count < listLimit ⌝ }
     requires { ⌜ len ≤ labelLimit ⌝ }
-    requires { ⌜ Marked listLimit (now text) (now start) (now size) (now seen) ⌝ }
+    requires { ⌜ Marked listLimit (inEdition edition (now text)) (now start) (now size) (now seen) ⌝ }
     ensures { λ r. ⌜
         after r (now (start .exit)) (now (size .exit))
-        ≡ quoteOf (now (text .entry)) at first len count (now (start .entry)) (now (size .entry))
+        ≡ quoteOf (inEdition edition (now (text .entry))) at first len count (now (start .entry)) (now (size .entry))
         ⌝ }
-    ensures { λ r. ⌜ Marked listLimit (now (text .entry)) (now (start .exit)) (now (size .exit)) (now (seen .exit)) ⌝ }
+    ensures { λ r. ⌜ Marked listLimit (inEdition edition (now (text .entry))) (now (start .exit)) (now (size .exit)) (now (seen .exit)) ⌝ }
 {
     if len == 0 {
         return Outcome::Stop(Reason::BadByte, at);
     }
     let next = Outcome::Next(Stage::Closed { count: count + 1 });
-    close(text, first, len + 2, count, start, size, seen, next)
+    close(
+        edition,
+        text,
+        first,
+        len + 2,
+        count,
+        start,
+        size,
+        seen,
+        next,
+    )
 }
 
 // A byte after an opening quote. Nothing but label bytes, blanks and a quote may stand there, also where a label is too long.
 fn quoted(
+    edition: Edition,
     text: &[u8],
     kind: Kind,
     at: usize,
@@ -273,17 +291,17 @@ fn quoted(
 ) -> Outcome
     requires { ⌜ count < listLimit ⌝ }
     requires { ⌜ len ≤ labelLimit ⌝ }
-    requires { ⌜ Marked listLimit (now text) (now start) (now size) (now seen) ⌝ }
+    requires { ⌜ Marked listLimit (inEdition edition (now text)) (now start) (now size) (now seen) ⌝ }
     ensures { λ r. ⌜
         after r (now (start .exit)) (now (size .exit))
-        ≡ quotedOf (now (text .entry)) kind at first len count (now (start .entry)) (now (size .entry))
+        ≡ quotedOf (inEdition edition (now (text .entry))) kind at first len count (now (start .entry)) (now (size .entry))
         ⌝ }
-    ensures { λ r. ⌜ Marked listLimit (now (text .entry)) (now (start .exit)) (now (size .exit)) (now (seen .exit)) ⌝ }
+    ensures { λ r. ⌜ Marked listLimit (inEdition edition (now (text .entry))) (now (start .exit)) (now (size .exit)) (now (seen .exit)) ⌝ }
 {
     match kind {
         Kind::Label => more(at, first, len, count),
         Kind::Blank => more(at, first, len, count),
-        Kind::Quote => quote(text, at, first, len, count, start, size, seen),
+        Kind::Quote => quote(edition, text, at, first, len, count, start, size, seen),
         Kind::Open => Outcome::Stop(Reason::BadByte, at),
         Kind::Close => Outcome::Stop(Reason::BadByte, at),
         Kind::Comma => Outcome::Stop(Reason::BadByte, at),
@@ -310,6 +328,7 @@ fn after_quote(kind: Kind, at: usize, count: usize) -> Outcome
 
 // What the byte of this kind at place `at` leads to.
 fn step(
+    edition: Edition,
     text: &[u8],
     kind: Kind,
     at: usize,
@@ -319,17 +338,18 @@ fn step(
     seen: &mut [u8; SLOTS],
 ) -> Outcome
     requires { ⌜ Room stage ⌝ }
-    requires { ⌜ Marked listLimit (now text) (now start) (now size) (now seen) ⌝ }
+    requires { ⌜ Marked listLimit (inEdition edition (now text)) (now start) (now size) (now seen) ⌝ }
     ensures { λ r. ⌜
         after r (now (start .exit)) (now (size .exit))
-        ≡ stepOf (now (text .entry)) kind at stage (now (start .entry)) (now (size .entry))
+        ≡ stepOf (inEdition edition (now (text .entry))) kind at stage (now (start .entry)) (now (size .entry))
         ⌝ }
-    ensures { λ r. ⌜ Marked listLimit (now (text .entry)) (now (start .exit)) (now (size .exit)) (now (seen .exit)) ⌝ }
+    ensures { λ r. ⌜ Marked listLimit (inEdition edition (now (text .entry))) (now (start .exit)) (now (size .exit)) (now (seen .exit)) ⌝ }
 {
     match stage {
         Stage::Start => due(kind, at, 0),
         Stage::Due { count } => due(kind, at, count),
         Stage::Bare { first, len, count } => bare(
+            edition,
             text,
             kind,
             at,
@@ -341,6 +361,7 @@ fn step(
             seen,
         ),
         Stage::Quoted { first, len, count } => quoted(
+            edition,
             text,
             kind,
             at,
@@ -368,6 +389,7 @@ fn too_soon(text: &[u8], body: Body) -> ListAnswer
 
 // The text ends, which also completes a label without quotes.
 fn at_end(
+    edition: Edition,
     text: &[u8],
     body: Body,
     stage: Stage,
@@ -376,17 +398,17 @@ fn at_end(
     seen: &mut [u8; SLOTS],
 ) -> ListAnswer
     requires { ⌜ Room stage ⌝ }
-    requires { ⌜ Marked listLimit (now text) (now start) (now size) (now seen) ⌝ }
+    requires { ⌜ Marked listLimit (inEdition edition (now text)) (now start) (now size) (now seen) ⌝ }
     ensures { λ r. ⌜
         ended r (now (start .exit)) (now (size .exit))
-        ≡ endAt (now (text .entry)) body stage (length (now (text .entry))) (now (start .entry)) (now (size .entry))
+        ≡ endAt (inEdition edition (now (text .entry))) body stage (length (now (text .entry))) (now (start .entry)) (now (size .entry))
         ⌝ }
 {
     match stage {
         Stage::Start => ListAnswer::Labels(0),
         Stage::Due { count: _ } => too_soon(text, body),
         Stage::Bare { first, len, count } => {
-            if keep(text, first, len, count, start, size, seen) {
+            if keep(edition, text, first, len, count, start, size, seen) {
                 return ListAnswer::Refused(Refusal {
                     reason: Reason::Repeated,
                     body,
@@ -427,9 +449,9 @@ fn told(answer: ListAnswer, start: [usize; LIST_LIMIT], size: [usize; LIST_LIMIT
     }
 }
 
-// Reads a list of labels; a refusal names `body`.
-pub fn read_list(text: &[u8], body: Body) -> ListRead
-    ensures { λ r. ⌜ r ≡ listRead body (readList (now (text .entry))) ⌝ }
+// Reads a list of labels, which are compared by an edition; a refusal names `body`.
+pub fn read_list(edition: Edition, text: &[u8], body: Body) -> ListRead
+    ensures { λ r. ⌜ r ≡ listRead body (readListIn edition (now (text .entry))) ⌝ }
 {
     let table = trees::classes();
     let mut start = [0usize; LIST_LIMIT];
@@ -439,7 +461,16 @@ pub fn read_list(text: &[u8], body: Body) -> ListRead
     let mut i: usize = 0;
     while i < text.len() {
         let kind = trees::kind_in(&table, text[i]);
-        match step(text, kind, i, stage, &mut start, &mut size, &mut seen) {
+        match step(
+            edition,
+            text,
+            kind,
+            i,
+            stage,
+            &mut start,
+            &mut size,
+            &mut seen,
+        ) {
             Outcome::Next(next) => {
                 stage = next;
             }
@@ -457,6 +488,6 @@ pub fn read_list(text: &[u8], body: Body) -> ListRead
         }
         i += 1;
     }
-    let answer = at_end(text, body, stage, &mut start, &mut size, &mut seen);
+    let answer = at_end(edition, text, body, stage, &mut start, &mut size, &mut seen);
     told(answer, start, size)
 }

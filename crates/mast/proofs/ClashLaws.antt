@@ -1,8 +1,8 @@
 -- Number 8 by ranks: the three required labels that clash first, and where they stand in the list. Assumes nothing.
-use Prim.Native.Nat.{ℕ, suc, _-_, _<_, _≤_}
-use mathlib.Core.Path.{_≡_, refl, sym, _∙_, ap}
+use Prim.Native.Nat.{ℕ, zero, suc, _-_, _<_, _≤_}
+use mathlib.Core.Path.{_≡_, refl, sym, _∙_, ap, subst}
 use mathlib.Core.Bool.{true}
-use mathlib.Core.List.{List, [], map}
+use mathlib.Core.List.{List, [], _∷_, map}
 use mathlib.Core.Option.{Option, some, none}
 use native.Mathlib.Omega.{arith}
 use lib.ListN.{length, getD, length-map}
@@ -22,6 +22,7 @@ use Rattle.agreement.proofs.SetLaws.{in-sorted, length-sorted, sorted-inc, inc-
 use Rattle.agreement.proofs.AnswerLaws.{FirstThree}
 use Rattle.agreement.proofs.DemandLaws.{required-clash, disagreement-unique}
 use Rattle.agreement.proofs.Promises.{eight-names}
+use Rattle.leaves.specs.Numbered.{LeafIs, Numbered}
 use Rattle.triples.specs.declared.Three as Ranks
 use Rattle.triples.specs.Clash.{rankOf, clashRanks, RankedTree}
 use Rattle.triples.proofs.Ranks.{place-of}
@@ -149,6 +150,26 @@ module _ (s t : Tree) (K : List Token) (a b c : Label) (tree1 tree2 : TreeArrays
 
     pub third-placed : PlacedAt K c (places .start) number ranks (three .third)
     third-placed = rw three-is (placed-at c (named .clash .inThree))
+
+    -- their leaves in the first tree
+    leaf-of : (x : Label) → isIn x L ≡ true → LeafIs (decoded s) (getD leaf1 (rankOf (sorted L) x) 0) x
+    leaf-of x k =
+        let i = number-of (sorted L) x (in-sorted x L ∙ k) in
+        let rank : rankOf (sorted L) x ≡ i .at = ap (rankOf (sorted L)) (sym (i .is)) ∙ rank-at (sorted L) (i .at) sorted-distinct (i .below) in
+        let l = ranked s tree1 order1 leaf1 (h .asked .one) at1 .numbered (i .at) (i .below) in
+        rw rank (subst (λ (y : Label). LeafIs (decoded s) (getD leaf1 (i .at) 0) y) (i .is) l)
+
+    module _ (found : List ℕ) (is : (getD found 0 0 ≡ getD leaf1 (three .first) 0) × (getD found 1 0 ≡ getD leaf1 (three .second) 0)
+        × (getD found 2 0 ≡ getD leaf1 (three .third) 0)) where
+      one-leaf : (i n : ℕ) (x : Label) → getD found i 0 ≡ getD leaf1 n 0 → n ≡ rankOf (sorted L) x → isIn x L ≡ true
+          → LeafIs (decoded s) (getD found i 0) x
+      one-leaf i n x d e k = rw (d, e) (leaf-of x k)
+
+      pub leaves-numbered : Numbered (decoded s) (a ∷ b ∷ c ∷ []) found
+      leaves-numbered zero l = one-leaf 0 (three .first) a (is .0) (ap (λ q. q .first) three-is) (named .clash .inOne)
+      leaves-numbered (suc zero) l = one-leaf 1 (three .second) b (is .1) (ap (λ q. q .second) three-is) (named .clash .inTwo)
+      leaves-numbered (suc (suc zero)) l = one-leaf 2 (three .third) c (is .2) (ap (λ q. q .third) three-is) (named .clash .inThree)
+      leaves-numbered (suc (suc (suc n))) l = absurd (omega arith)
 
 pub three-places : (K : List Token) (a b c : Label) (p q r : ℕ) → p ≡ placeOfLabel K 0 a → q ≡ placeOfLabel K 0 b → r ≡ placeOfLabel K 0 c
     → _≡_ {A = Ranks.Three} (record { first = p; second = q; third = r }) (placesOfThree K a b c)

@@ -1,6 +1,6 @@
 -- Demand 3 of the engine's answer to three texts and an output of `room` bytes, in the scope paper's order; the contract of `largest`
--- says that `solve` is what comes back. Trees and lists are as they are read; agreement is asked of the labels that their tokens stand
--- for. Assumes nothing.
+-- says that `solve` is what comes back. Trees and lists are as they stand; agreement is asked of their keys, for each edition at once.
+-- Assumes nothing.
 use Prim.Native.Nat.{ℕ, _<_}
 use mathlib.Core.Path.{_≡_, refl, _∙_}
 use mathlib.Core.Logic.{_↔_}
@@ -11,17 +11,20 @@ use Rattle.trees.specs.declared.Body.the-variants.{K, S, T}
 use Rattle.trees.specs.declared.Refusal.{Refusal}
 use Rattle.trees.specs.Label.{Label, isIn}
 use Rattle.trees.specs.Token.{Token, spelling}
-use Rattle.trees.specs.Tree.{Tree, decoded}
+use Rattle.trees.specs.declared.Edition.{Edition}
+use Rattle.trees.specs.declared.Edition.the-variants.{One}
+use Rattle.trees.specs.Edition.{inEdition, key, folded, keyed}
+use Rattle.trees.specs.Tree.{Tree}
 use Rattle.agreement.specs.Sets.{setOf}
-use Rattle.agreement.specs.Restrict.{restrict}
-use Rattle.agreement.specs.Places.{placeIn, tokenIn, placeOfNumber, placeOfLabel, tokenOfLabel, keptText, LeafShown, Listed}
+use Rattle.agreement.specs.Restrict.{restrictIn}
+use Rattle.agreement.specs.Places.{placeIn, tokenIn, placeOfNumber, placeOfLabel, tokenOfLabel, keptTextIn, spelledIn, LeafShown, Listed}
 use Rattle.agreement.specs.Answer.{Answer, answer}
-use Rattle.mast.specs.Largest.{Solution, solved, clashed, turned, tooShort, solutionOf, Task, task, plain, solveShared, solve, outputOf, largestOf, setPlaces}
+use Rattle.mast.specs.Largest.{Solution, solved, clashed, turned, tooShort, solutionOf, Task, task, plain, solveFirst, solveShared, solve, outputOf, largestOf, setPlaces}
 use Rattle.trees.specs.declared.Reason.{Reason}
 use Rattle.trees.specs.declared.Reason.the-variants.{NotShared}
 use Rattle.trees.specs.Reading.{good, refused}
-use Rattle.newick.specs.ReadTree.{readTree}
-use Rattle.lists.specs.ReadList.{readList, joined}
+use Rattle.newick.specs.ReadTree.{readTree, readTreeIn}
+use Rattle.lists.specs.ReadList.{readList, readListIn, joined, keysOf}
 use Rattle.agreement.specs.Closer.{holds, Common}
 use Rattle.agreement.specs.Demand.{IsAnswer, Clash}
 use Rattle.agreement.specs.Outcome.{Outcome}
@@ -31,65 +34,66 @@ use Rattle.mast.proofs.OutcomeLaws.{outcome-decides, eight-exactly, set
 use Rattle.mast.specs.declared.LargestAnswer.the-variants.{Found}
 use Rattle.mast.specs.Rows.{saidOfLargest, saidOfSolution}
 use Rattle.trees.specs.Text.{textOf}
-use Rattle.agreement.proofs.PlaceLaws.{leaf-shown, token-spelled, list-listed, listed-spelled, number-listed}
-use Rattle.mast.proofs.BodyLaws.{solve-trees, strict-as-plain}
+use Rattle.agreement.proofs.PlaceLaws.{list-listed, listed-spelled, number-listed}
+use Rattle.agreement.proofs.EditionText.{spelled-shown, spelled-key, spelled-size}
+use Rattle.mast.proofs.BodyLaws.{solve-trees, strict-as-plain, one-solve}
 use Rattle.mast.proofs.SaidLaws.{said-exactly}
 use Rattle.mast.proofs.StrayLaws.{shared-nowhere, stray-told}
 
 -- "Order: .. S, T, K": "A body that fails to read ends the job there"
 module _ (q : Task) (room : ℕ) (r : Reason) (i : ℕ) where
-  pub first-body : readTree (q .first) ≡ refused r i → solve q room ≡ turned (record { reason = r; body = S; place = i })
+  pub first-body : readTreeIn (q .options .edition) (q .first) ≡ refused r i → solve q room ≡ turned (record { reason = r; body = S; place = i })
   unfolding solve
   first-body e = rw e refl
 
-  pub second-body : (s : Tree) → readTree (q .first) ≡ good s → readTree (q .second) ≡ refused r i
+  pub second-body : (s : Tree) → readTreeIn (q .options .edition) (q .first) ≡ good s → readTreeIn (q .options .edition) (q .second) ≡ refused r i
       → solve q room ≡ turned (record { reason = r; body = T; place = i })
   unfolding solve
   second-body s e f = rw (e, f) refl
 
-  pub third-body : (s t : Tree) → readTree (q .first) ≡ good s → readTree (q .second) ≡ good t
-      → (q .options .strict ≡ true → SameLeaves (decoded s) (decoded t))
-      → readList (q .required) ≡ refused r i → solve q room ≡ turned (record { reason = r; body = K; place = i })
+  pub third-body : (s t : Tree) → readTreeIn (q .options .edition) (q .first) ≡ good s → readTreeIn (q .options .edition) (q .second) ≡ good t
+      → (q .options .strict ≡ true → SameLeaves (keyed (q .options .edition) s) (keyed (q .options .edition) t))
+      → readListIn (q .options .edition) (q .required) ≡ refused r i → solve q room ≡ turned (record { reason = r; body = K; place = i })
   unfolding solveShared
   third-body s t e f h g = solve-trees q room s t e f nowhere (shared-nowhere (q .options) s t h) ∙ (rw g refl)
 
 -- request C-11, "after both trees are read and before K": a strict job gets number 12 at the first leaf of the first tree that the
 -- second lacks or, if there is none, at the first of the second that the first lacks
-module _ (q : Task) (room : ℕ) (s t : Tree) (e : readTree (q .first) ≡ good s) (f : readTree (q .second) ≡ good t) where
-  pub stray-in-first : q .options .strict ≡ true → (x : Label) → IsStray (decoded s) (decoded t) x
-      → solve q room ≡ turned (record { reason = NotShared; body = S; place = placeIn s 0 x })
+module _ (q : Task) (room : ℕ) (s t : Tree) (e : readTreeIn (q .options .edition) (q .first) ≡ good s) (f : readTreeIn (q .options .edition) (q .second) ≡ good t) where
+  pub stray-in-first : q .options .strict ≡ true → (x : Label) → IsStray (keyed (q .options .edition) s) (keyed (q .options .edition) t) x
+      → solve q room ≡ turned (record { reason = NotShared; body = S; place = placeIn (folded (q .options .edition) s) 0 x })
   unfolding solveShared
   stray-in-first h x k = solve-trees q room s t e f (inFirst x) (stray-told (q .options) s t h (inFirst x) k)
 
   pub stray-in-second : q .options .strict ≡ true → (x : Label)
-      → ((y : Label) → holds (decoded s) y ≡ true → holds (decoded t) y ≡ true) → IsStray (decoded t) (decoded s) x
-      → solve q room ≡ turned (record { reason = NotShared; body = T; place = placeIn t 0 x })
+      → ((y : Label) → holds (keyed (q .options .edition) s) y ≡ true → holds (keyed (q .options .edition) t) y ≡ true) → IsStray (keyed (q .options .edition) t) (keyed (q .options .edition) s) x
+      → solve q room ≡ turned (record { reason = NotShared; body = T; place = placeIn (folded (q .options .edition) t) 0 x })
   unfolding solveShared
   stray-in-second h x a k = solve-trees q room s t e f (inSecond x) (stray-told (q .options) s t h (inSecond x) (a, k))
 
   -- where both hold the same leaves it answers as a job that is not strict: "a larger set is still impossible in both sorts"
-  pub strict-promise : SameLeaves (decoded s) (decoded t) → solve q room ≡ solve (task plain (q .first) (q .second) (q .required)) room
+  pub strict-promise : SameLeaves (keyed (q .options .edition) s) (keyed (q .options .edition) t) → solve q room ≡ solve (task (plain (q .options .edition)) (q .first) (q .second) (q .required)) room
   strict-promise = strict-as-plain q room s t e f
 
 module _ (q : Task) (room : ℕ) (s t : Tree) (xs : List Token) (reads : Reads q s t xs) where
   -- 6 or 7, then 8, then the set: whatever meets the paper's sentences on two trees and a list decides
-  pub outcome-promise : (A : Answer) → Outcome (decoded s) (decoded t) (map spelling xs) A → solve q room ≡ solutionOf s xs room A
+  pub outcome-promise : (A : Answer) → Outcome (keyed (q .options .edition) s) (keyed (q .options .edition) t) (keysOf (q .options .edition) xs) A → solve q room ≡ solutionOf (q .options .edition) s xs room A
   outcome-promise = outcome-decides q room s t xs reads
 
   -- 8 exactly if three required labels clash
-  pub eight-promise : Common (decoded s) (decoded t) (setOf (map spelling xs))
-      → ((a : Label) × (b : Label) × (c : Label) × Clash (decoded s) (decoded t) (map spelling xs) a b c)
-      ↔ ((a : Label) × (b : Label) × (c : Label) × (solve q room ≡ clashed xs a b c))
+  pub eight-promise : Common (keyed (q .options .edition) s) (keyed (q .options .edition) t) (setOf (keysOf (q .options .edition) xs))
+      → ((a : Label) × (b : Label) × (c : Label) × Clash (keyed (q .options .edition) s) (keyed (q .options .edition) t) (keysOf (q .options .edition) xs) a b c)
+      ↔ ((a : Label) × (b : Label) × (c : Label) × (solve q room ≡ clashed (q .options .edition) s xs a b c))
   eight-promise = eight-exactly q room s t xs reads
 
   -- a set exactly if it is the largest, the first among equals, and the text of the common restriction fits
-  pub set-promise : (X : List Label) (text : List ℕ) → (solve q room ≡ solved s X text) ↔ SetGiven s t xs X text room
+  pub set-promise : (X : List Label) (text : List ℕ) → (solve q room ≡ solved (q .options .edition) s X text) ↔ SetGiven (q .options .edition) s t xs X text room
   set-promise = set-exactly q room s t xs reads
 
   -- 9 last, and "only for a real lack"
   pub nine-promise : (solve q room ≡ turned tooShort)
-      ↔ ((X : List Label) × IsAnswer (decoded s) (decoded t) (map spelling xs) X
-      × (room < length (keptText (restrict (setOf X) (decoded s)))))
+      ↔ ((X : List Label) × IsAnswer (keyed (q .options .edition) s) (keyed (q .options .edition) t) (keysOf (q .options .edition) xs) X
+      × (room < length (keptTextIn (q .options .edition) (restrictIn (q .options .edition) (setOf X) s))))
   nine-promise = nine-exactly q room s t xs reads
 
 -- "an output keeps every byte"; "On success the output holds the normal text and its further bytes are unchanged"
@@ -97,29 +101,36 @@ pub kept-on-refusal : (q : Refusal) (out : List ℕ) → outputOf (turned q) out
 unfolding outputOf
 kept-on-refusal q out = refl
 
-pub kept-on-eight : (xs : List Token) (a b c : Label) (out : List ℕ) → outputOf (clashed xs a b c) out ≡ out
+pub kept-on-eight : (e : Edition) (s : Tree) (xs : List Token) (a b c : Label) (out : List ℕ) → outputOf (clashed e s xs a b c) out ≡ out
 unfolding outputOf
-kept-on-eight xs a b c out = refl
+kept-on-eight e s xs a b c out = refl
 
-pub written-on-success : (s : Tree) (X : List Label) (text out : List ℕ) → outputOf (solved s X text) out ≡ text ++ drop (length text) out
+pub written-on-success : (e : Edition) (s : Tree) (X : List Label) (text out : List ℕ)
+    → outputOf (solved e s X text) out ≡ text ++ drop (length text) out
 unfolding outputOf
-written-on-success s X text out = refl
+written-on-success e s X text out = refl
 
 -- "A size printed with no set of that size: the size is that set's length"
-pub size-promise : (s : Tree) (X : List Label) (text : List ℕ)
-    → (largestOf (solved s X text) .answer ≡ Found (length X) (length text)) × (largestOf (solved s X text) .set .count ≡ length X)
+pub size-promise : (e : Edition) (s : Tree) (X : List Label) (text : List ℕ)
+    → (largestOf (solved e s X text) .answer ≡ Found (length X) (length text)) × (largestOf (solved e s X text) .set .count ≡ length X)
 unfolding largestOf setPlaces
-size-promise s X text = (refl, refl)
+size-promise e s X text = (refl, refl)
 
 -- "If an answer is an enum, the promises use a definition that gives this paper's number and values for each of its cases."
 pub rows-promise : (x : Solution) → saidOfLargest (largestOf x .answer) ≡ saidOfSolution x
 rows-promise = said-exactly
 
--- "the part of the text shown for it has both quotes": at the place in the set stands in the first tree's text, as a whole, a token
--- that stands for the label; so it is with the places of number 8 in the list, and with those of 6 and 7
-pub set-places-promise : (t : Tree) (x : Label) → holds (decoded t) x ≡ true
-    → LeafShown (textOf t) (placeIn t 0 x) (tokenIn t x) × (spelling (tokenIn t x) ≡ x)
-set-places-promise t x h = (leaf-shown t x h, token-spelled t x h)
+-- "Old records must still be judged by the first edition": under edition 1 trees, lists and texts are read as they were
+pub first-edition : (q : Task) (room : ℕ) → q .options .edition ≡ One
+    → solve q room ≡ solveFirst (q .options) room (readTree (q .first)) (readTree (q .second)) (readList (q .required))
+first-edition = one-solve
+
+-- "the part of the text shown for it has both quotes": at the place of a label, of the set or of number 8, stands in the first tree's text,
+-- as a whole leaf, a token that has its key; so it is with the places of number 8 in the list, and with those of 6 and 7
+pub set-places-promise : (e : Edition) (t : Tree) (x : Label) → holds (keyed e t) x ≡ true
+    → LeafShown (inEdition e (textOf t)) (placeIn (folded e t) 0 x) (inEdition e (spelledIn e t x)) × (key e (spelledIn e t x) ≡ x)
+    × (length (spelledIn e t x) ≡ length (tokenIn (folded e t) x))
+set-places-promise e t x h = (spelled-shown e t x h, spelled-key e t x h, spelled-size e t x h)
 
 pub eight-places-promise : (xs : List Token) (x : Label) → isIn x (map spelling xs) ≡ true
     → Listed (joined xs) (placeOfLabel xs 0 x) (tokenOfLabel xs x) × (spelling (tokenOfLabel xs x) ≡ x)

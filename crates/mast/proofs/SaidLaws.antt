@@ -5,6 +5,6 @@ use Rattle.mast.specs.Rows.{saidOfLargest, saidOfSolution}
 
 pub said-exactly : (x : Solution) → saidOfLargest (largestOf x .answer) ≡ saidOfSolution x
 unfolding largestOf saidOfLargest saidOfSolution
-said-exactly (solved s X text) = refl
-said-exactly (clashed xs a b c) = refl
+said-exactly (solved e s X text) = refl
+said-exactly (clashed e s xs a b c) = refl
 said-exactly (turned q) = refl

@@ -13,6 +13,7 @@ use lib.Seq.{drop-cons, getD-set-same, getD-set-other}
 use borrow.Author.Tests.{eqb-true, eqb-false, eq-eqb, leb-true, leb-false}
 use Rattle.trees.specs.declared.Body.the-variants.{S, T}
 use Rattle.trees.specs.Label.{Label}
+use Rattle.trees.specs.Edition.{folded, keyed}
 use Rattle.trees.specs.Tree.{Tree, leaf, node, leaves, decoded, Proper}
 use Rattle.trees.specs.Arrays.{nodesOf, arraysOf}
 use Rattle.trees.specs.Postorder.{postorder, subtree, leafLabels}
@@ -103,32 +104,32 @@ module _ {s t : Tree} {left partner : List ℕ} {nodes : ℕ} (left-is : left �
 
 -- a strict job is not stopped exactly if both trees hold the same leaves, and any other never is
 
-pub shared-nowhere : (o : Options) (s t : Tree) → (o .strict ≡ true → SameLeaves (decoded s) (decoded t)) → strayFor o s t ≡ nowhere
+pub shared-nowhere : (o : Options) (s t : Tree) → (o .strict ≡ true → SameLeaves (keyed (o .edition) s) (keyed (o .edition) t)) → strayFor o s t ≡ nowhere
 unfolding strayFor
 shared-nowhere o s t h = go (o .strict) refl
   where
-    go : (b : Bool) → o .strict ≡ b → cond b (strayOf (decoded s) (decoded t)) nowhere ≡ nowhere
-    go true e = stray-exactly (decoded s) (decoded t) nowhere .1 (h e)
+    go : (b : Bool) → o .strict ≡ b → cond b (strayOf (keyed (o .edition) s) (keyed (o .edition) t)) nowhere ≡ nowhere
+    go true e = stray-exactly (keyed (o .edition) s) (keyed (o .edition) t) nowhere .1 (h e)
     go false e = refl
 
-pub nowhere-shared : (o : Options) (s t : Tree) → strayFor o s t ≡ nowhere → o .strict ≡ true → SameLeaves (decoded s) (decoded t)
+pub nowhere-shared : (o : Options) (s t : Tree) → strayFor o s t ≡ nowhere → o .strict ≡ true → SameLeaves (keyed (o .edition) s) (keyed (o .edition) t)
 unfolding strayFor
-nowhere-shared o s t e k = stray-exactly (decoded s) (decoded t) nowhere .0 (rw k at e)
+nowhere-shared o s t e k = stray-exactly (keyed (o .edition) s) (keyed (o .edition) t) nowhere .0 (rw k at e)
 
 -- what is told of a job that is stopped
 pub stray-strict : (o : Options) (s t : Tree) (r : Stray) → strayFor o s t ≡ r → (r ≡ nowhere → ⊥)
-    → (o .strict ≡ true) × Told (decoded s) (decoded t) r
+    → (o .strict ≡ true) × Told (keyed (o .edition) s) (keyed (o .edition) t) r
 unfolding strayFor
 stray-strict o s t r e n = go (o .strict) refl e
   where
-    go : (b : Bool) → o .strict ≡ b → cond b (strayOf (decoded s) (decoded t)) nowhere ≡ r
-        → (o .strict ≡ true) × Told (decoded s) (decoded t) r
-    go true k h = (k, stray-exactly (decoded s) (decoded t) r .0 h)
+    go : (b : Bool) → o .strict ≡ b → cond b (strayOf (keyed (o .edition) s) (keyed (o .edition) t)) nowhere ≡ r
+        → (o .strict ≡ true) × Told (keyed (o .edition) s) (keyed (o .edition) t) r
+    go true k h = (k, stray-exactly (keyed (o .edition) s) (keyed (o .edition) t) r .0 h)
     go false k h = absurd (n (sym h))
 
-pub stray-told : (o : Options) (s t : Tree) → o .strict ≡ true → (r : Stray) → Told (decoded s) (decoded t) r → strayFor o s t ≡ r
+pub stray-told : (o : Options) (s t : Tree) → o .strict ≡ true → (r : Stray) → Told (keyed (o .edition) s) (keyed (o .edition) t) r → strayFor o s t ≡ r
 unfolding strayFor
-stray-told o s t e r h = rw e (stray-exactly (decoded s) (decoded t) r .1 h)
+stray-told o s t e r h = rw e (stray-exactly (keyed (o .edition) s) (keyed (o .edition) t) r .1 h)
 
 -- the partners turned round, after u nodes of the first tree: each leaf of the second has its leaf among them, if there is one
 abbrev Back : Tree → Tree → ℕ → List ℕ → ℕ → Label → Type 0
@@ -229,11 +230,13 @@ module _ {s t : Tree} {text1 left1 start1 size1 text2 left2 start2 size2 : List 
       unfolding strayOf inEither sharedOf
       shared-all b = rw (none1, m .missing (omega (arith, own-nodes two))) refl
 
-pub paired-plain : (o : Options) (s t : Tree) → o .strict ≡ false → shared.All ≡ sharedOf s t (strayFor o s t)
+pub paired-plain : (o : Options) (s t : Tree) → o .strict ≡ false
+    → shared.All ≡ sharedOf (folded (o .edition) s) (folded (o .edition) t) (strayFor o s t)
 unfolding strayFor sharedOf
 paired-plain o s t e = rw e refl
 
 pub paired-strict : (o : Options) (s t : Tree) → o .strict ≡ true
-    → sharedOf s t (strayOf (decoded s) (decoded t)) ≡ sharedOf s t (strayFor o s t)
+    → sharedOf (folded (o .edition) s) (folded (o .edition) t) (strayOf (keyed (o .edition) s) (keyed (o .edition) t))
+    ≡ sharedOf (folded (o .edition) s) (folded (o .edition) t) (strayFor o s t)
 unfolding strayFor
 paired-strict o s t e = rw e refl

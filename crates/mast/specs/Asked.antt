@@ -9,7 +9,6 @@ use Rattle.trees.specs.declared.TreeArrays.{TreeArrays}
 use Rattle.trees.specs.Label.{Label, isIn, distinct}
 use Rattle.trees.specs.Token.{Token, spelling}
 use Rattle.trees.specs.Tree.{Tree, decoded, Valid}
-use Rattle.trees.specs.Text.{textOf}
 use Rattle.trees.specs.Arrays.{arraysOf}
 use Rattle.lists.specs.declared.LabelPlaces.{LabelPlaces}
 use Rattle.lists.specs.ReadList.{placesOf, listLimit}
@@ -76,9 +75,8 @@ pub record FirstMissing (s t : Tree) (K : List Token) (text1 list : List ℕ) (t
   pub earlier : (k : ℕ) → k < n → isIn (getD (map spelling K) k []) (common (decoded s) (decoded t)) ≡ true
   pub missing : isIn (getD (map spelling K) n []) (common (decoded s) (decoded t)) ≡ false
 
--- with the first tree's text and the places of the list
-pub record AskedOf (s t : Tree) (K : List Token) (text1 : List ℕ) (tree1 tree2 : TreeArrays) (order1 order2 : List ℕ) (m : ℕ)
+-- with the places of the list
+pub record AskedOf (s t : Tree) (K : List Token) (tree1 tree2 : TreeArrays) (order1 order2 : List ℕ) (m : ℕ)
     (number : List ℕ) (places : LabelPlaces) : Type 0 where
   pub asked : Asked s t K tree1 tree2 order1 order2 m number (places .count)
-  pub text-is : text1 ≡ textOf s
   pub list-places : places ≡ placesOf K

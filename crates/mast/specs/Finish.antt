@@ -7,14 +7,16 @@ use mathlib.Core.List.{List}
 use lib.ListN.{length, getD, set}
 use Rattle.trees.specs.declared.TreeArrays.{TreeArrays}
 use Rattle.trees.specs.Label.{Label, isIn}
-use Rattle.trees.specs.Tree.{Tree, leaf, decoded, Valid}
+use Rattle.trees.specs.declared.Edition.{Edition}
+use Rattle.trees.specs.Edition.{keyed, ValidIn}
+use Rattle.trees.specs.Tree.{Tree, leaf}
 use Rattle.trees.specs.Text.{textOf}
 use Rattle.trees.specs.Arrays.{nodesOf, nodeLimit, arraysOf}
 use Rattle.trees.specs.Postorder.{postorder, subtree}
 use Rattle.lists.specs.declared.LabelPlaces.{LabelPlaces}
 use Rattle.agreement.specs.Sets.{setOf}
-use Rattle.agreement.specs.Restrict.{restrict}
-use Rattle.agreement.specs.Places.{keptText}
+use Rattle.agreement.specs.Restrict.{restrictIn}
+use Rattle.agreement.specs.Places.{keptTextIn}
 use Rattle.mast.specs.declared.LargestAnswer.{LargestAnswer}
 use Rattle.mast.specs.declared.LargestResult.{LargestResult}
 use Rattle.leaves.specs.Numbered.{Numbered}
@@ -37,17 +39,17 @@ pub record Stored (forced : Bool) (at len : ℕ) (old new : LabelPlaces) : Type 
 abbrev pub Flagged : Tree → List Label → List Bool → Type 0
 Flagged t X kept = (u : ℕ) → u < nodesOf t → (x : Label) → subtree (postorder t) u ≡ leaf x → getD kept u false ≡ isIn x X
 
--- the arrays and the text of tree t, and its leaves by the rank in C of the labels that they stand for
-pub record ByRank (t : Tree) (C : List Label) (tree : TreeArrays) (text order : List ℕ) (m : ℕ) : Type 0 where
-  pub valid : Valid t
+-- the arrays and the text of tree t, and its leaves by the rank in C of their keys
+pub record ByRank (e : Edition) (t : Tree) (C : List Label) (tree : TreeArrays) (text order : List ℕ) (m : ℕ) : Type 0 where
+  pub valid : ValidIn e t
   pub arrays-is : tree ≡ arraysOf t
   pub text-is : text ≡ textOf t
   pub count : m ≡ length C
-  pub numbered : Numbered (decoded t) C order
+  pub numbered : Numbered (keyed e t) C order
 
 -- what a set comes to in an output of `room` bytes
-abbrev pub fittedSet : Tree → List Label → ℕ → Solution
-fittedSet s X room = fitted s X (keptText (restrict (setOf X) (decoded s))) room
+abbrev pub fittedSet : Edition → Tree → List Label → ℕ → Solution
+fittedSet e s X room = fitted e s X (keptTextIn e (restrictIn e (setOf X) s)) room
 
 abbrev pub resultFrom : LargestAnswer → LabelPlaces → LargestResult
 resultFrom a p = record { answer = a; set = p }

@@ -1,35 +1,40 @@
 -- The engine's answer to three texts and an output. Scope paper: "Job and printed result", "Why a job is turned down". Trees and lists
--- are as they are read, of tokens; what is asked of them is asked of the labels that the tokens stand for (request C-12).
+-- are as they stand, of tokens; what is asked of them is asked of their keys, the labels that the tokens stand for (request C-12) as the
+-- edition reads them (request C-15).
 use Prim.Native.Nat.{ℕ}
 use mathlib.Core.Bool.{false, cond}
-use mathlib.Core.List.{List, [], _++_, map}
+use mathlib.Core.List.{List, [], _∷_, _++_, map}
 use lib.Dec.{leb}
 use lib.ListN.{length, drop}
 use Rattle.trees.specs.declared.Reason.the-variants.{FirstLacks, SecondLacks, TooShort, NotShared}
 use Rattle.trees.specs.declared.Body.the-variants.{S, T, K, O}
 use Rattle.trees.specs.declared.Refusal.{Refusal}
 use Rattle.trees.specs.Label.{Label}
-use Rattle.trees.specs.Token.{Token, spelling}
-use Rattle.trees.specs.Tree.{Tree, decoded}
+use Rattle.trees.specs.declared.Edition.{Edition}
+use Rattle.trees.specs.Edition.{folded, keyed}
+use Rattle.trees.specs.Token.{Token}
+use Rattle.trees.specs.Tree.{Tree}
 use Rattle.trees.specs.Reading.{Reading, good, refused}
-use Rattle.newick.specs.ReadTree.{readTree}
+use Rattle.newick.specs.ReadTree.{readTreeIn}
 use Rattle.lists.specs.declared.LabelPlaces.{LabelPlaces}
-use Rattle.lists.specs.ReadList.{readList, padded, placesOf}
+use Rattle.lists.specs.ReadList.{readListIn, padded, placesOf, foldedList, keysOf}
 use Rattle.agreement.specs.Sets.{setOf}
-use Rattle.agreement.specs.Restrict.{restrict}
+use Rattle.agreement.specs.Restrict.{restrictIn}
 use Rattle.agreement.specs.Answer.{Answer, firstLacks, secondLacks, disagree, largest, answer}
-use Rattle.agreement.specs.Places.{tokenIn, placeIn, placeOfNumber, placeOfLabel, keptText}
+use Rattle.agreement.specs.Places.{tokenIn, placeIn, placeOfNumber, placeOfLabel, keptTextIn}
 use Rattle.agreement.specs.Strict.{Stray, inFirst, inSecond, nowhere, strayOf}
+use Rattle.mast.specs.declared.LargestAnswer.{LargestAnswer}
 use Rattle.mast.specs.declared.LargestAnswer.the-variants.{Found, Disagree, Refused}
 use Rattle.mast.specs.declared.LargestResult.{LargestResult}
 use Rattle.mast.specs.declared.Options.{Options}
 
 -- what a job comes to
 pub data Solution : Type 0 where
-  -- the first tree, the set in label order and the normal text of its common restriction
-  solved : Tree → List Label → List ℕ → Solution
-  -- number 8: the list and three of its labels
-  clashed : List Token → Label → Label → Label → Solution
+  -- the edition and the first tree, which spells all that is printed; the set in label order, by its keys; the normal text of its common
+  -- restriction
+  solved : Edition → Tree → List Label → List ℕ → Solution
+  -- number 8: the same two, the list and three of its labels, by their keys
+  clashed : Edition → Tree → List Token → Label → Label → Label → Solution
   turned : Refusal → Solution
 
 -- number 9, O 0
@@ -37,38 +42,38 @@ abbrev pub tooShort : Refusal
 tooShort = record { reason = TooShort; body = O; place = 0 }
 
 -- the text of the set's restriction goes into an output of `room` bytes, "too short exactly if it has fewer bytes than the text"
-unfoldable pub fitted : Tree → List Label → List ℕ → ℕ → Solution
-fitted s X text room =
-    cond (leb (length text) room) (solved s X text) (turned tooShort)
+unfoldable pub fitted : Edition → Tree → List Label → List ℕ → ℕ → Solution
+fitted e s X text room =
+    cond (leb (length text) room) (solved e s X text) (turned tooShort)
 
-unfoldable pub solutionOf : Tree → List Token → ℕ → Answer → Solution
-unfolding fitted
-solutionOf s xs room (firstLacks n) = turned (record { reason = FirstLacks; body = K; place = placeOfNumber xs n })
-solutionOf s xs room (secondLacks n) = turned (record { reason = SecondLacks; body = K; place = placeOfNumber xs n })
-solutionOf s xs room (disagree a b c) = clashed xs a b c
-solutionOf s xs room (largest X) = fitted s X (keptText (restrict (setOf X) (decoded s))) room
+unfoldable pub solutionOf : Edition → Tree → List Token → ℕ → Answer → Solution
+unfolding fitted keptTextIn
+solutionOf e s xs room (firstLacks n) = turned (record { reason = FirstLacks; body = K; place = placeOfNumber xs n })
+solutionOf e s xs room (secondLacks n) = turned (record { reason = SecondLacks; body = K; place = placeOfNumber xs n })
+solutionOf e s xs room (disagree a b c) = clashed e s xs a b c
+solutionOf e s xs room (largest X) = fitted e s X (keptTextIn e (restrictIn e (setOf X) s)) room
 
-unfoldable pub solveList : Tree → Tree → ℕ → Reading (List Token) → Solution
+unfoldable pub solveList : Edition → Tree → Tree → ℕ → Reading (List Token) → Solution
 unfolding solutionOf
-solveList s t room (good xs) = solutionOf s xs room (answer (decoded s) (decoded t) (map spelling xs))
-solveList s t room (refused r i) = turned (record { reason = r; body = K; place = i })
+solveList e s t room (good xs) = solutionOf e s xs room (answer (keyed e s) (keyed e t) (keysOf e xs))
+solveList e s t room (refused r i) = turned (record { reason = r; body = K; place = i })
 
 -- request C-11: "a leaf that stands in only one tree stops the job", where the job is strict
 unfoldable pub strayFor : Options → Tree → Tree → Stray
 unfolding strayOf
-strayFor o s t = cond (o .strict) (strayOf (decoded s) (decoded t)) nowhere
+strayFor o s t = cond (o .strict) (strayOf (keyed (o .edition) s) (keyed (o .edition) t)) nowhere
 
 -- it gets number 12, "with the letter and place of the first such leaf in S or, if S has none, in T"
-unfoldable pub solveShared : Tree → Tree → ℕ → Reading (List Token) → Stray → Solution
+unfoldable pub solveShared : Edition → Tree → Tree → ℕ → Reading (List Token) → Stray → Solution
 unfolding solveList placeIn
-solveShared s t room list (inFirst x) = turned (record { reason = NotShared; body = S; place = placeIn s 0 x })
-solveShared s t room list (inSecond x) = turned (record { reason = NotShared; body = T; place = placeIn t 0 x })
-solveShared s t room list nowhere = solveList s t room list
+solveShared e s t room list (inFirst x) = turned (record { reason = NotShared; body = S; place = placeIn (folded e s) 0 x })
+solveShared e s t room list (inSecond x) = turned (record { reason = NotShared; body = T; place = placeIn (folded e t) 0 x })
+solveShared e s t room list nowhere = solveList e s t room list
 
 -- 12 is told "after both trees are read and before K"
 unfoldable pub solveSecond : Options → Tree → ℕ → Reading Tree → Reading (List Token) → Solution
 unfolding solveShared strayFor
-solveSecond o s room (good t) list = solveShared s t room list (strayFor o s t)
+solveSecond o s room (good t) list = solveShared (o .edition) s t room list (strayFor o s t)
 solveSecond o s room (refused r i) list = turned (record { reason = r; body = T; place = i })
 
 -- "Order: .. S, T, K, then 6 or 7, then 8, then 9 for the output. A body that fails to read ends the job there."
@@ -87,30 +92,37 @@ pub record Task : Type 0 where
 abbrev pub task : Options → List ℕ → List ℕ → List ℕ → Task
 task options first second required = record { options = options; first = first; second = second; required = required }
 
--- nothing is asked beside the texts
-abbrev pub plain : Options
-plain = record { strict = false }
+-- nothing is asked beside the texts and the edition
+abbrev pub plain : Edition → Options
+plain e = record { strict = false; edition = e }
 
 unfoldable pub solve : Task → ℕ → Solution
 unfolding solveFirst
-solve q room = solveFirst (q .options) room (readTree (q .first)) (readTree (q .second)) (readList (q .required))
+solve q room =
+    solveFirst (q .options) room (readTreeIn (q .options .edition) (q .first)) (readTreeIn (q .options .edition) (q .second))
+    (readListIn (q .options .edition) (q .required))
 
--- where the labels of a set stand in the first tree's text, in label order: "the part of the text shown for it has both quotes"
+-- where the labels of a set stand in the text of a tree, in label order: "the part of the text shown for it has both quotes"
 unfoldable pub setPlaces : Tree → List Label → LabelPlaces
 setPlaces s X =
     record { count = length X; start = padded (map (placeIn s 0) X); size = padded (map (λ (x : Label). length (tokenIn s x)) X) }
 
--- what comes back: size and text's length, with the set's places; the three labels' places in the list; or the refusal
+-- where three labels stand in a list
+abbrev pub disagreeAt : List Token → Label → Label → Label → LargestAnswer
+disagreeAt xs a b c = Disagree (placeOfLabel xs 0 a) (placeOfLabel xs 0 b) (placeOfLabel xs 0 c)
+
+-- what comes back: size and text's length, with the set's places; the three labels' places in the list, and where the first tree spells
+-- them; or the refusal
 unfoldable pub largestOf : Solution → LargestResult
 unfolding setPlaces
-largestOf (solved s X text) = record { answer = Found (length X) (length text); set = setPlaces s X }
-largestOf (clashed xs a b c) =
-    record { answer = Disagree (placeOfLabel xs 0 a) (placeOfLabel xs 0 b) (placeOfLabel xs 0 c); set = placesOf [] }
+largestOf (solved e s X text) = record { answer = Found (length X) (length text); set = setPlaces (folded e s) X }
+largestOf (clashed e s xs a b c) =
+    record { answer = disagreeAt (foldedList e xs) a b c; set = setPlaces (folded e s) (a ∷ b ∷ c ∷ []) }
 largestOf (turned q) = record { answer = Refused q; set = placesOf [] }
 
 -- what the output then holds: "On success the output holds the normal text and its further bytes are unchanged"; otherwise
 -- "an output keeps every byte"
 unfoldable pub outputOf : Solution → List ℕ → List ℕ
-outputOf (solved s X text) out = text ++ drop (length text) out
-outputOf (clashed xs a b c) out = out
+outputOf (solved e s X text) out = text ++ drop (length text) out
+outputOf (clashed e s xs a b c) out = out
 outputOf (turned q) out = out

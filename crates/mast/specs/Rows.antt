@@ -6,6 +6,7 @@ use Rattle.trees.specs.declared.Reason.the-variants.{Disagree as DisagreeReason
 use Rattle.trees.specs.declared.Body.the-variants.{K}
 use Rattle.trees.specs.declared.Refusal.{Refusal}
 use Rattle.trees.specs.Refusals.{numberOf, letterOf}
+use Rattle.lists.specs.ReadList.{foldedList}
 use Rattle.agreement.specs.Places.{placeOfLabel}
 use Rattle.mast.specs.declared.LargestAnswer.{LargestAnswer}
 use Rattle.mast.specs.declared.LargestAnswer.the-variants.{Found, Disagree, Refused}
@@ -35,6 +36,7 @@ saidOfLargest (Refused q) = refusalRow q
 -- what has to be said of two trees and a list
 unfoldable pub saidOfSolution : Solution → Said
 unfolding refusalRow eightRow placeOfLabel
-saidOfSolution (solved s X text) = granted (length X ∷ length text ∷ [])
-saidOfSolution (clashed xs a b c) = eightRow (placeOfLabel xs 0 a) (placeOfLabel xs 0 b) (placeOfLabel xs 0 c)
+saidOfSolution (solved e s X text) = granted (length X ∷ length text ∷ [])
+saidOfSolution (clashed e s xs a b c) =
+    eightRow (placeOfLabel (foldedList e xs) 0 a) (placeOfLabel (foldedList e xs) 0 b) (placeOfLabel (foldedList e xs) 0 c)
 saidOfSolution (turned q) = refusalRow q

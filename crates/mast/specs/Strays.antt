@@ -7,7 +7,8 @@ use Rattle.trees.specs.declared.Reason.the-variants.{NotShared}
 use Rattle.trees.specs.declared.Body.{Body}
 use Rattle.trees.specs.declared.Body.the-variants.{S, T}
 use Rattle.trees.specs.Label.{Label}
-use Rattle.trees.specs.Tree.{Tree, leaves, decoded}
+use Rattle.trees.specs.Edition.{folded, keyed}
+use Rattle.trees.specs.Tree.{Tree, leaves}
 use Rattle.trees.specs.Arrays.{nodesOf}
 use Rattle.agreement.specs.Closer.{holds}
 use Rattle.agreement.specs.Places.{placeIn}
@@ -35,5 +36,5 @@ sharedOf s t nowhere = shared.All
 
 -- the partner of each leaf of s, and number 12 as far as it is asked for
 pub record Paired (o : Options) (s t : Tree) (nodes : ℕ) (partner : List ℕ) (r : Shared) : Type 0 where
-  pub partners : Partners nodes (decoded s) (decoded t) partner
-  pub told : r ≡ sharedOf s t (strayFor o s t)
+  pub partners : Partners nodes (keyed (o .edition) s) (keyed (o .edition) t) partner
+  pub told : r ≡ sharedOf (folded (o .edition) s) (folded (o .edition) t) (strayFor o s t)

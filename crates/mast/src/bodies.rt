@@ -5,10 +5,12 @@ ghost use mathlib.Core.Path.{_≡_};
 ghost use mathlib.Core.Bool.{cond};
 ghost use mathlib.Core.List.{List, map};
 ghost use Prim.Native.Nat.{ℕ, _<_, _≤_};
+ghost use Rattle.trees.specs.Edition.{inEdition, folded, keyed};
 ghost use Rattle.trees.specs.Label.{Label};
 ghost use Rattle.trees.specs.Token.{Token, spelling};
 ghost use Rattle.trees.specs.Tree.{Tree, decoded, Valid};
 ghost use Rattle.trees.specs.declared.Reason.the-variants.{FirstLacks, SecondLacks};
+ghost use Rattle.lists.specs.ReadList.{foldedList, keysOf};
 ghost use Rattle.agreement.specs.Answer.{answer};
 ghost use Rattle.mast.specs.Largest.{clashed, solutionOf, largestOf};
 ghost use Rattle.mast.specs.Engine.{OwnLeaves, Ordered};
@@ -18,6 +20,7 @@ ghost use Rattle.mast.specs.Asked.{Asked, Clashes, SomeTree, SomeClash, 
 ghost use Rattle.mast.specs.Bodies.{Bodies, Settled};
 use crate::LargestAnswer;
 use crate::LargestResult;
+use crate::finish::set_places;
 use crate::finish::solution;
 use crate::finish::without_set;
 use crate::ranks::NO_RANK;
@@ -31,6 +34,7 @@ use lists::LabelPlaces;
 use table::RANKS;
 use table::largest_set;
 use trees::Body;
+use trees::Edition;
 use trees::LEAF_LIMIT;
 use trees::NODE_LIMIT;
 use trees::Reason;
@@ -39,6 +43,7 @@ use trees::TreeArrays;
 
 // The common leaves in label order, by their numbers in both trees, and how many they are.
 fn order_in(
+    edition: Edition,
     first: &[u8],
     tree1: TreeArrays,
     partner: &[usize; NODE_LIMIT],
@@ -49,11 +54,11 @@ fn order_in(
     requires { ⌜ (tree1 .nodes ≤ 159) × (most ≤ 80) ⌝ }
     ensures { λ r. ⌜ r ≤ 80 ⌝ }
     ensures { λ r. ⌜ ((s t : Tree)
-        → OwnLeaves s (now (first .entry)) (tree1 .left) (tree1 .start) (tree1 .size) (tree1 .nodes) → Valid t
+        → OwnLeaves s (inEdition edition (now (first .entry))) (tree1 .left) (tree1 .start) (tree1 .size) (tree1 .nodes) → Valid t
         → most ≡ mostCommon (decoded s) (decoded t) → Partners (tree1 .nodes) (decoded s) (decoded t) (now (partner .entry))
         → Ordered (decoded s) (decoded t) (now (order1 .exit)) (now (order2 .exit)) r) ⌝ }
 {
-    let m = common_order(first, tree1, partner, order1, most);
+    let m = common_order(edition, first, tree1, partner, order1, most);
     *order2 = entries_at(order1, partner, m);
     m
 }
@@ -92,12 +97,20 @@ fn eight(
     places: LabelPlaces,
 ) -> LargestResult
     requires { ⌜ SomeClash tree1 tree2 (now order1) (now order2) m (now number) places ⌝ }
-    ensures { λ r. ⌜ ((s t : Tree) (xs : List Token) (a b c : Label)
-        → Clashes s t xs a b c tree1 tree2 (now (order1 .entry)) (now (order2 .entry)) m (now (number .entry)) places
-        → r ≡ largestOf (clashed xs a b c)) ⌝ }
+    ensures { λ r. ⌜ ((e : Edition) (s t : Tree) (xs : List Token) (a b c : Label)
+        → Clashes (folded e s) (folded e t) (foldedList e xs) a b c tree1 tree2 (now (order1 .entry)) (now (order2 .entry)) m
+        (now (number .entry)) places
+        → r ≡ largestOf (clashed e s xs a b c)) ⌝ }
 {
-    let three = clash_places(tree1, tree2, order1, order2, m, number, places);
-    without_set(LargestAnswer::Disagree(three.first, three.second, three.third))
+    let clash = clash_places(tree1, tree2, order1, order2, m, number, places);
+    let three = clash.places;
+    let leaves = clash.leaves;
+    let start1 = tree1.start;
+    let size1 = tree1.size;
+    LargestResult {
+        answer: LargestAnswer::Disagree(three.first, three.second, three.third),
+        set: set_places(&leaves, 3, &[true; LEAF_LIMIT], &start1, &size1),
+    }
 }
 
 // The reason of a required label that is not common.
@@ -113,6 +126,7 @@ fn lacking(held: bool) -> Reason
 
 // Number 6 or 7: label n of the list is the first that is not common.
 fn lacks(
+    edition: Edition,
     first: &[u8],
     tree1: TreeArrays,
     list: &[u8],
@@ -121,13 +135,14 @@ fn lacks(
 ) -> LargestResult
     requires { ⌜ n < 80 ⌝ }
     ensures { λ r. ⌜ ((s t : Tree) (xs : List Token) (room : ℕ)
-        → FirstMissing s t xs (now (first .entry)) (now (list .entry)) tree1 places n
-        → r ≡ largestOf (solutionOf s xs room (answer (decoded s) (decoded t) (map spelling xs)))) ⌝ }
+        → FirstMissing (folded edition s) (folded edition t) (foldedList edition xs) (inEdition edition (now (first .entry)))
+        (inEdition edition (now (list .entry))) tree1 places n
+        → r ≡ largestOf (solutionOf edition s xs room (answer (keyed edition s) (keyed edition t) (keysOf edition xs)))) ⌝ }
 {
     let starts = places.start;
     let sizes = places.size;
     let at = starts[n];
-    let held = holds_label(first, tree1, trees::part(list, at, sizes[n]));
+    let held = holds_label(edition, first, tree1, trees::part(list, at, sizes[n]));
     without_set(LargestAnswer::Refused(Refusal {
         reason: lacking(held),
         body: Body::K,
@@ -137,6 +152,7 @@ fn lacks(
 
 // The answer to two trees and a list that were read; no more than `most` labels are common.
 pub(crate) fn answer_bodies(
+    edition: Edition,
     first: &[u8],
     tree1: TreeArrays,
     tree2: TreeArrays,
@@ -146,17 +162,25 @@ pub(crate) fn answer_bodies(
     most: usize,
     out: &mut [u8],
 ) -> LargestResult
-    requires { ⌜ Bodies (now first) (now list) tree1 tree2 (now partner) places most ⌝ }
-    ensures { λ r. ⌜ ((b : Bodies (now (first .entry)) (now (list .entry)) tree1 tree2 (now (partner .entry)) places most)
-        → Settled (b .s) (b .t) (b .K) (now (out .entry)) (now (out .exit)) r) ⌝ }
+    requires { ⌜ Bodies edition (now first) (now list) tree1 tree2 (now partner) places most ⌝ }
+    ensures { λ r. ⌜ ((b : Bodies edition (now (first .entry)) (now (list .entry)) tree1 tree2 (now (partner .entry)) places most)
+        → Settled edition (b .s) (b .t) (b .K) (now (out .entry)) (now (out .exit)) r) ⌝ }
 {
     let mut order1 = [0usize; LEAF_LIMIT];
     let mut order2 = [0usize; LEAF_LIMIT];
-    let m = order_in(first, tree1, partner, &mut order1, &mut order2, most);
+    let m = order_in(
+        edition,
+        first,
+        tree1,
+        partner,
+        &mut order1,
+        &mut order2,
+        most,
+    );
     let mut number = [0u8; RANKS];
-    let n = mark_required(first, tree1, &order1, m, list, places, &mut number);
+    let n = mark_required(edition, first, tree1, &order1, m, list, places, &mut number);
     if n < places.count {
-        return lacks(first, tree1, list, places, n);
+        return lacks(edition, first, tree1, list, places, n);
     }
     let mut chosen = [false; LEAF_LIMIT];
     if find_set(
@@ -169,7 +193,7 @@ pub(crate) fn answer_bodies(
         places.count,
         &mut chosen,
     ) {
-        solution(tree1, first, &order1, m, &chosen, out)
+        solution(edition, tree1, first, &order1, m, &chosen, out)
     } else {
         eight(tree1, tree2, &order1, &order2, m, &number, places)
     }

@@ -19,6 +19,7 @@ use crate::LargestAnswer;
 use crate::LargestResult;
 use lists::LabelPlaces;
 use trees::Body;
+use trees::Edition;
 use trees::LEAF_LIMIT;
 use trees::NODE_LIMIT;
 use trees::Reason;
@@ -47,8 +48,8 @@ fn add_place(
     n + 1
 }
 
-// Where the labels of the set stand in the first tree's text, in label order.
-fn set_places(
+// Where the labels of the set stand in the first tree's text, in label order; so too the three of number 8.
+pub(crate) fn set_places(
     order1: &[usize; LEAF_LIMIT],
     m: usize,
     chosen: &[bool; LEAF_LIMIT],
@@ -117,6 +118,7 @@ pub(crate) fn without_set(answer: LargestAnswer) -> LargestResult
 
 // The answer with the set of the chosen labels, whose tree's text goes into `out`; or number 9, and `out` keeps every byte.
 pub(crate) fn solution(
+    edition: Edition,
     tree: TreeArrays,
     text: &[u8],
     order1: &[usize; LEAF_LIMIT],
@@ -125,14 +127,14 @@ pub(crate) fn solution(
     out: &mut [u8],
 ) -> LargestResult
     requires { ⌜ (m ≤ 80) × InRange (now order1) m ⌝ }
-    ensures answer { λ r. ⌜ ((s : Tree) (C : List Label) → ByRank s C tree (now (text .entry)) (now (order1 .entry)) m
-        → r ≡ largestOf (fittedSet s (chosenFrom (now (chosen .entry)) 0 C) (length (now (out .entry))))) ⌝ }
-    ensures output { λ _. ⌜ ((s : Tree) (C : List Label) → ByRank s C tree (now (text .entry)) (now (order1 .entry)) m
+    ensures answer { λ r. ⌜ ((s : Tree) (C : List Label) → ByRank edition s C tree (now (text .entry)) (now (order1 .entry)) m
+        → r ≡ largestOf (fittedSet edition s (chosenFrom (now (chosen .entry)) 0 C) (length (now (out .entry))))) ⌝ }
+    ensures output { λ _. ⌜ ((s : Tree) (C : List Label) → ByRank edition s C tree (now (text .entry)) (now (order1 .entry)) m
         → now (out .exit)
-        ≡ outputOf (fittedSet s (chosenFrom (now (chosen .entry)) 0 C) (length (now (out .entry)))) (now (out .entry))) ⌝ }
+        ≡ outputOf (fittedSet edition s (chosenFrom (now (chosen .entry)) 0 C) (length (now (out .entry)))) (now (out .entry))) ⌝ }
 {
     let kept = kept_leaves(order1, m, chosen);
-    let written = writer::write_tree(restriction::restrict_tree(tree, kept), text, out);
+    let written = writer::write_tree(edition, restriction::restrict_tree(tree, kept), text, out);
     let WriteAnswer::Written(bytes) = written else {
         return without_set(LargestAnswer::Refused(Refusal {
             reason: Reason::TooShort,

@@ -10,6 +10,7 @@ use lists::LabelPlaces;
 use lists::ListAnswer;
 use newick::TreeAnswer;
 use trees::Body;
+use trees::Edition;
 use trees::NODE_LIMIT;
 use trees::Reason;
 use trees::Refusal;
@@ -31,6 +32,8 @@ mod strict;
 pub struct Options {
     // A leaf that stands in only one tree stops the job.
     pub strict: bool,
+    // By which edition of the naming code labels are compared.
+    pub edition: Edition,
 }
 
 // The size of the set and the length of its tree's text; the places in the list of three required labels that have different
@@ -41,8 +44,8 @@ pub enum LargestAnswer {
     Refused(Refusal),
 }
 
-// The answer with the set beside it: where its labels stand in the first tree's text, as they are written there, in label order. A
-// refusal has no label.
+// The answer with the labels that it tells beside it: where the set's, or the three of number 8, stand in the first tree's text, as they
+// are spelled there, in label order. Any other refusal has no label.
 pub struct LargestResult {
     pub answer: LargestAnswer,
     pub set: LabelPlaces,
@@ -79,9 +82,9 @@ fn unread_list(answer: ListAnswer) -> LargestResult
     }
 }
 
-// The largest set of common leaves that holds the required ones and on which the trees agree, the first in label order among
-// equals: its size and places, and the normal text of its restriction in `out`. Refusals are told in the order S, T, 12 if the
-// options are strict, K, 6 or 7, 8, 9, and `out` then keeps every byte.
+// The largest set of common leaves that holds the required ones and on which the trees agree, the first in label order among equals: its
+// size and places, and the normal text of its restriction in `out`, labels as the first tree spells them. Refusals are told in the order
+// S, T, 12 if the options are strict, K, 6 or 7, 8, 9, and `out` then keeps every byte.
 pub fn largest(
     options: Options,
     first: &[u8],
@@ -97,12 +100,13 @@ pub fn largest(
         (solve (task options (now (first .entry)) (now (second .entry)) (now (required .entry))) (length (now (out .entry))))
         (now (out .entry)) ⌝ }
 {
-    let one = newick::read_tree(first, Body::S);
+    let edition = options.edition;
+    let one = newick::read_tree(edition, first, Body::S);
     let answer1 = one.answer;
     let TreeAnswer::Leaves(leaves1) = answer1 else {
         return unread_tree(answer1, Body::S);
     };
-    let two = newick::read_tree(second, Body::T);
+    let two = newick::read_tree(edition, second, Body::T);
     let answer2 = two.answer;
     let TreeAnswer::Leaves(leaves2) = answer2 else {
         return unread_tree(answer2, Body::T);
@@ -114,12 +118,22 @@ pub fn largest(
     if let Shared::Stray(refusal) = shared {
         return without_set(LargestAnswer::Refused(refusal));
     }
-    let list = lists::read_list(required, Body::K);
+    let list = lists::read_list(edition, required, Body::K);
     let answer3 = list.answer;
     let ListAnswer::Labels(_) = answer3 else {
         return unread_list(answer3);
     };
     let places = list.places;
     let most = trees::least(leaves1, leaves2);
-    answer_bodies(first, tree1, tree2, &partner, required, places, most, out)
+    answer_bodies(
+        edition,
+        first,
+        tree1,
+        tree2,
+        &partner,
+        required,
+        places,
+        most,
+        out,
+    )
 }

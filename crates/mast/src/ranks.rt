@@ -8,7 +8,7 @@ ghost use Prim.Native.Nat.{ℕ, _+_, _<_, _≤_};
 ghost use lib.Dec.{eqb};
 ghost use lib.ListN.{length, set};
 ghost use Rattle.trees.specs.Label.{Label, labelLess};
-ghost use Rattle.trees.specs.Token.{spelling};
+ghost use Rattle.trees.specs.Edition.{inEdition, key};
 ghost use Rattle.trees.specs.Tree.{Tree, decoded, Valid, Proper};
 ghost use Rattle.trees.specs.Stored.{storedBytes};
 ghost use Rattle.agreement.specs.Sets.{increasing};
@@ -16,6 +16,7 @@ ghost use Rattle.leaves.specs.Numbered.{Numbered};
 ghost use Rattle.table.specs.Choice.{Ranked};
 ghost use Rattle.mast.specs.Engine.{OwnLeaves};
 ghost use Rattle.mast.specs.Ranks.{PartnerIs, Partners, Place, Opened, mostCommon, Collected, NodePartner, storedLabel, Placed};
+use trees::Edition;
 use trees::LEAF_LIMIT;
 use trees::NODE_LIMIT;
 use trees::Order;
@@ -30,6 +31,7 @@ pub(crate) const NONE: usize = NODE_LIMIT;
 
 // The number of the leaf with the label that a token stands for, or NONE; an inner node's token has no bytes and is not looked for.
 fn look_up(
+    edition: Edition,
     text: &[u8],
     left: &[usize; NODE_LIMIT],
     start: &[usize; NODE_LIMIT],
@@ -37,18 +39,19 @@ fn look_up(
     nodes: usize,
     token: &[u8],
 ) -> usize
-    ensures { λ r. ⌜ ((t : Tree) → OwnLeaves t (now (text .entry)) (now (left .entry)) (now (start .entry)) (now (size .entry)) nodes
-        → PartnerIs (decoded t) (spelling (now (token .entry))) r) ⌝ }
+    ensures { λ r. ⌜ ((t : Tree) → OwnLeaves t (inEdition edition (now (text .entry))) (now (left .entry)) (now (start .entry)) (now (size .entry)) nodes
+        → PartnerIs (decoded t) (key edition (now (token .entry))) r) ⌝ }
 {
     if trees::spelled_size(token) == 0 {
         return NONE;
     }
-    let v = leaves::find_leaf(text, left, start, size, nodes, token);
+    let v = leaves::find_leaf(edition, text, left, start, size, nodes, token);
     if v == nodes { NONE } else { v }
 }
 
 // For each leaf of the first tree the second tree's leaf with the same label.
 pub(crate) fn partners(
+    edition: Edition,
     first: &[u8],
     tree1: TreeArrays,
     second: &[u8],
@@ -56,8 +59,8 @@ pub(crate) fn partners(
 ) -> [usize; NODE_LIMIT]
     requires { ⌜ tree1 .nodes ≤ 159 ⌝ }
     ensures { λ r. ⌜ ((s t : Tree)
-        → OwnLeaves s (now (first .entry)) (tree1 .left) (tree1 .start) (tree1 .size) (tree1 .nodes)
-        → OwnLeaves t (now (second .entry)) (tree2 .left) (tree2 .start) (tree2 .size) (tree2 .nodes)
+        → OwnLeaves s (inEdition edition (now (first .entry))) (tree1 .left) (tree1 .start) (tree1 .size) (tree1 .nodes)
+        → OwnLeaves t (inEdition edition (now (second .entry))) (tree2 .left) (tree2 .start) (tree2 .size) (tree2 .nodes)
         → Partners (tree1 .nodes) (decoded s) (decoded t) r) ⌝ }
 {
     let start1 = tree1.start;
@@ -69,7 +72,7 @@ pub(crate) fn partners(
     let mut u: usize = 0;
     while u < tree1.nodes {
         let token = trees::leaf_label(first, &start1, &size1, u);
-        partner[u] = look_up(second, &left2, &start2, &size2, tree2.nodes, token);
+        partner[u] = look_up(edition, second, &left2, &start2, &size2, tree2.nodes, token);
         u += 1;
     }
     partner
@@ -88,6 +91,7 @@ fn comes_first(a: StoredLabel, b: StoredLabel) -> bool
 
 // Where a new label goes among the labels of the first m leaves in `order`, by halves: before the first that is greater.
 fn place_of(
+    edition: Edition,
     text: &[u8],
     start: &[usize; NODE_LIMIT],
     size: &[usize; NODE_LIMIT],
@@ -98,14 +102,17 @@ fn place_of(
     requires { ⌜ m ≤ 80 ⌝ }
     ensures { λ r. ⌜ r ≤ m ⌝ }
     ensures { λ r. ⌜ ((t : Tree) (left : List ℕ) (nodes : ℕ) (C : List Label)
-        → OwnLeaves t (now (text .entry)) left (now (start .entry)) (now (size .entry)) nodes → increasing C ≡ true
+        → OwnLeaves t (inEdition edition (now (text .entry))) left (now (start .entry)) (now (size .entry)) nodes → increasing C ≡ true
         → m ≡ length C → Numbered (decoded t) C (now (order .entry)) → Place (storedBytes label) C r) ⌝ }
 {
     let mut low: usize = 0;
     let mut high = m;
     while low < high {
         let mid = low + (high - low) / 2;
-        if comes_first(label, trees::stored_leaf(text, start, size, order[mid])) {
+        if comes_first(
+            label,
+            trees::stored_leaf(edition, text, start, size, order[mid]),
+        ) {
             high = mid;
         } else {
             low = mid + 1;
@@ -129,6 +136,7 @@ fn open_at(order: &mut [usize; LEAF_LIMIT], m: usize, p: usize, u: usize)
 
 // Puts leaf u into the order of m leaves at its label's place.
 fn insert_leaf(
+    edition: Edition,
     text: &[u8],
     start: &[usize; NODE_LIMIT],
     size: &[usize; NODE_LIMIT],
@@ -138,12 +146,12 @@ fn insert_leaf(
 )
     requires { ⌜ m < 80 ⌝ }
     ensures { λ _. ⌜ ((t : Tree) (left : List ℕ) (nodes : ℕ) (C : List Label)
-        → OwnLeaves t (now (text .entry)) left (now (start .entry)) (now (size .entry)) nodes → increasing C ≡ true
+        → OwnLeaves t (inEdition edition (now (text .entry))) left (now (start .entry)) (now (size .entry)) nodes → increasing C ≡ true
         → m ≡ length C → Numbered (decoded t) C (now (order .entry)) → length (now (order .entry)) ≡ 80
-        → Placed u m C (storedLabel (now (text .entry)) (now (start .entry)) (now (size .entry)) u) (now (order .entry)) (now (order .exit))) ⌝ }
+        → Placed u m C (storedLabel (inEdition edition (now (text .entry))) (now (start .entry)) (now (size .entry)) u) (now (order .entry)) (now (order .exit))) ⌝ }
 {
-    let label = trees::stored_leaf(text, start, size, u);
-    let p = place_of(text, start, size, order, m, label);
+    let label = trees::stored_leaf(edition, text, start, size, u);
+    let p = place_of(edition, text, start, size, order, m, label);
     open_at(order, m, p, u);
 }
 
@@ -157,6 +165,7 @@ pub(crate) fn leaf_partner(child: usize, u: usize, v: usize) -> usize
 // Puts node u of the first tree into the order if it has a partner v in the second. Once as many are there as the smaller tree has
 // leaves, no further one is common.
 fn add_common(
+    edition: Edition,
     text1: &[u8],
     start1: &[usize; NODE_LIMIT],
     size1: &[usize; NODE_LIMIT],
@@ -169,7 +178,7 @@ fn add_common(
     requires { ⌜ (m ≤ most) × (most ≤ 80) ⌝ }
     ensures { λ r. ⌜ r ≤ most ⌝ }
     ensures { λ r. ⌜ ((s t : Tree) (left1 : List ℕ) (nodes1 : ℕ)
-        → OwnLeaves s (now (text1 .entry)) left1 (now (start1 .entry)) (now (size1 .entry)) nodes1 → Valid t
+        → OwnLeaves s (inEdition edition (now (text1 .entry))) left1 (now (start1 .entry)) (now (size1 .entry)) nodes1 → Valid t
         → most ≡ mostCommon (decoded s) (decoded t) → u < nodes1 → NodePartner (decoded s) (decoded t) u v
         → Collected (decoded s) (decoded t) (u + 1) (now (order1 .entry)) m
         → Collected (decoded s) (decoded t) u (now (order1 .exit)) r) ⌝ }
@@ -180,13 +189,14 @@ fn add_common(
     if NONE <= v {
         return m;
     }
-    insert_leaf(text1, start1, size1, order1, m, u);
+    insert_leaf(edition, text1, start1, size1, order1, m, u);
     m + 1
 }
 
 // The leaves common to both trees in label order by their numbers in the first tree, and how many they are, `most` at the most. Nodes
 // are taken from the last to the first, as the definition of the common labels inserts them.
 pub(crate) fn common_order(
+    edition: Edition,
     text1: &[u8],
     tree1: TreeArrays,
     partner: &[usize; NODE_LIMIT],
@@ -196,7 +206,7 @@ pub(crate) fn common_order(
     requires { ⌜ (tree1 .nodes ≤ 159) × (most ≤ 80) ⌝ }
     ensures { λ r. ⌜ r ≤ 80 ⌝ }
     ensures { λ r. ⌜ ((s t : Tree)
-        → OwnLeaves s (now (text1 .entry)) (tree1 .left) (tree1 .start) (tree1 .size) (tree1 .nodes) → Valid t
+        → OwnLeaves s (inEdition edition (now (text1 .entry))) (tree1 .left) (tree1 .start) (tree1 .size) (tree1 .nodes) → Valid t
         → most ≡ mostCommon (decoded s) (decoded t) → Partners (tree1 .nodes) (decoded s) (decoded t) (now (partner .entry))
         → Collected (decoded s) (decoded t) 0 (now (order1 .exit)) r) ⌝ }
 {
@@ -209,7 +219,7 @@ pub(crate) fn common_order(
     while 0 < u {
         u -= 1;
         let v = leaf_partner(left1[u], u, partner[u]);
-        m = add_common(text1, &start1, &size1, order1, m, most, u, v);
+        m = add_common(edition, text1, &start1, &size1, order1, m, most, u, v);
     }
     m
 }

@@ -4,10 +4,11 @@
 // Names that end in 1 are of the first tree, in 2 of the second.
 ghost use mathlib.Core.Path.{_≡_};
 ghost use mathlib.Core.Bool.{true};
-ghost use mathlib.Core.List.{List, map};
+ghost use mathlib.Core.List.{List, [], _∷_, map};
 ghost use Prim.Native.Nat.{ℕ, _-_, _<_, _≤_};
 ghost use lib.ListN.{length, getD};
 ghost use Rattle.trees.specs.Label.{Label};
+ghost use Rattle.trees.specs.Edition.{inEdition, key};
 ghost use Rattle.trees.specs.Token.{Token, spelling};
 ghost use Rattle.trees.specs.Tree.{Tree, decoded};
 ghost use Rattle.agreement.specs.Closer.{holds};
@@ -18,6 +19,7 @@ ghost use Rattle.mast.specs.Required.{FoundRank, MarkedTo, ranksFrom, En
 ghost use Rattle.mast.specs.Asked.{Clashes, SomeClash, placesOfThree};
 use lists::LabelPlaces;
 use table::RANKS;
+use trees::Edition;
 use trees::LEAF_LIMIT;
 use trees::NODE_LIMIT;
 use trees::TreeArrays;
@@ -27,6 +29,7 @@ use triples::Three;
 
 // The rank among the m common labels of the one that a token stands for, or m.
 fn rank_in(
+    edition: Edition,
     text1: &[u8],
     start1: &[usize; NODE_LIMIT],
     size1: &[usize; NODE_LIMIT],
@@ -37,12 +40,16 @@ fn rank_in(
     requires { ⌜ m ≤ 80 ⌝ }
     ensures { λ r. ⌜ r ≤ m ⌝ }
     ensures { λ r. ⌜ ((s : Tree) (left : List ℕ) (nodes : ℕ) (C : List Label)
-        → OwnLeaves s (now (text1 .entry)) left (now (start1 .entry)) (now (size1 .entry)) nodes
-        → m ≡ length C → Numbered (decoded s) C (now (order1 .entry)) → FoundRank C (spelling (now (token .entry))) r) ⌝ }
+        → OwnLeaves s (inEdition edition (now (text1 .entry))) left (now (start1 .entry)) (now (size1 .entry)) nodes
+        → m ≡ length C → Numbered (decoded s) C (now (order1 .entry)) → FoundRank C (key edition (now (token .entry))) r) ⌝ }
 {
     let mut r: usize = 0;
     while r < m {
-        if trees::same_label(trees::leaf_label(text1, start1, size1, order1[r]), token) {
+        if trees::same_label(
+            edition,
+            trees::leaf_label(text1, start1, size1, order1[r]),
+            token,
+        ) {
             return r;
         }
         r += 1;
@@ -53,6 +60,7 @@ fn rank_in(
 // The number in the list, counted from 1, of each common label that is required, by rank. Returns the number, counted from 0, of the
 // first label of the list that is not common, or how many there are.
 pub(crate) fn mark_required(
+    edition: Edition,
     text1: &[u8],
     tree1: TreeArrays,
     order1: &[usize; LEAF_LIMIT],
@@ -64,8 +72,8 @@ pub(crate) fn mark_required(
     requires { ⌜ (m ≤ 80) × (places .count ≤ 80) ⌝ }
     ensures { λ n. ⌜ n ≤ places .count ⌝ }
     ensures { λ n. ⌜ ((s : Tree) (C : List Label) (K : List Token)
-        → OwnLeaves s (now (text1 .entry)) (tree1 .left) (tree1 .start) (tree1 .size) (tree1 .nodes)
-        → OwnList K (now (list .entry)) (places .start) (places .size) (places .count)
+        → OwnLeaves s (inEdition edition (now (text1 .entry))) (tree1 .left) (tree1 .start) (tree1 .size) (tree1 .nodes)
+        → OwnList K (inEdition edition (now (list .entry))) (places .start) (places .size) (places .count)
         → increasing C ≡ true → m ≡ length C → Numbered (decoded s) C (now (order1 .entry))
         → MarkedTo n (places .count) C (map spelling K) (now (number .exit))) ⌝ }
 {
@@ -77,6 +85,7 @@ pub(crate) fn mark_required(
     let mut k: usize = 0;
     while k < places.count {
         let r = rank_in(
+            edition,
             text1,
             &start1,
             &size1,
@@ -94,15 +103,15 @@ pub(crate) fn mark_required(
 }
 
 // The tree has a leaf with the label that a token stands for.
-pub(crate) fn holds_label(text: &[u8], tree: TreeArrays, token: &[u8]) -> bool
-    ensures { λ r. ⌜ ((t : Tree) → OwnLeaves t (now (text .entry)) (tree .left) (tree .start) (tree .size) (tree .nodes)
-        → r ≡ holds (decoded t) (spelling (now (token .entry)))) ⌝ }
+pub(crate) fn holds_label(edition: Edition, text: &[u8], tree: TreeArrays, token: &[u8]) -> bool
+    ensures { λ r. ⌜ ((t : Tree) → OwnLeaves t (inEdition edition (now (text .entry))) (tree .left) (tree .start) (tree .size) (tree .nodes)
+        → r ≡ holds (decoded t) (key edition (now (token .entry)))) ⌝ }
 {
     let left = tree.left;
     let start = tree.start;
     let size = tree.size;
     let nodes = tree.nodes;
-    leaves::find_leaf(text, &left, &start, &size, nodes, token) < nodes
+    leaves::find_leaf(edition, text, &left, &start, &size, nodes, token) < nodes
 }
 
 // Stores rank r behind n others if it is that of a required label, and says how many there are then.
@@ -166,7 +175,29 @@ fn place_at(
     starts[n - 1]
 }
 
-// Number 8: where the first three required labels that clash stand in the list.
+// Three labels that clash: their places in the list, and their leaves in the first tree, the first three of the array.
+pub(crate) struct ThreeTold {
+    pub places: Three,
+    pub leaves: [usize; LEAF_LIMIT],
+}
+
+// The leaves of three ranks, one after the other.
+fn leaves_of(leaf: &[usize; LEAF_LIMIT], three: Three) -> [usize; LEAF_LIMIT]
+    requires { ⌜ (three .first < 80) × (three .second < 80) × (three .third < 80) ⌝ }
+    ensures { λ r. ⌜ (getD r 0 0 ≡ getD (now (leaf .entry)) (three .first) 0) × (getD r 1 0 ≡ getD (now (leaf .entry)) (three .second) 0)
+        × (getD r 2 0 ≡ getD (now (leaf .entry)) (three .third) 0) ⌝ }
+{
+    let i = three.first;
+    let j = three.second;
+    let k = three.third;
+    let mut found = [0usize; LEAF_LIMIT];
+    found[0] = leaf[i];
+    found[1] = leaf[j];
+    found[2] = leaf[k];
+    found
+}
+
+// Number 8: where the first three required labels that clash stand in the list and in the first tree.
 pub(crate) fn clash_places(
     tree1: TreeArrays,
     tree2: TreeArrays,
@@ -175,11 +206,11 @@ pub(crate) fn clash_places(
     m: usize,
     number: &[u8; RANKS],
     places: LabelPlaces,
-) -> Three
+) -> ThreeTold
     requires { ⌜ SomeClash tree1 tree2 (now order1) (now order2) m (now number) places ⌝ }
     ensures { λ r. ⌜ ((s t : Tree) (K : List Token) (a b c : Label)
         → Clashes s t K a b c tree1 tree2 (now (order1 .entry)) (now (order2 .entry)) m (now (number .entry)) places
-        → r ≡ placesOfThree K a b c) ⌝ }
+        → (r .places ≡ placesOfThree K a b c) × Numbered (decoded s) (a ∷ b ∷ c ∷ []) (r .leaves)) ⌝ }
 {
     let count = places.count;
     let starts = places.start;
@@ -197,9 +228,12 @@ pub(crate) fn clash_places(
         &leaf2,
         count,
     );
-    Three {
-        first: place_at(&starts, number, &ranks, three.first),
-        second: place_at(&starts, number, &ranks, three.second),
-        third: place_at(&starts, number, &ranks, three.third),
+    ThreeTold {
+        places: Three {
+            first: place_at(&starts, number, &ranks, three.first),
+            second: place_at(&starts, number, &ranks, three.second),
+            third: place_at(&starts, number, &ranks, three.third),
+        },
+        leaves: leaves_of(&leaf1, three),
     }
 }

@@ -6,6 +6,7 @@ ghost use mathlib.Core.Bool.{_&&_};
 ghost use mathlib.Core.List.{List};
 ghost use Prim.Native.Nat.{ℕ, _≤_};
 ghost use lib.Dec.{eqb, leb};
+ghost use Rattle.trees.specs.Edition.{inEdition, folded};
 ghost use Rattle.trees.specs.Tree.{Tree, decoded, Proper};
 ghost use Rattle.trees.specs.Arrays.{nodesOf, arraysOf};
 ghost use Rattle.agreement.specs.Strict.{strayOf};
@@ -121,11 +122,14 @@ pub(crate) fn pair_leaves(
 ) -> Shared
     requires { ⌜ (tree1 .nodes ≤ 159) × (tree2 .nodes ≤ 159) ⌝ }
     ensures { λ r. ⌜ ((s t : Tree)
-        → OwnLeaves s (now (first .entry)) (tree1 .left) (tree1 .start) (tree1 .size) (tree1 .nodes)
-        → OwnLeaves t (now (second .entry)) (tree2 .left) (tree2 .start) (tree2 .size) (tree2 .nodes)
+        → OwnLeaves (folded (options .edition) s) (inEdition (options .edition) (now (first .entry))) (tree1 .left) (tree1 .start)
+        (tree1 .size) (tree1 .nodes)
+        → OwnLeaves (folded (options .edition) t) (inEdition (options .edition) (now (second .entry))) (tree2 .left) (tree2 .start)
+        (tree2 .size) (tree2 .nodes)
         → Paired options s t (tree1 .nodes) (now (partner .exit)) r) ⌝ }
 {
-    *partner = partners(first, tree1, second, tree2);
+    let edition = options.edition;
+    *partner = partners(edition, first, tree1, second, tree2);
     if !options.strict {
         return Shared::All;
     }

@@ -1,6 +1,7 @@
 pub mod Accepts
 pub mod AcceptsRaw
 pub mod Columns
+pub mod EditionReads
 pub mod Entries
 pub mod Following
 pub mod Keys
@@ -9,7 +10,6 @@ pub mod Moves
 pub mod OpenNodes
 pub mod Promises
 pub mod RepeatLaws
-pub mod ReturnTrip
 pub mod Simulation
 pub mod TreeFaults
 pub mod TreeFaultsTable

@@ -11,11 +11,13 @@ use Rattle.trees.specs.declared.Kind.the-variants.{Label as LabelByte, Open, Cl
 use Rattle.trees.specs.declared.Reason.{Reason}
 use Rattle.trees.specs.declared.Reason.the-variants.{BadByte, EndsTooSoon, LabelTooLong, TooMany, Repeated}
 use Rattle.trees.specs.declared.Body.{Body}
+use Rattle.trees.specs.declared.Edition.{Edition}
 use Rattle.trees.specs.Bytes.{kindOf, quoteByte}
 use Rattle.trees.specs.Label.{Label, labelLimit}
 use Rattle.trees.specs.Token.{Token, spelling, quotedToken}
 use Rattle.trees.specs.Tree.{Tree, leaf, node, leaves, leafLimit}
-use Rattle.trees.specs.Reading.{Reading, good, refused, repeats}
+use Rattle.trees.specs.Edition.{inEdition}
+use Rattle.trees.specs.Reading.{Reading, good, refused, asStands, repeats}
 use Rattle.trees.specs.Arrays.{arraysOf, noArrays}
 use Rattle.newick.specs.declared.TreeAnswer.the-variants.{Leaves, Refused}
 use Rattle.newick.specs.declared.TreeRead.{TreeRead}
@@ -147,6 +149,11 @@ startState = record { phase = nodeDue; stack = []; opens = 0; seen = [] }
 unfoldable pub readTree : List ℕ → Reading Tree
 unfolding readFrom
 readTree text = readFrom startState 0 text
+
+-- by an edition, which decides whether a label repeats
+unfoldable pub readTreeIn : Edition → List ℕ → Reading Tree
+unfolding readTree asStands
+readTreeIn e text = asStands (readTree (inEdition e text)) (readTree text)
 
 -- the answer of the tree reader, told which body it reads
 unfoldable pub treeRead : Body → Reading Tree → TreeRead

@@ -2,6 +2,7 @@
 //
 // No public function has a `requires`: a text of any length and any bytes is answered.
 use trees::Body;
+use trees::Edition;
 use trees::Kind;
 use trees::LABEL_LIMIT;
 use trees::LEAF_LIMIT;
@@ -15,10 +16,11 @@ ghost use mathlib.Core.Path.{_≡_};
 ghost use mathlib.Core.List.{List};
 ghost use lib.ListN.{length, getD};
 ghost use Rattle.trees.specs.Bytes.{kindOf, classTable};
+ghost use Rattle.trees.specs.Edition.{inEdition};
 ghost use Rattle.trees.specs.Label.{labelLimit};
 ghost use Rattle.trees.specs.Arrays.{nodeLimit};
 ghost use Rattle.trees.specs.Slots.{Marked};
-ghost use Rattle.newick.specs.ReadTree.{readTree, treeRead};
+ghost use Rattle.newick.specs.ReadTree.{readTreeIn, treeRead};
 ghost use Rattle.newick.specs.declared.Mode.the-variants.{Due};
 ghost use Rattle.newick.specs.Machine.{repeatOf, arrays, outcome, Room, Ready};
 ghost use Rattle.newick.specs.Machine.{scan, dueOf, closeOf, commaOf, afterOf, leafOf, labelEnd, insideOf, innerOf};
@@ -66,6 +68,7 @@ enum Move {
 
 // Whether one of the first `nodes` nodes is a leaf whose label is that of the `len` bytes from `first`; an inner node has size 0.
 fn repeated(
+    edition: Edition,
     text: &[u8],
     start: &[usize; NODE_LIMIT],
     size: &[usize; NODE_LIMIT],
@@ -73,9 +76,16 @@ fn repeated(
     first: usize,
     len: usize,
 ) -> bool
-    ensures { λ r. ⌜ r ≡ repeatOf (now (text .entry)) (now (start .entry)) (now (size .entry)) nodes first len ⌝ }
+    ensures { λ r. ⌜ r ≡ repeatOf (inEdition edition (now (text .entry))) (now (start .entry)) (now (size .entry)) nodes first len ⌝ }
 {
-    trees::is_among(text, start, size, nodes, trees::part(text, first, len))
+    trees::is_among(
+        edition,
+        text,
+        start,
+        size,
+        nodes,
+        trees::part(text, first, len),
+    )
 }
 
 // A byte where a node must begin.
@@ -209,6 +219,7 @@ fn on_after(
 // The label of `len` bytes from `first` is complete: a repeat is told at its first byte, else the label is a leaf. One whose slot has no
 // mark is compared with no leaf.
 fn on_leaf(
+    edition: Edition,
     text: &[u8],
     st: Scan,
     first: usize,
@@ -221,16 +232,16 @@ fn on_leaf(
 ) -> Move
     requires { ⌜ Room st ⌝ }
     requires { ⌜ st .nodes + st .depth ≤ 2 * st .opens ⌝ }
-    requires { ⌜ Marked nodeLimit (now text) (now start) (now size) (now seen) ⌝ }
+    requires { ⌜ Marked nodeLimit (inEdition edition (now text)) (now start) (now size) (now seen) ⌝ }
     ensures { λ m. ⌜ ((k : List ℕ) → outcome m (arrays k (now (left .exit)) (now (right .exit)) (now (start .exit)) (now (size .exit)))
-        ≡ leafOf (now (text .entry)) st
+        ≡ leafOf (inEdition edition (now (text .entry))) st
         (arrays k (now (left .entry)) (now (right .entry)) (now (start .entry)) (now (size .entry))) first len) ⌝ }
-    ensures { λ m. ⌜ Marked nodeLimit (now (text .entry)) (now (start .exit)) (now (size .exit)) (now (seen .exit)) ⌝ }
+    ensures { λ m. ⌜ Marked nodeLimit (inEdition edition (now (text .entry))) (now (start .exit)) (now (size .exit)) (now (seen .exit)) ⌝ }
 {
     let nodes = st.nodes;
     let token = trees::part(text, first, len);
-    let slot = trees::slot(token);
-    if trees::is_met(text, start, size, nodes, token, seen, slot) {
+    let slot = trees::slot(edition, token);
+    if trees::is_met(edition, text, start, size, nodes, token, seen, slot) {
         return Move::Stop(Reason::Repeated, first);
     }
     seen[slot] = 1;
@@ -248,6 +259,7 @@ fn on_leaf(
 
 // The byte after a bare label, which is a leaf unless it repeats.
 fn on_label_end(
+    edition: Edition,
     text: &[u8],
     st: Scan,
     first: usize,
@@ -263,14 +275,25 @@ fn on_label_end(
 ) -> Move
     requires { ⌜ Room st ⌝ }
     requires { ⌜ st .nodes + st .depth ≤ 2 * st .opens ⌝ }
-    requires { ⌜ Marked nodeLimit (now text) (now start) (now size) (now seen) ⌝ }
+    requires { ⌜ Marked nodeLimit (inEdition edition (now text)) (now start) (now size) (now seen) ⌝ }
     ensures { λ m. ⌜ outcome m (arrays (now (stack .exit)) (now (left .exit)) (now (right .exit)) (now (start .exit)) (now (size .exit)))
-        ≡ labelEnd (now (text .entry)) st
+        ≡ labelEnd (inEdition edition (now (text .entry))) st
         (arrays (now (stack .entry)) (now (left .entry)) (now (right .entry)) (now (start .entry)) (now (size .entry)))
         first len at kind ⌝ }
-    ensures { λ m. ⌜ Marked nodeLimit (now (text .entry)) (now (start .exit)) (now (size .exit)) (now (seen .exit)) ⌝ }
+    ensures { λ m. ⌜ Marked nodeLimit (inEdition edition (now (text .entry))) (now (start .exit)) (now (size .exit)) (now (seen .exit)) ⌝ }
 {
-    let moved = on_leaf(text, st, first, len, left, right, start, size, seen);
+    let moved = on_leaf(
+        edition,
+        text,
+        st,
+        first,
+        len,
+        left,
+        right,
+        start,
+        size,
+        seen,
+    );
     let Move::On(next) = moved else {
         return moved;
     };
@@ -279,6 +302,7 @@ fn on_label_end(
 
 // A byte inside or just after a bare label.
 fn on_inside(
+    edition: Edition,
     text: &[u8],
     st: Scan,
     first: usize,
@@ -294,12 +318,12 @@ fn on_inside(
 ) -> Move
     requires { ⌜ Room st ⌝ }
     requires { ⌜ st .nodes + st .depth ≤ 2 * st .opens ⌝ }
-    requires { ⌜ Marked nodeLimit (now text) (now start) (now size) (now seen) ⌝ }
+    requires { ⌜ Marked nodeLimit (inEdition edition (now text)) (now start) (now size) (now seen) ⌝ }
     ensures { λ m. ⌜ outcome m (arrays (now (stack .exit)) (now (left .exit)) (now (right .exit)) (now (start .exit)) (now (size .exit)))
-        ≡ insideOf (now (text .entry)) st
+        ≡ insideOf (inEdition edition (now (text .entry))) st
         (arrays (now (stack .entry)) (now (left .entry)) (now (right .entry)) (now (start .entry)) (now (size .entry)))
         first len at kind ⌝ }
-    ensures { λ m. ⌜ Marked nodeLimit (now (text .entry)) (now (start .exit)) (now (size .exit)) (now (seen .exit)) ⌝ }
+    ensures { λ m. ⌜ Marked nodeLimit (inEdition edition (now (text .entry))) (now (start .exit)) (now (size .exit)) (now (seen .exit)) ⌝ }
 {
     match kind {
         Kind::Label => {
@@ -315,6 +339,7 @@ fn on_inside(
             }
         }
         _ => on_label_end(
+            edition,
             text,
             st,
             first,
@@ -349,6 +374,7 @@ fn on_inner(st: Scan, first: usize, inner: usize, at: usize) -> Move
 
 // A byte after the opening quote at `first` and `len` bytes. A closing quote ends the label, which is compared only now.
 fn on_quoted(
+    edition: Edition,
     text: &[u8],
     st: Scan,
     first: usize,
@@ -363,11 +389,11 @@ fn on_quoted(
 ) -> Move
     requires { ⌜ Room st ⌝ }
     requires { ⌜ (st .nodes + st .depth ≤ 2 * st .opens) × (len ≤ labelLimit) ⌝ }
-    requires { ⌜ Marked nodeLimit (now text) (now start) (now size) (now seen) ⌝ }
+    requires { ⌜ Marked nodeLimit (inEdition edition (now text)) (now start) (now size) (now seen) ⌝ }
     ensures { λ m. ⌜ ((k : List ℕ) → outcome m (arrays k (now (left .exit)) (now (right .exit)) (now (start .exit)) (now (size .exit)))
-        ≡ quotedOf (now (text .entry)) st
+        ≡ quotedOf (inEdition edition (now (text .entry))) st
         (arrays k (now (left .entry)) (now (right .entry)) (now (start .entry)) (now (size .entry))) first len at kind) ⌝ }
-    ensures { λ m. ⌜ Marked nodeLimit (now (text .entry)) (now (start .exit)) (now (size .exit)) (now (seen .exit)) ⌝ }
+    ensures { λ m. ⌜ Marked nodeLimit (inEdition edition (now (text .entry))) (now (start .exit)) (now (size .exit)) (now (seen .exit)) ⌝ }
 {
     match kind {
         Kind::Label => on_inner(st, first, len, at),
@@ -376,7 +402,18 @@ fn on_quoted(
             if len == 0 {
                 return Move::Stop(Reason::BadByte, at);
             }
-            on_leaf(text, st, first, len + 2, left, right, start, size, seen)
+            on_leaf(
+                edition,
+                text,
+                st,
+                first,
+                len + 2,
+                left,
+                right,
+                start,
+                size,
+                seen,
+            )
         }
         _ => Move::Stop(Reason::BadByte, at),
     }
@@ -384,6 +421,7 @@ fn on_quoted(
 
 // One byte, by where the scan stands.
 fn step(
+    edition: Edition,
     text: &[u8],
     table: &[u8; 256],
     st: Scan,
@@ -397,18 +435,19 @@ fn step(
 ) -> Move
     requires { ⌜ (at < length (now text)) × (now table ≡ classTable) ⌝ }
     requires { ⌜ Ready (st .mode) st ⌝ }
-    requires { ⌜ Marked nodeLimit (now text) (now start) (now size) (now seen) ⌝ }
+    requires { ⌜ Marked nodeLimit (inEdition edition (now text)) (now start) (now size) (now seen) ⌝ }
     ensures { λ m. ⌜ outcome m (arrays (now (stack .exit)) (now (left .exit)) (now (right .exit)) (now (start .exit)) (now (size .exit)))
-        ≡ moveOf (st .mode) (now (text .entry)) st
+        ≡ moveOf (st .mode) (inEdition edition (now (text .entry))) st
         (arrays (now (stack .entry)) (now (left .entry)) (now (right .entry)) (now (start .entry)) (now (size .entry)))
-        at (kindOf (getD (now (text .entry)) at 0)) ⌝ }
-    ensures { λ m. ⌜ Marked nodeLimit (now (text .entry)) (now (start .exit)) (now (size .exit)) (now (seen .exit)) ⌝ }
+        at (kindOf (getD (inEdition edition (now (text .entry))) at 0)) ⌝ }
+    ensures { λ m. ⌜ Marked nodeLimit (inEdition edition (now (text .entry))) (now (start .exit)) (now (size .exit)) (now (seen .exit)) ⌝ }
 {
     let kind = trees::kind_in(table, text[at]);
     let mode = st.mode;
     match mode {
         Mode::Due => on_due(st, kind, at, stack),
         Mode::Inside(first, len) => on_inside(
+            edition,
             text,
             st,
             first,
@@ -424,6 +463,7 @@ fn step(
         ),
         Mode::Quoted(first, len) => {
             on_quoted(
+                edition,
                 text,
                 st,
                 first,
@@ -455,6 +495,7 @@ fn refuse(body: Body, reason: Reason, place: usize) -> TreeAnswer
 
 // The answer where the text ends.
 fn at_end(
+    edition: Edition,
     text: &[u8],
     body: Body,
     st: Scan,
@@ -462,13 +503,13 @@ fn at_end(
     size: &[usize; NODE_LIMIT],
 ) -> TreeAnswer
     requires { ⌜ Ready (st .mode) st ⌝ }
-    ensures { λ a. ⌜ a ≡ answerOf (st .mode) (now (text .entry)) body st (now (start .entry)) (now (size .entry)) ⌝ }
+    ensures { λ a. ⌜ a ≡ answerOf (st .mode) (inEdition edition (now (text .entry))) body st (now (start .entry)) (now (size .entry)) ⌝ }
 {
     let mode = st.mode;
     match mode {
         Mode::Done => TreeAnswer::Leaves(st.opens + 1),
         Mode::Inside(first, len) => {
-            if repeated(text, start, size, st.nodes, first, len) {
+            if repeated(edition, text, start, size, st.nodes, first, len) {
                 refuse(body, Reason::Repeated, first)
             } else {
                 refuse(body, Reason::EndsTooSoon, text.len())
@@ -529,10 +570,10 @@ fn beginning() -> Scan
     }
 }
 
-// Reads a tree text, told which body it is: the leaf count with the tree's arrays, or the refusal with the smallest place.
-// No byte is read past the one that refuses the text.
-pub fn read_tree(text: &[u8], body: Body) -> TreeRead
-    ensures { λ r. ⌜ r ≡ treeRead body (readTree (now (text .entry))) ⌝ }
+// Reads a tree text, told which body it is and by which edition labels are compared: the leaf count with the tree's arrays, or the
+// refusal with the smallest place. No byte is read past the one that refuses the text.
+pub fn read_tree(edition: Edition, text: &[u8], body: Body) -> TreeRead
+    ensures { λ r. ⌜ r ≡ treeRead body (readTreeIn edition (now (text .entry))) ⌝ }
 {
     let table = trees::classes();
     let mut stack = [0usize; OPEN_LIMIT];
@@ -545,6 +586,7 @@ pub fn read_tree(text: &[u8], body: Body) -> TreeRead
     let mut i: usize = 0;
     while i < text.len() {
         let moved = step(
+            edition,
             text,
             &table,
             st,
@@ -562,7 +604,7 @@ pub fn read_tree(text: &[u8], body: Body) -> TreeRead
         }
         i += 1;
     }
-    let answer = at_end(text, body, st, &start, &size);
+    let answer = at_end(edition, text, body, st, &start, &size);
     let TreeAnswer::Leaves(_) = answer else {
         return turned_down(answer);
     };

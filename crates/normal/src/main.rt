@@ -1,9 +1,11 @@
-// Reads one tree text from standard input and writes its normal text and a line end, or one refusal line with letter S.
+// Reads one tree text from standard input and writes its normal text and a line end, or one refusal line with letter S. A text alone states
+// no edition: it is read and written by the first.
 //
 // No accepted text passes `trees::TREE_ROOM` bytes, no refusal has a place beyond, and each is decided by the bytes before its place, the
 // label that begins there and one byte more. So the first `INPUT_ROOM` bytes decide the answer to an input of any length.
 use newick::TreeAnswer;
 use trees::Body;
+use trees::Edition;
 use trees::Refusal;
 use trees::TOKEN_LIMIT;
 use trees::TREE_ROOM;
@@ -20,7 +22,7 @@ fn print_refusal(refusal: Refusal) {
 
 // The line for a text. The writer has room for every tree that was read, so it always writes.
 fn print_line(text: &[u8]) {
-    let read = newick::read_tree(text, Body::S);
+    let read = newick::read_tree(Edition::One, text, Body::S);
     let answer = read.answer;
     if let TreeAnswer::Refused(refusal) = answer {
         print_refusal(refusal);
@@ -29,7 +31,7 @@ fn print_line(text: &[u8]) {
     let tree = read.tree;
     let mut area = [0u8; TREE_ROOM];
     let out: &mut [u8] = &mut area;
-    let written = writer::write_tree(tree, text, out);
+    let written = writer::write_tree(Edition::One, tree, text, out);
     if let WriteAnswer::Written(n) = written {
         io::write_all(1, trees::part(out, 0, n));
         io::write_all(1, b"\n");

@@ -11,19 +11,21 @@ use native.Mathlib.Nat.{not-suc-le-zero}
 use native.Mathlib.Decide.{decLt}
 use lib.ListN.{getD}
 use Rattle.trees.specs.Label.{Label, distinct}
-use Rattle.trees.specs.Tree.{Tree, leaf, node, leaves, decoded, Valid}
+use Rattle.trees.specs.Tree.{Tree, leaf, node, leaves}
+use Rattle.trees.specs.declared.Edition.{Edition}
+use Rattle.trees.specs.Edition.{keyed, ValidIn}
 use Rattle.trees.specs.Text.{textOf}
 use Rattle.trees.specs.declared.TreeArrays.{TreeArrays}
 use Rattle.trees.specs.Arrays.{nodesOf, arraysOf, treeOf, oneTree}
 use Rattle.trees.specs.Postorder.{postorder, subtree}
 use Rattle.trees.proofs.Bools.{bool-cases, clash, and-left, and-right, and-intro, or-cases, or-inl, or-inr}
 use Rattle.trees.proofs.LabelLaws.{same-eq, same-refl}
-use Rattle.trees.proofs.TokenLaws.{valid-decoded}
+use Rattle.trees.proofs.EditionLaws.{valid-spelled}
 use Rattle.trees.proofs.ArrayLaws.{stands}
 use Rattle.trees.proofs.PostorderLaws.{leaf-once}
-use Rattle.agreement.specs.Restrict.{restrict}
+use Rattle.agreement.specs.Restrict.{restrictIn}
 use Rattle.restriction.specs.Flagged.{isThisLeaf, flaggedBelow, flagged, FlaggedLeaf}
-use Rattle.restriction.specs.Kept.{keptStanding, StandsFor}
+use Rattle.restriction.specs.Kept.{keptStanding, standingOf}
 use Rattle.restriction.proofs.RestrictionLaws.{own-kept}
 
 this-leaf : (t : Tree) (x : Label) → isThisLeaf t x ≡ true → t ≡ leaf x
@@ -84,10 +86,9 @@ flag-tells t d kept u h x e = go (bool-cases (getD kept u false)) (bool-cases (f
         let r = flagged-leaf (nodesOf t) (postorder t) kept x f in
         clash (ap (λ v. getD kept v false) (leaf-once t d u (r .at) h (r .below) x e (r .is)) ∙ r .flag) k
 
-pub kept-flagged : (t : Tree) → Valid t → (kept : List Bool)
-    → StandsFor (keptStanding (arraysOf t) (textOf t) kept) (restrict (flagged (decoded t) kept) (decoded t))
-kept-flagged t v kept =
-    own-kept t v kept (flagged (decoded t) kept) (flag-tells (decoded t) (valid-decoded t v .different) kept)
+pub kept-flagged : (e : Edition) (t : Tree) → ValidIn e t → (kept : List Bool)
+    → keptStanding (arraysOf t) (textOf t) kept ≡ standingOf (restrictIn e (flagged (keyed e t) kept) t)
+kept-flagged e t v kept = own-kept e t v kept (flagged (keyed e t) kept) (flag-tells (keyed e t) (v .different) kept)
 
 -- a label is flagged exactly if some flagged node is its leaf
 pub flagged-iff : (t : Tree) (kept : List Bool) (x : Label) → flagged t kept x ≡ true ↔ FlaggedLeaf (nodesOf t) (postorder t) kept x
@@ -95,7 +96,7 @@ unfolding flagged
 flagged-iff t kept x = (flagged-leaf (nodesOf t) (postorder t) kept x, leaf-flagged (nodesOf t) (postorder t) kept x)
 
 -- so what the contract of `restrict_tree` says of its result over a valid tree's own arrays is this
-pub result-flagged : (t : Tree) → Valid t → (kept : List Bool) (r : TreeArrays)
+pub result-flagged : (e : Edition) (t : Tree) → ValidIn e t → (kept : List Bool) (r : TreeArrays)
     → ((text : List ℕ) (s : Tree) → treeOf (arraysOf t) text ≡ oneTree s → treeOf r text ≡ keptStanding (arraysOf t) text kept)
-    → StandsFor (treeOf r (textOf t)) (restrict (flagged (decoded t) kept) (decoded t))
-result-flagged t v kept r k = rw (k (textOf t) t (stands t v)) (kept-flagged t v kept)
+    → treeOf r (textOf t) ≡ standingOf (restrictIn e (flagged (keyed e t) kept) t)
+result-flagged e t v kept r k = k (textOf t) t (stands t (valid-spelled e t v)) ∙ kept-flagged e t v kept

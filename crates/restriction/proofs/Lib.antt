@@ -1,4 +1,3 @@
-pub mod DecodedKept
 pub mod EntryLaws
 pub mod FlaggedLaws
 pub mod KeptLaws

@@ -13,21 +13,22 @@ use lib.ListN.{length, getD, replicate}
 use borrow.Author.Tests.{lt-ltb, le-ltb, eq-eqb, ne-eqb, eqb-true, ltb-true}
 use Rattle.trees.specs.declared.TreeArrays.{TreeArrays}
 use Rattle.trees.specs.Label.{Label}
-use Rattle.trees.specs.Token.{Token, spelling}
-use Rattle.trees.specs.Tree.{Tree, leaf, leaves, decoded, leafLimit, Valid}
+use Rattle.trees.specs.Token.{Token}
+use Rattle.trees.specs.declared.Edition.{Edition}
+use Rattle.trees.specs.Edition.{key, keyed, ValidIn}
+use Rattle.trees.specs.Tree.{Tree, leaf, leaves, leafLimit}
 use Rattle.trees.specs.Text.{textOf}
 use Rattle.trees.specs.Postorder.{postorder, subtree, LaidNode, laid-leaf, laid-node}
 use Rattle.trees.specs.Arrays.{nodeLimit, nodesOf, arraysOf, lefts, rights, starts, sizes, isLeaf, labelAt, goodNodes, treeAt, treeOf, noLeaf, oneTree, noTree}
 use Rattle.trees.proofs.Bools.{bool-cases}
 use Rattle.trees.proofs.ArrayLaws.{good-at, all-good, stands-tree, tree-stands, stands}
-use Rattle.trees.proofs.DecodedLaws.{decoded-nodes, leaf-of-token}
+use Rattle.trees.proofs.EditionLaws.{keyed-nodes, leaf-of-key, valid-spelled}
 use Rattle.trees.proofs.PostorderLaws.{length-postorder, laid-arrays, label-shown}
-use Rattle.agreement.specs.Restrict.{restrict}
+use Rattle.agreement.specs.Restrict.{restrict, restrictIn}
 use Rattle.agreement.proofs.RestrictLaws.{keptLeaves}
-use Rattle.restriction.specs.Kept.{keptAt, standingOf, keptStanding, StandsFor}
+use Rattle.restriction.specs.Kept.{keptAt, standingOf, keptStanding}
 use Rattle.restriction.specs.KeptMachine.{Pass, startOf, arraysAt, passOf, nodesKept}
 use Rattle.restriction.proofs.KeptLaws.{kept-few, kept-restrict}
-use Rattle.restriction.proofs.DecodedKept.{restrict-decoded}
 use Rattle.restriction.proofs.EntryLaws.{SameAt, same-good, same-trees}
 use Rattle.restriction.proofs.PassLaws.{Sized, newNodes, Found, nothing, something, Passed, passed}
 
@@ -112,46 +113,35 @@ module _ (a : TreeArrays) (kept : List Bool) (z : Sized (startOf a)) (s : Pass) 
       no-nodes (arraysAt m s) text (c ∙ (rw (eq-eqb n 0 k) refl))
 
 -- what is left of arrays that stand for t is the restriction of t, where a leaf's flag tells whether the set has its token
-kept-tokens : (a : TreeArrays) (text : List ℕ) (kept : List Bool) (t : Tree) (X : Token → Bool) → treeOf a text ≡ oneTree t
-    → ((u : ℕ) → u < a .nodes → isLeaf a u ≡ true → getD kept u false ≡ X (labelAt a text u))
-    → keptStanding a text kept ≡ standingOf (restrict X t)
+pub kept-tokens : (a : TreeArrays) (text : List ℕ) (kept : List Bool) (t : Tree) (P : Token → Bool) → treeOf a text ≡ oneTree t
+    → ((u : ℕ) → u < a .nodes → isLeaf a u ≡ true → getD kept u false ≡ P (labelAt a text u))
+    → keptStanding a text kept ≡ standingOf (restrict P t)
 unfolding keptStanding
-kept-tokens a text kept t X h f =
+kept-tokens a text kept t P h f =
     let s = tree-stands a text t h in
     ap standingOf
-    (kept-restrict a text kept (s .good) X f (a .nodes) (a .nodes - 1) (omega (arith, s .some)) (omega (arith, s .some)) ∙ ap (restrict X) (s .tree))
-
--- and of the tree that t stands for, where it tells whether the set has the label that the leaf's token stands for
-pub kept-standing : (a : TreeArrays) (text : List ℕ) (kept : List Bool) (t : Tree) (X : Label → Bool) → treeOf a text ≡ oneTree t
-    → ((u : ℕ) → u < a .nodes → isLeaf a u ≡ true → getD kept u false ≡ X (spelling (labelAt a text u)))
-    → StandsFor (keptStanding a text kept) (restrict X (decoded t))
-kept-standing a text kept t X h f =
-    record {
-      tokens = restrict (λ (y : Token). X (spelling y)) t;
-      stands = kept-tokens a text kept t (λ (y : Token). X (spelling y)) h f;
-      decodes = restrict-decoded X t;
-    }
+    (kept-restrict a text kept (s .good) P f (a .nodes) (a .nodes - 1) (omega (arith, s .some)) (omega (arith, s .some)) ∙ ap (restrict P) (s .tree))
 
 -- a leaf's flag, where it is laid out among the subtrees in postorder
-own-flag : (t : Tree) (kept : List Bool) (X : Label → Bool)
-    → ((u : ℕ) → u < nodesOf (decoded t) → (x : Label) → subtree (postorder (decoded t)) u ≡ leaf x → getD kept u false ≡ X x)
+own-flag : (e : Edition) (t : Tree) (kept : List Bool) (X : Label → Bool)
+    → ((u : ℕ) → u < nodesOf (keyed e t) → (x : Label) → subtree (postorder (keyed e t)) u ≡ leaf x → getD kept u false ≡ X x)
     → (u : ℕ) → u < nodesOf t → {l r : ℕ} {y : Tree} → LaidNode (postorder t) l r u y → l ≡ u → subtree (postorder t) u ≡ y
-    → getD kept u false ≡ X (spelling (labelAt (arraysOf t) (textOf t) u))
+    → getD kept u false ≡ X (key e (labelAt (arraysOf t) (textOf t) u))
 unfolding arraysOf labelAt
-own-flag t kept X f u h (laid-leaf {x = x} e) d k =
-    f u (omega (arith, decoded-nodes t)) (spelling x) (leaf-of-token t u x h k)
-    ∙ ap (λ (y : Token). X (spelling y))
+own-flag e t kept X f u h (laid-leaf {x = x} d) i k =
+    f u (omega (arith, keyed-nodes e t)) (key e x) (leaf-of-key e t u x h k)
+    ∙ ap (λ (y : Token). X (key e y))
     (sym (label-shown t (replicate (nodeLimit - length (starts t 0)) 0) (replicate (nodeLimit - length (sizes t)) 0) u h x k))
-own-flag t kept X f u h (laid-node p q) d k = absurd (omega arith)
+own-flag e t kept X f u h (laid-node p q) i k = absurd (omega arith)
 
--- the same of a valid tree's own arrays, by the numbers of its leaves in postorder
-pub own-kept : (t : Tree) → Valid t → (kept : List Bool) (X : Label → Bool)
-    → ((u : ℕ) → u < nodesOf (decoded t) → (x : Label) → subtree (postorder (decoded t)) u ≡ leaf x → getD kept u false ≡ X x)
-    → StandsFor (keptStanding (arraysOf t) (textOf t) kept) (restrict X (decoded t))
+-- the same of a valid tree's own arrays, by the numbers of its leaves in postorder and the keys of its labels
+pub own-kept : (e : Edition) (t : Tree) → ValidIn e t → (kept : List Bool) (X : Label → Bool)
+    → ((u : ℕ) → u < nodesOf (keyed e t) → (x : Label) → subtree (postorder (keyed e t)) u ≡ leaf x → getD kept u false ≡ X x)
+    → keptStanding (arraysOf t) (textOf t) kept ≡ standingOf (restrictIn e X t)
 unfolding arraysOf isLeaf
-own-kept t v kept X f =
-    kept-standing (arraysOf t) (textOf t) kept t X (stands t v)
-    (λ u h e.
-    own-flag t kept X f u h
+own-kept e t v kept X f =
+    kept-tokens (arraysOf t) (textOf t) kept t (λ (y : Token). X (key e y)) (stands t (valid-spelled e t v))
+    (λ u h d.
+    own-flag e t kept X f u h
     (laid-arrays t (replicate (nodeLimit - length (lefts t 0)) 0) (replicate (nodeLimit - length (rights t 0)) 0) u (omega (arith, length-postorder t)))
-    (eqb-true (getD (arraysOf t .left) u 0) u e) refl)
+    (eqb-true (getD (arraysOf t .left) u 0) u d) refl)

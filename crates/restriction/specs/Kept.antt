@@ -1,12 +1,11 @@
 -- The tree that is left of tree arrays when only the leaves with these numbers are kept. Source paper 003, section 2.
 use Prim.Native.Nat.{ℕ, zero, suc, _-_}
-use mathlib.Core.Path.{_≡_}
 use mathlib.Core.Bool.{Bool, false, cond}
 use mathlib.Core.List.{List}
 use mathlib.Core.Option.{Option, some, none}
 use lib.ListN.{getD}
 use Rattle.trees.specs.declared.TreeArrays.{TreeArrays}
-use Rattle.trees.specs.Tree.{Tree, leaf, decoded}
+use Rattle.trees.specs.Tree.{Tree, leaf}
 use Rattle.trees.specs.Arrays.{labelAt, isLeaf, Standing, noLeaf, oneTree}
 use Rattle.agreement.specs.Restrict.{joinKept}
 
@@ -26,14 +25,3 @@ standingOf (some t) = oneTree t
 unfoldable pub keptStanding : TreeArrays → List ℕ → List Bool → Standing
 unfolding keptAt standingOf
 keptStanding a text kept = standingOf (keptAt (a .nodes) a text kept (a .nodes - 1))
-
--- what is left of a tree of tokens, decoded
-unfoldable pub decodedKept : Option Tree → Option Tree
-decodedKept none = none
-decodedKept (some t) = some (decoded t)
-
--- arrays stand for a tree of tokens, or for no leaf, and that for this decoded tree, or for none
-pub record StandsFor (s : Standing) (o : Option Tree) : Type 0 where
-  pub tokens : Option Tree
-  pub stands : s ≡ standingOf tokens
-  pub decodes : decodedKept tokens ≡ o

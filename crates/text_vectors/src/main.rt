@@ -1,11 +1,12 @@
 // Runs a stored stream of texts through the readers and the writer and prints a line for each: the normal text, or the labels of
 // a list with their number, as they stand in it, or the refusal; and for a place, any number of the machine, the line of a refusal
 // there. A case is a kind byte, `t` for a tree, `l` for a list and `p` for a place, the length as two bytes, and the text; a place is
-// eight bytes, the highest first.
+// eight bytes, the highest first. `T` and `L` are a tree and a list under the second edition.
 use lists::LabelPlaces;
 use lists::ListAnswer;
 use newick::TreeAnswer;
 use trees::Body;
+use trees::Edition;
 use trees::Reason;
 use trees::Refusal;
 use trees::TREE_ROOM;
@@ -20,8 +21,8 @@ fn print_refusal(refusal: Refusal) {
     io::write_all(1, job::written(out, answer));
 }
 
-fn print_tree(text: &[u8]) {
-    let read = newick::read_tree(text, Body::S);
+fn print_tree(edition: Edition, text: &[u8]) {
+    let read = newick::read_tree(edition, text, Body::S);
     let answer = read.answer;
     if let TreeAnswer::Refused(refusal) = answer {
         print_refusal(refusal);
@@ -30,7 +31,7 @@ fn print_tree(text: &[u8]) {
     let tree = read.tree;
     let mut area = [0u8; TREE_ROOM];
     let out: &mut [u8] = &mut area;
-    let written = writer::write_tree(tree, text, out);
+    let written = writer::write_tree(edition, tree, text, out);
     if let WriteAnswer::Written(n) = written {
         io::write_all(1, trees::part(out, 0, n));
         io::write_all(1, b"\n");
@@ -62,8 +63,8 @@ fn print_number(n: usize) {
     io::write_all(1, trees::first_bytes(&bytes, numeral.len));
 }
 
-fn print_list(text: &[u8]) {
-    let read = lists::read_list(text, Body::K);
+fn print_list(edition: Edition, text: &[u8]) {
+    let read = lists::read_list(edition, text, Body::K);
     let answer = read.answer;
     if let ListAnswer::Refused(refusal) = answer {
         print_refusal(refusal);
@@ -114,9 +115,13 @@ fn print_place(text: &[u8]) {
 
 fn print_case(kind: u8, text: &[u8]) {
     if kind == b't' {
-        print_tree(text);
+        print_tree(Edition::One, text);
+    } else if kind == b'T' {
+        print_tree(Edition::Two, text);
     } else if kind == b'l' {
-        print_list(text);
+        print_list(Edition::One, text);
+    } else if kind == b'L' {
+        print_list(Edition::Two, text);
     } else {
         print_place(text);
     }

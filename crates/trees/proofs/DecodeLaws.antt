@@ -11,7 +11,10 @@ use lib.Dec.{eqb}
 use lib.ListN.{length, getD, take, drop, length-append, length-map, drop-of-length-le, List·getD-append, List·getD-eq-default}
 use lib.Seq.{drop-cons, getD-at}
 use borrow.Author.Tests.{eq-eqb, ne-eqb}
+use Rattle.trees.specs.declared.Edition.{Edition}
+use Rattle.trees.specs.declared.Edition.the-variants.{One}
 use Rattle.trees.specs.Bytes.{quoteByte, blankByte, underscoreByte}
+use Rattle.trees.specs.Edition.{foldByte, inEdition, key}
 use Rattle.trees.specs.Label.{Label, sameLabel, orderOf}
 use Rattle.trees.specs.declared.Order.the-variants.{Less, Equal, Greater}
 use Rattle.trees.specs.Token.{Token, bareByte, spelling, writtenByte, holdsUnderscore, tokenOf}
@@ -20,45 +23,55 @@ use Rattle.trees.specs.Stored.{byteOf, innerBytes, readAs, formOf}
 use Rattle.trees.proofs.Bools.{bool-cases}
 use Rattle.trees.proofs.LabelLaws.{lengths-differ, bytes-differ, all-same, byte-agrees}
 use Rattle.trees.proofs.LabelLaws.{both-end, first-ends, second-ends, byte-less, byte-greater, byte-same}
+use Rattle.trees.proofs.FoldLaws.{fold-quote, fold-inner, key-size}
 use Rattle.trees.proofs.RelabelLaws.{map-at}
 use Rattle.trees.proofs.TokenLaws.{token-quoted, token-plain}
 
 -- ---- one byte
 
-module _ (q : Bool) (b : ℕ) where
-  pub byte-plain : (b ≡ underscoreByte → ⊥) → b ≡ byteOf q b
+-- a byte that an edition reads as c
+module _ (e : Edition) (q : Bool) (b c : ℕ) (read : c ≡ foldByte e b) where
+  pub byte-plain : (c ≡ underscoreByte → ⊥) → c ≡ byteOf e q b
   unfolding byteOf bareByte
-  byte-plain h = go q
+  byte-plain h = rw read (go q)
     where
-      go : (r : Bool) → b ≡ byteOf r b
+      go : (r : Bool) → foldByte e b ≡ byteOf e r b
       go true = refl
-      go false = rw (ne-eqb b underscoreByte h) refl
+      go false = rw (ne-eqb (foldByte e b) underscoreByte (λ (k : foldByte e b ≡ underscoreByte). h (read ∙ k))) refl
 
-  pub byte-under : b ≡ underscoreByte → q ≡ true → underscoreByte ≡ byteOf q b
+  pub byte-under : c ≡ underscoreByte → q ≡ true → underscoreByte ≡ byteOf e q b
   unfolding byteOf
-  byte-under h e = rw (e, h) refl
+  byte-under h k = rw k (sym h ∙ read)
 
-  pub byte-blank : b ≡ underscoreByte → q ≡ false → blankByte ≡ byteOf q b
+  pub byte-blank : c ≡ underscoreByte → q ≡ false → blankByte ≡ byteOf e q b
   unfolding byteOf bareByte
-  byte-blank h e = rw (e, eq-eqb b underscoreByte h) refl
+  byte-blank h k = rw (k, eq-eqb (foldByte e b) underscoreByte (sym read ∙ h)) refl
 
 -- ---- bytes read as a label
 
-pub read-plain : (x : List ℕ) → readAs true x ≡ x
-unfolding byteOf
+-- labels that are decoded and folded already
+pub read-plain : (x : List ℕ) → readAs One true x ≡ x
+unfolding byteOf foldByte
 read-plain [] = refl
 read-plain (b ∷ x) = ap (_∷_ b) (read-plain x)
 
-read-bare : (x : List ℕ) → readAs false x ≡ map bareByte x
+-- between quotes each byte is itself, elsewhere an underscore is a blank
+abbrev plainAs : Bool → List ℕ → Label
+plainAs true x = x
+plainAs false x = map bareByte x
+
+read-folded : (e : Edition) (q : Bool) (x : List ℕ) → readAs e q x ≡ plainAs q (inEdition e x)
 unfolding byteOf
-read-bare [] = refl
-read-bare (b ∷ x) = ap (_∷_ (bareByte b)) (read-bare x)
+read-folded e true [] = refl
+read-folded e true (b ∷ x) = ap (_∷_ (foldByte e b)) (read-folded e true x)
+read-folded e false [] = refl
+read-folded e false (b ∷ x) = ap (_∷_ (bareByte (foldByte e b))) (read-folded e false x)
 
-pub read-size : (q : Bool) (x : List ℕ) → length (readAs q x) ≡ length x
-read-size q x = length-map x (byteOf q)
+pub read-size : (e : Edition) (q : Bool) (x : List ℕ) → length (readAs e q x) ≡ length x
+read-size e q x = length-map x (byteOf e q)
 
-pub read-at : (q : Bool) (x : List ℕ) (i : ℕ) → i < length x → getD (readAs q x) i 0 ≡ byteOf q (getD x i 0)
-read-at q x i h = map-at (byteOf q) x i 0 0 h
+pub read-at : (e : Edition) (q : Bool) (x : List ℕ) (i : ℕ) → i < length x → getD (readAs e q x) i 0 ≡ byteOf e q (getD x i 0)
+read-at e q x i h = map-at (byteOf e q) x i 0 0 h
 
 -- ---- a token
 
@@ -90,88 +103,94 @@ inner-cut x e =
     let n : length x - 1 - 1 ≡ length x - 2 = omega arith in
     ap (λ (k : ℕ). take k (drop 1 x)) n ∙ inner-quoted x e
 
--- what is read of a token is its spelling
-pub spelling-read : (x : Token) → readAs (quoteFirst x) (innerBytes x) ≡ spelling x
+-- what is read of a token is what it stands for
+spelling-plain : (x : Token) → plainAs (quoteFirst x) (innerBytes x) ≡ spelling x
 unfolding innerBytes spelling quoteFirst
-spelling-read [] = refl
-spelling-read (b ∷ rest) = go (bool-cases (eqb b quoteByte))
+spelling-plain [] = refl
+spelling-plain (b ∷ rest) = go (bool-cases (eqb b quoteByte))
   where
-    go : (eqb b quoteByte ≡ true) ⊎ (eqb b quoteByte ≡ false) → readAs (quoteFirst (b ∷ rest)) (innerBytes (b ∷ rest)) ≡ spelling (b ∷ rest)
+    go : (eqb b quoteByte ≡ true) ⊎ (eqb b quoteByte ≡ false) → plainAs (quoteFirst (b ∷ rest)) (innerBytes (b ∷ rest)) ≡ spelling (b ∷ rest)
     go (inl e) =
         let n : length (b ∷ rest) - 2 ≡ length rest - 1 = omega arith in
-        rw e (read-plain (take (length (b ∷ rest) - 2) rest) ∙ ap (λ (k : ℕ). take k rest) n)
-    go (inr e) = rw e (read-bare (b ∷ rest))
+        rw e (ap (λ (k : ℕ). take k rest) n)
+    go (inr e) = rw e refl
 
-pub spelling-told : (t : Token) (q : Bool) (x : List ℕ) → q ≡ quoteFirst t → x ≡ innerBytes t → readAs q x ≡ spelling t
-spelling-told t q x e f = rw (e, f) (spelling-read t)
+pub spelling-read : (e : Edition) (x : Token) → readAs e (quoteFirst x) (innerBytes x) ≡ key e x
+spelling-read e x =
+    read-folded e (quoteFirst x) (innerBytes x)
+    ∙ ap₂ plainAs (sym (fold-quote e x)) (sym (fold-inner e x))
+    ∙ spelling-plain (inEdition e x)
+
+pub spelling-told : (e : Edition) (t : Token) (q : Bool) (x : List ℕ) → q ≡ quoteFirst t → x ≡ innerBytes t → readAs e q x ≡ key e t
+spelling-told e t q x f g = rw (f, g) (spelling-read e t)
 
 -- of two tokens at once
-pub both-told : {A : Type 0} (f : Label → Label → A) (s t : Token) (q r : Bool) (x y : List ℕ) → x ≡ innerBytes s → q ≡ quoteFirst s
-    → y ≡ innerBytes t → r ≡ quoteFirst t → f (readAs q x) (readAs r y) ≡ f (spelling s) (spelling t)
-both-told f s t q r x y d e g h = ap₂ f (spelling-told s q x e d) (spelling-told t r y h g)
+pub both-told : {A : Type 0} (e : Edition) (f : Label → Label → A) (s t : Token) (q r : Bool) (x y : List ℕ) → x ≡ innerBytes s → q ≡ quoteFirst s
+    → y ≡ innerBytes t → r ≡ quoteFirst t → f (readAs e q x) (readAs e r y) ≡ f (key e s) (key e t)
+both-told e f s t q r x y d g h k = ap₂ f (spelling-told e s q x g d) (spelling-told e t r y k h)
 
 pub spelling-size : (x : Token) → length (innerBytes x) ≡ length (spelling x)
-spelling-size x = sym (read-size (quoteFirst x) (innerBytes x)) ∙ ap length (spelling-read x)
+spelling-size x = sym (read-size One (quoteFirst x) (innerBytes x)) ∙ ap length (spelling-read One x) ∙ key-size One x
 
 -- ---- two runs of bytes compared
 
-module _ (q r : Bool) (a b : List ℕ) where
-  pub read-lengths : (length a ≡ length b → ⊥) → sameLabel (readAs q a) (readAs r b) ≡ false
+module _ (e : Edition) (q r : Bool) (a b : List ℕ) where
+  pub read-lengths : (length a ≡ length b → ⊥) → sameLabel (readAs e q a) (readAs e r b) ≡ false
   read-lengths h =
-      lengths-differ (readAs q a) (readAs r b)
-      (λ (e : length (readAs q a) ≡ length (readAs r b)). h (sym (read-size q a) ∙ e ∙ read-size r b))
+      lengths-differ (readAs e q a) (readAs e r b)
+      (λ (k : length (readAs e q a) ≡ length (readAs e r b)). h (sym (read-size e q a) ∙ k ∙ read-size e r b))
 
-  pub read-differ : (i : ℕ) → i < length a → i < length b → (byteOf q (getD a i 0) ≡ byteOf r (getD b i 0) → ⊥)
-      → sameLabel (readAs q a) (readAs r b) ≡ false
+  pub read-differ : (i : ℕ) → i < length a → i < length b → (byteOf e q (getD a i 0) ≡ byteOf e r (getD b i 0) → ⊥)
+      → sameLabel (readAs e q a) (readAs e r b) ≡ false
   read-differ i h k n =
-      bytes-differ (readAs q a) (readAs r b) i
-      (λ (e : getD (readAs q a) i 0 ≡ getD (readAs r b) i 0). n (sym (read-at q a i h) ∙ e ∙ read-at r b i k))
+      bytes-differ (readAs e q a) (readAs e r b) i
+      (λ (g : getD (readAs e q a) i 0 ≡ getD (readAs e r b) i 0). n (sym (read-at e q a i h) ∙ g ∙ read-at e r b i k))
 
   -- the rests from place i on
   abbrev pub SameFrom : ℕ → Type 0
-  SameFrom i = sameLabel (drop i (readAs q a)) (drop i (readAs r b)) ≡ sameLabel (readAs q a) (readAs r b)
+  SameFrom i = sameLabel (drop i (readAs e q a)) (drop i (readAs e r b)) ≡ sameLabel (readAs e q a) (readAs e r b)
 
-  pub read-same : (i : ℕ) → SameFrom i → length a ≤ i → length b ≤ i → true ≡ sameLabel (readAs q a) (readAs r b)
+  pub read-same : (i : ℕ) → SameFrom i → length a ≤ i → length b ≤ i → true ≡ sameLabel (readAs e q a) (readAs e r b)
   read-same i so-far h k =
-      all-same (readAs q a) (readAs r b) i so-far (omega (arith, read-size q a)) (omega (arith, read-size r b))
+      all-same (readAs e q a) (readAs e r b) i so-far (omega (arith, read-size e q a)) (omega (arith, read-size e r b))
 
-  pub read-agrees : (i : ℕ) → SameFrom i → i < length a → i < length b → byteOf q (getD a i 0) ≡ byteOf r (getD b i 0) → SameFrom (i + 1)
-  read-agrees i so-far h k e =
-      byte-agrees (readAs q a) (readAs r b) i so-far (omega (arith, read-size q a)) (omega (arith, read-size r b))
-      (read-at q a i h ∙ e ∙ sym (read-at r b i k))
+  pub read-agrees : (i : ℕ) → SameFrom i → i < length a → i < length b → byteOf e q (getD a i 0) ≡ byteOf e r (getD b i 0) → SameFrom (i + 1)
+  read-agrees i so-far h k g =
+      byte-agrees (readAs e q a) (readAs e r b) i so-far (omega (arith, read-size e q a)) (omega (arith, read-size e r b))
+      (read-at e q a i h ∙ g ∙ sym (read-at e r b i k))
 
   abbrev pub OrderFrom : ℕ → Type 0
-  OrderFrom i = orderOf (drop i (readAs q a)) (drop i (readAs r b)) ≡ orderOf (readAs q a) (readAs r b)
+  OrderFrom i = orderOf (drop i (readAs e q a)) (drop i (readAs e r b)) ≡ orderOf (readAs e q a) (readAs e r b)
 
   module _ (i : ℕ) (so-far : OrderFrom i) where
-    pub read-both-end : length a ≤ i → length b ≤ i → Equal ≡ orderOf (readAs q a) (readAs r b)
+    pub read-both-end : length a ≤ i → length b ≤ i → Equal ≡ orderOf (readAs e q a) (readAs e r b)
     read-both-end h k =
-        both-end (readAs q a) (readAs r b) i so-far (omega (arith, read-size q a)) (omega (arith, read-size r b))
+        both-end (readAs e q a) (readAs e r b) i so-far (omega (arith, read-size e q a)) (omega (arith, read-size e r b))
 
-    pub read-first-ends : length a ≤ i → i < length b → Less ≡ orderOf (readAs q a) (readAs r b)
+    pub read-first-ends : length a ≤ i → i < length b → Less ≡ orderOf (readAs e q a) (readAs e r b)
     read-first-ends h k =
-        first-ends (readAs q a) (readAs r b) i so-far (omega (arith, read-size q a)) (omega (arith, read-size r b))
+        first-ends (readAs e q a) (readAs e r b) i so-far (omega (arith, read-size e q a)) (omega (arith, read-size e r b))
 
-    pub read-second-ends : i < length a → length b ≤ i → Greater ≡ orderOf (readAs q a) (readAs r b)
+    pub read-second-ends : i < length a → length b ≤ i → Greater ≡ orderOf (readAs e q a) (readAs e r b)
     read-second-ends h k =
-        second-ends (readAs q a) (readAs r b) i so-far (omega (arith, read-size q a)) (omega (arith, read-size r b))
+        second-ends (readAs e q a) (readAs e r b) i so-far (omega (arith, read-size e q a)) (omega (arith, read-size e r b))
 
     -- the byte at i decides, or the rest does
     module _ (h : i < length a) (k : i < length b) where
-      pub read-less : byteOf q (getD a i 0) < byteOf r (getD b i 0) → Less ≡ orderOf (readAs q a) (readAs r b)
+      pub read-less : byteOf e q (getD a i 0) < byteOf e r (getD b i 0) → Less ≡ orderOf (readAs e q a) (readAs e r b)
       read-less l =
-          byte-less (readAs q a) (readAs r b) i so-far (omega (arith, read-size q a)) (omega (arith, read-size r b))
-          (rw (read-at q a i h, read-at r b i k) l)
+          byte-less (readAs e q a) (readAs e r b) i so-far (omega (arith, read-size e q a)) (omega (arith, read-size e r b))
+          (rw (read-at e q a i h, read-at e r b i k) l)
 
-      pub read-greater : byteOf r (getD b i 0) < byteOf q (getD a i 0) → Greater ≡ orderOf (readAs q a) (readAs r b)
+      pub read-greater : byteOf e r (getD b i 0) < byteOf e q (getD a i 0) → Greater ≡ orderOf (readAs e q a) (readAs e r b)
       read-greater l =
-          byte-greater (readAs q a) (readAs r b) i so-far (omega (arith, read-size q a)) (omega (arith, read-size r b))
-          (rw (read-at q a i h, read-at r b i k) l)
+          byte-greater (readAs e q a) (readAs e r b) i so-far (omega (arith, read-size e q a)) (omega (arith, read-size e r b))
+          (rw (read-at e q a i h, read-at e r b i k) l)
 
-      pub read-level : byteOf q (getD a i 0) ≡ byteOf r (getD b i 0) → OrderFrom (i + 1)
-      read-level e =
-          byte-same (readAs q a) (readAs r b) i so-far (omega (arith, read-size q a)) (omega (arith, read-size r b))
-          (read-at q a i h ∙ e ∙ sym (read-at r b i k))
+      pub read-level : byteOf e q (getD a i 0) ≡ byteOf e r (getD b i 0) → OrderFrom (i + 1)
+      read-level g =
+          byte-same (readAs e q a) (readAs e r b) i so-far (omega (arith, read-size e q a)) (omega (arith, read-size e r b))
+          (read-at e q a i h ∙ g ∙ sym (read-at e r b i k))
 
 -- ---- the written form
 

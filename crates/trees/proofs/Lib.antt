@@ -4,8 +4,10 @@ pub mod Bools
 pub mod ByteLaws
 pub mod DecodeLaws
 pub mod DecodedLaws
+pub mod EditionLaws
 pub mod EntryLaws
 pub mod FaultLaws
+pub mod FoldLaws
 pub mod LabelLaws
 pub mod ListLaws
 pub mod NormalLaws
@@ -19,6 +21,7 @@ pub mod ReadingLaws
 pub mod RelabelLaws
 pub mod SameLaws
 pub mod SlotLaws
+pub mod StandsLaws
 pub mod StoredLaws
 pub mod TokenForms
 pub mod TokenLaws

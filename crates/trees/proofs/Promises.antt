@@ -5,6 +5,8 @@ use mathlib.Core.Bool.{true, false, _&&_}
 use mathlib.Core.Logic.{_⊎_}
 use mathlib.Core.List.{List}
 use lib.ListN.{length, getD, replicate}
+use Rattle.trees.specs.declared.Edition.{Edition}
+use Rattle.trees.specs.declared.Edition.the-variants.{One}
 use Rattle.trees.specs.Bytes.{kindOf, kindOfCode, classTable}
 use Rattle.trees.specs.Label.{Label, labelLimit, labelLess, isIn}
 use Rattle.trees.specs.Token.{Token, spelling, goodLabel, tokenOf}
@@ -15,11 +17,14 @@ use Rattle.trees.specs.Slots.{slotOf, isMarked, Marked, firstMarks}
 use Rattle.trees.specs.Plain.{PlainLabel, PlainTree}
 use Rattle.trees.specs.Writable.{Writable}
 use Rattle.trees.specs.Arrays.{arraysOf, treeOf, oneTree}
+use Rattle.trees.specs.Edition.{foldByte, inEdition, key, folded, keyed, ValidIn, normalIn, rewritten, normalTextIn}
 use Rattle.trees.proofs.ByteLaws.{class-rule}
 use Rattle.trees.proofs.LabelLaws.{less-irrefl, less-trans, less-total}
 use Rattle.trees.proofs.StoredLaws.{stored-back, shown-back}
 use Rattle.trees.proofs.TokenLaws.{valid-decoded, token-good, token-back, token-one}
 use Rattle.trees.proofs.SlotLaws.{marked-start, met-is-among}
+use Rattle.trees.proofs.FoldLaws.{fold-kind, key-decoded, one-itself}
+use Rattle.trees.proofs.EditionLaws.{valid-folded, folded-valid, valid-spelled, text-folded, one-valid, one-text-in, text-decides-in, normal-tree-valid, one-normal}
 use Rattle.trees.proofs.ArrayLaws.{stands, text-short}
 use Rattle.trees.proofs.NormalLaws.{smallest-in, smallest-least, one-normal-text}
 use Rattle.trees.proofs.PlainLaws.{plain-spelling, plain-token, plain-decoded, plain-written}
@@ -119,3 +124,46 @@ arrays-stand = stands
 -- 80 labels of 32 bytes between quotes, 79 times `(`, `,` and `)`, and `;`
 pub longest-text : (t : Tree) → Valid t → length (textOf t) ≤ treeRoom
 longest-text = text-short
+
+-- Request C-15. Edition 2 "treats capital and small letters of A to Z as equal": each byte keeps its class, so the grammar
+-- stays; and it is one whether the bytes of a token are read so, or those of the label that it stands for
+pub fold-keeps-class : (e : Edition) (b : ℕ) → kindOf (foldByte e b) ≡ kindOf b
+fold-keeps-class = fold-kind
+
+pub fold-is-of-decoded : (e : Edition) (x : Token) → key e x ≡ inEdition e (spelling x)
+fold-is-of-decoded = key-decoded
+
+pub fold-keeps-text : (e : Edition) (t : Tree) → textOf (folded e t) ≡ inEdition e (textOf t)
+fold-keeps-text = text-folded
+
+-- a tree is valid by an edition exactly if it is as the edition reads it; and then it is by edition 1, which tells more labels apart
+pub valid-as-read : (e : Edition) (t : Tree) → ValidIn e t → Valid (folded e t)
+valid-as-read = valid-folded
+
+pub read-as-valid : (e : Edition) (t : Tree) → Valid (folded e t) → ValidIn e t
+read-as-valid = folded-valid
+
+pub valid-by-the-first : (e : Edition) (t : Tree) → ValidIn e t → Valid t
+valid-by-the-first = valid-spelled
+
+-- "Equal trees have equal normal texts under edition 2 up to spelling", and no others
+pub equal-trees-one-text-in : (e : Edition) (s t : Tree) → ValidIn e s → Same (keyed e s) (keyed e t)
+    → inEdition e (normalTextIn e s) ≡ inEdition e (normalTextIn e t)
+equal-trees-one-text-in = one-text-in
+
+pub one-text-equal-trees-in : (e : Edition) (s t : Tree) → ValidIn e s → ValidIn e t
+    → inEdition e (normalTextIn e s) ≡ inEdition e (normalTextIn e t) → Same (keyed e s) (keyed e t)
+one-text-equal-trees-in = text-decides-in
+
+pub normal-text-is-valid-in : (e : Edition) (t : Tree) → ValidIn e t → ValidIn e (relabel rewritten (normalIn e t))
+normal-text-is-valid-in = normal-tree-valid
+
+-- "Old records must still be judged by the first edition": it compares labels as they are, and all above is said of it
+pub first-edition-key : (x : Token) → inEdition One x ≡ x
+first-edition-key = one-itself
+
+pub first-edition-valid : (t : Tree) → Valid t → ValidIn One t
+first-edition-valid = one-valid
+
+pub first-edition-text : (t : Tree) → normalTextIn One t ≡ normalText (decoded t)
+first-edition-text = one-normal

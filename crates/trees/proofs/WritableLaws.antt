@@ -4,12 +4,11 @@ use Prim.Native.Nat.{_≤_}
 use mathlib.Core.Path.{_≡_, refl, sym, _∙_, ap, ap₂}
 use mathlib.Core.Bool.{Bool, true, false, _&&_, and-comm}
 use mathlib.Core.List.{List, [], _∷_, _++_, map}
-use lib.ListN.{length}
 use native.Mathlib.Omega.{arith}
-use Rattle.trees.specs.Label.{Label, sameLabel, distinct}
+use Rattle.trees.specs.Label.{Label, sameLabel}
 use Rattle.trees.specs.Token.{Token, spelling, tokenOf, goodLabel, goodLabels}
 use Rattle.trees.specs.Tree.{Tree, leaf, node, leaves, relabel, decoded, Same, Valid, Proper, normal}
-use Rattle.trees.specs.Text.{textOf, normalText}
+use Rattle.trees.specs.Text.{normalText}
 use Rattle.trees.specs.Writable.{writableLabel, writableLabels, Writable}
 use Rattle.trees.proofs.Bools.{and-left, and-right, and-intro}
 use Rattle.trees.proofs.LabelLaws.{same-eq, eq-same}
@@ -128,7 +127,3 @@ normal-text-decides s t v w e =
     (text-read (relabel tokenOf (normal s)) (relabel tokenOf (normal t)) (good-loose (leaves (relabel tokenOf (normal s))) (writable-valid (normal s) m .labels))
     (good-loose (leaves (relabel tokenOf (normal t))) (writable-valid (normal t) n .labels)) e)
     ∙ writable-back (normal t) n)
-
--- the normal text reads as an equal tree
-pub written-same : (t : Tree) → Writable t → Same (decoded (relabel tokenOf (normal t))) t
-written-same t w = rw (writable-back (normal t) (normal-writable t w)) (normal-same t)

@@ -1,5 +1,6 @@
 pub mod Arrays
 pub mod Bytes
+pub mod Edition
 pub mod Faults
 pub mod Label
 pub mod Plain

@@ -14,6 +14,11 @@ pub data Reading (A : Type 0) : Type 0 where
   good : A → Reading A
   refused : Reason → ℕ → Reading A
 
+-- request C-15: a body is turned down or not as an edition reads it, and what is read of it stands there as the text has it
+unfoldable pub asStands : {A : Type 0} → Reading A → Reading A → Reading A
+asStands (good x) plain = plain
+asStands (refused r i) plain = refused r i
+
 -- the longest run of such bytes
 unfoldable pub runOf : (ℕ → Bool) → List ℕ → List ℕ
 runOf is [] = []

@@ -4,11 +4,13 @@ use mathlib.Core.Bool.{Bool, true, false, cond, _||_}
 use mathlib.Core.List.{List, [], _++_, map}
 use lib.Dec.{leb}
 use lib.ListN.{length, getD, take, drop, replicate}
+use Rattle.trees.specs.declared.Edition.{Edition}
 use Rattle.trees.specs.declared.ShownLabel.{ShownLabel}
 use Rattle.trees.specs.declared.StoredLabel.{StoredLabel}
 use Rattle.trees.specs.Label.{Label, labelLimit, sameLabel}
 use Rattle.trees.specs.Token.{Token, bareByte, spelling, writtenByte, quotedToken, tokenOf, tokenLimit}
 use Rattle.trees.specs.Reading.{quoteFirst}
+use Rattle.trees.specs.Edition.{foldByte}
 
 -- the label that is kept: of a length past the array's all its bytes count
 unfoldable pub storedBytes : StoredLabel → Label
@@ -49,10 +51,10 @@ isAmong text start size (suc n) x = isPart text (getD start n 0) (getD size n 0)
 
 -- ---- how the code reads a token and writes a label. Intermediate: no public contract rests on this part.
 
--- a byte of a token, by whether it stands between quotes
-unfoldable pub byteOf : (quoted : Bool) → ℕ → ℕ
-byteOf true b = b
-byteOf false b = bareByte b
+-- a byte of a token as an edition reads it, by whether it stands between quotes
+unfoldable pub byteOf : Edition → (quoted : Bool) → ℕ → ℕ
+byteOf e true b = foldByte e b
+byteOf e false b = bareByte (foldByte e b)
 
 -- the bytes that count: those between the quotes, or all
 unfoldable pub innerBytes : Token → List ℕ
@@ -60,8 +62,8 @@ unfolding quoteFirst
 innerBytes x = cond (quoteFirst x) (take (length x - 2) (drop 1 x)) x
 
 -- these bytes, so read, are the label's
-abbrev pub readAs : (quoted : Bool) → List ℕ → Label
-readAs quoted x = map (byteOf quoted) x
+abbrev pub readAs : Edition → (quoted : Bool) → List ℕ → Label
+readAs e quoted x = map (byteOf e quoted) x
 
 -- a label's form with quotes, and without
 unfoldable pub formOf : (quoted : Bool) → Label → Token

@@ -6,6 +6,7 @@ ghost use mathlib.Core.Bool.{true, _&&_};
 ghost use Prim.Native.Nat.{_%_, min};
 ghost use lib.ListN.{length, getD, take};
 ghost use Rattle.trees.specs.Bytes.{classTable, kindOfCode};
+ghost use Rattle.trees.specs.Edition.{foldByte, inEdition, key};
 ghost use Rattle.trees.specs.Label.{orderOf, labelLess, sameLabel};
 ghost use Rattle.trees.specs.Reading.{quoteFirst};
 ghost use Rattle.trees.specs.Refusals.{numberOf, letterOf};
@@ -56,6 +57,12 @@ pub enum Order {
     Less,
     Equal,
     Greater,
+}
+
+// An edition of the naming code: by the second one, capital and small letters of A to Z are equal.
+pub enum Edition {
+    One,
+    Two,
 }
 
 // Why a job is turned down; the numbers are in specs/Refusals.antt.
@@ -453,12 +460,36 @@ fn inner<'a>(token: &'a [u8]) -> &'a [u8]
     &token[1..token.len() - 1]
 }
 
-// What a byte of a token stands for: between quotes each stands for itself, elsewhere an underscore for a blank.
-fn decode(quoted: bool, b: u8) -> u8
-    ensures { λ r. ⌜ r ≡ byteOf quoted b ⌝ }
+// A byte as the second edition reads it: a capital is the small letter 32 further.
+fn lowered(b: u8) -> u8
+    ensures { λ r. ⌜ r ≡ foldByte Edition.Two b ⌝ }
 {
-    if b != UNDERSCORE {
+    if b < b'A' {
         return b;
+    }
+    if b'Z' < b {
+        return b;
+    }
+    b + 32
+}
+
+// A byte as an edition reads it.
+fn fold(edition: Edition, b: u8) -> u8
+    ensures { λ r. ⌜ r ≡ foldByte edition b ⌝ }
+{
+    match edition {
+        Edition::One => b,
+        Edition::Two => lowered(b),
+    }
+}
+
+// What a byte of a token stands for, as an edition reads it: between quotes each stands for itself, elsewhere an underscore for a blank.
+fn decode(edition: Edition, quoted: bool, b: u8) -> u8
+    ensures { λ r. ⌜ r ≡ byteOf edition quoted b ⌝ }
+{
+    let c = fold(edition, b);
+    if c != UNDERSCORE {
+        return c;
     }
     if quoted { UNDERSCORE } else { BLANK }
 }
@@ -471,16 +502,16 @@ pub fn spelled_size(token: &[u8]) -> usize
 }
 
 // Where `a` stands against `b` in label order, each byte decoded: the first one that differs decides, else the length.
-fn compare_read(a: &[u8], aquoted: bool, b: &[u8], bquoted: bool) -> Order
-    ensures { λ r. ⌜ r ≡ orderOf (readAs aquoted (now (a .entry))) (readAs bquoted (now (b .entry))) ⌝ }
+fn compare_read(edition: Edition, a: &[u8], aquoted: bool, b: &[u8], bquoted: bool) -> Order
+    ensures { λ r. ⌜ r ≡ orderOf (readAs edition aquoted (now (a .entry))) (readAs edition bquoted (now (b .entry))) ⌝ }
 {
     let mut i: usize = 0;
     while i < a.len() {
         if b.len() <= i {
             return Order::Greater;
         }
-        let x = decode(aquoted, a[i]);
-        let y = decode(bquoted, b[i]);
+        let x = decode(edition, aquoted, a[i]);
+        let y = decode(edition, bquoted, b[i]);
         if x < y {
             return Order::Less;
         }
@@ -500,14 +531,14 @@ fn compare_read(a: &[u8], aquoted: bool, b: &[u8], bquoted: bool) -> Order
 pub fn compare(a: &[u8], b: &[u8]) -> Order
     ensures { λ r. ⌜ r ≡ orderOf (now (a .entry)) (now (b .entry)) ⌝ }
 {
-    compare_read(a, true, b, true)
+    compare_read(Edition::One, a, true, b, true)
 }
 
-// The label that token `a` stands for comes before that of `b`.
-pub fn comes_before(a: &[u8], b: &[u8]) -> bool
-    ensures { λ r. ⌜ r ≡ labelLess (spelling (now (a .entry))) (spelling (now (b .entry))) ⌝ }
+// The label that token `a` stands for comes before that of `b`, as an edition reads them.
+pub fn comes_before(edition: Edition, a: &[u8], b: &[u8]) -> bool
+    ensures { λ r. ⌜ r ≡ labelLess (key edition (now (a .entry))) (key edition (now (b .entry))) ⌝ }
 {
-    let order = compare_read(inner(a), is_quoted(a), inner(b), is_quoted(b));
+    let order = compare_read(edition, inner(a), is_quoted(a), inner(b), is_quoted(b));
     match order {
         Order::Less => true,
         Order::Equal => false,
@@ -536,13 +567,13 @@ pub fn least(a: usize, b: usize) -> usize
 }
 
 // As many bytes, each decoded, are the same.
-fn same_all(a: &[u8], aquoted: bool, b: &[u8], bquoted: bool) -> bool
+fn same_all(edition: Edition, a: &[u8], aquoted: bool, b: &[u8], bquoted: bool) -> bool
     requires { ⌜ length (now a) ≡ length (now b) ⌝ }
-    ensures { λ r. ⌜ r ≡ sameLabel (readAs aquoted (now (a .entry))) (readAs bquoted (now (b .entry))) ⌝ }
+    ensures { λ r. ⌜ r ≡ sameLabel (readAs edition aquoted (now (a .entry))) (readAs edition bquoted (now (b .entry))) ⌝ }
 {
     let mut i: usize = 0;
     while i < a.len() {
-        if decode(aquoted, a[i]) != decode(bquoted, b[i]) {
+        if decode(edition, aquoted, a[i]) != decode(edition, bquoted, b[i]) {
             return false;
         }
         i += 1;
@@ -551,8 +582,8 @@ fn same_all(a: &[u8], aquoted: bool, b: &[u8], bquoted: bool) -> bool
 }
 
 // Bytes, each decoded, are the same. What differs most often is looked at first: the lengths, the last bytes, then all.
-fn same_read(a: &[u8], aquoted: bool, b: &[u8], bquoted: bool) -> bool
-    ensures { λ r. ⌜ r ≡ sameLabel (readAs aquoted (now (a .entry))) (readAs bquoted (now (b .entry))) ⌝ }
+fn same_read(edition: Edition, a: &[u8], aquoted: bool, b: &[u8], bquoted: bool) -> bool
+    ensures { λ r. ⌜ r ≡ sameLabel (readAs edition aquoted (now (a .entry))) (readAs edition bquoted (now (b .entry))) ⌝ }
 {
     let n = a.len();
     if n != b.len() {
@@ -561,17 +592,17 @@ fn same_read(a: &[u8], aquoted: bool, b: &[u8], bquoted: bool) -> bool
     if n == 0 {
         return true;
     }
-    if decode(aquoted, a[n - 1]) != decode(bquoted, b[n - 1]) {
+    if decode(edition, aquoted, a[n - 1]) != decode(edition, bquoted, b[n - 1]) {
         return false;
     }
-    same_all(a, aquoted, b, bquoted)
+    same_all(edition, a, aquoted, b, bquoted)
 }
 
-// Two tokens stand for the same label.
-pub fn same_label(a: &[u8], b: &[u8]) -> bool
-    ensures { λ r. ⌜ r ≡ sameLabel (spelling (now (a .entry))) (spelling (now (b .entry))) ⌝ }
+// Two tokens stand for the same label, as an edition reads them.
+pub fn same_label(edition: Edition, a: &[u8], b: &[u8]) -> bool
+    ensures { λ r. ⌜ r ≡ sameLabel (key edition (now (a .entry))) (key edition (now (b .entry))) ⌝ }
 {
-    same_read(inner(a), is_quoted(a), inner(b), is_quoted(b))
+    same_read(edition, inner(a), is_quoted(a), inner(b), is_quoted(b))
 }
 
 // The first `len` bytes, or all of them where they are fewer: of a stored label's bytes the label.
@@ -622,30 +653,40 @@ pub fn leaf_label<'a>(text: &'a [u8], start: &[usize], size: &[usize], u: usize)
     part(text, entry(start, u), entry(size, u))
 }
 
-// Whether one of the first `count` parts that starts and sizes name stands for the same label as the token.
-pub fn is_among(text: &[u8], start: &[usize], size: &[usize], count: usize, token: &[u8]) -> bool
-    ensures { λ r. ⌜ r ≡ isAmong (now (text .entry)) (now (start .entry)) (now (size .entry)) count (now (token .entry)) ⌝ }
+// Whether one of the first `count` parts that starts and sizes name stands for the same label as the token, as an edition reads them.
+pub fn is_among(
+    edition: Edition,
+    text: &[u8],
+    start: &[usize],
+    size: &[usize],
+    count: usize,
+    token: &[u8],
+) -> bool
+    ensures { λ r.
+        ⌜ r ≡ isAmong (inEdition edition (now (text .entry))) (now (start .entry)) (now (size .entry)) count
+        (inEdition edition (now (token .entry))) ⌝ }
 {
     let mut u = count;
     while 0 < u {
         u -= 1;
-        if same_label(token, leaf_label(text, start, size, u)) {
+        if same_label(edition, token, leaf_label(text, start, size, u)) {
             return true;
         }
     }
     false
 }
 
-// The slot of a token's label: equal labels have one slot, and few others share it. The factor spreads labels that differ in two bytes.
-pub fn slot(token: &[u8]) -> usize
-    ensures { λ r. ⌜ r ≡ slotOf (spelling (now (token .entry))) ⌝ }
+// The slot of a token's label: labels that an edition reads as equal have one slot, and few others share it. The factor spreads labels
+// that differ in two bytes.
+pub fn slot(edition: Edition, token: &[u8]) -> usize
+    ensures { λ r. ⌜ r ≡ slotOf (key edition (now (token .entry))) ⌝ }
 {
     let x = inner(token);
     let quoted = is_quoted(token);
     let mut n: usize = 0;
     let mut i: usize = 0;
     while i < x.len() {
-        let b = decode(quoted, x[i]);
+        let b = decode(edition, quoted, x[i]);
         n = (n * 139 + wide(b)) % SLOTS;
         i += 1;
     }
@@ -664,6 +705,7 @@ pub fn first_marks() -> [u8; SLOTS]
 // Whether the slot has a mark and one of the first `count` parts stands for the same label as the token. With the token's slot, and marks
 // for the slots of all parts, this is `is_among`: without a mark nothing is compared.
 pub fn is_met(
+    edition: Edition,
     text: &[u8],
     start: &[usize],
     size: &[usize],
@@ -674,7 +716,8 @@ pub fn is_met(
 ) -> bool
     ensures { λ r.
         ⌜ r ≡ (isMarked (now (seen .entry)) slot
-        && isAmong (now (text .entry)) (now (start .entry)) (now (size .entry)) count (now (token .entry))) ⌝ }
+        && isAmong (inEdition edition (now (text .entry))) (now (start .entry)) (now (size .entry)) count
+        (inEdition edition (now (token .entry)))) ⌝ }
 {
     if seen.len() <= slot {
         return false;
@@ -682,12 +725,12 @@ pub fn is_met(
     if seen[slot] == 0 {
         return false;
     }
-    is_among(text, start, size, count, token)
+    is_among(edition, text, start, size, count, token)
 }
 
-// The label of a token as it is kept apart from its text, 0 after its last byte; of a longer one its first bytes.
-pub fn stored(token: &[u8]) -> StoredLabel
-    ensures { λ r. ⌜ r ≡ storedOf (spelling (now (token .entry))) ⌝ }
+// The label of a token, as an edition reads it, kept apart from its text, 0 after its last byte; of a longer one its first bytes.
+pub fn stored(edition: Edition, token: &[u8]) -> StoredLabel
+    ensures { λ r. ⌜ r ≡ storedOf (key edition (now (token .entry))) ⌝ }
 {
     let x = inner(token);
     let quoted = is_quoted(token);
@@ -695,17 +738,23 @@ pub fn stored(token: &[u8]) -> StoredLabel
     let mut bytes = [0u8; LABEL_LIMIT];
     let mut i: usize = 0;
     while i < len {
-        bytes[i] = decode(quoted, x[i]);
+        bytes[i] = decode(edition, quoted, x[i]);
         i += 1;
     }
     StoredLabel { bytes, len }
 }
 
-// A leaf's label, kept apart from the text.
-pub fn stored_leaf(text: &[u8], start: &[usize], size: &[usize], u: usize) -> StoredLabel
-    ensures { λ r. ⌜ r ≡ storedOf (spelling (leafLabel (now (text .entry)) (now (start .entry)) (now (size .entry)) u)) ⌝ }
+// A leaf's label, as an edition reads it, kept apart from the text.
+pub fn stored_leaf(
+    edition: Edition,
+    text: &[u8],
+    start: &[usize],
+    size: &[usize],
+    u: usize,
+) -> StoredLabel
+    ensures { λ r. ⌜ r ≡ storedOf (spelling (leafLabel (inEdition edition (now (text .entry))) (now (start .entry)) (now (size .entry)) u)) ⌝ }
 {
-    stored(leaf_label(text, start, size, u))
+    stored(edition, leaf_label(text, start, size, u))
 }
 
 // Whether a label holds an underscore, and so needs quotes.

@@ -1,4 +1,5 @@
--- What the verdict promises, in the scope paper's order; each proof is a name cited. Assumes nothing.
+-- What the verdict promises, in the scope paper's order; each proof is a name cited. The texts are any bytes: `agree_on` gives the verdict
+-- of its texts as the edition reads them, and that of edition 1 is of the texts themselves. Assumes nothing.
 use Prim.Native.Nat.{ℕ}
 use mathlib.Core.Path.{_≡_, refl}
 use mathlib.Core.Logic.{_↔_}

@@ -5,6 +5,7 @@ use lists::LabelPlaces;
 use lists::ListAnswer;
 use newick::TreeAnswer;
 use trees::Body;
+use trees::Edition;
 use trees::Reason;
 use trees::Refusal;
 use trees::TreeArrays;
@@ -13,6 +14,7 @@ ghost use mathlib.Core.Bool.{true, cond};
 ghost use mathlib.Core.List.{List, map};
 ghost use Prim.Native.Nat.{ℕ, _<_, _≤_, min};
 ghost use lib.ListN.{length, getD};
+ghost use Rattle.trees.specs.Edition.{inEdition};
 ghost use Rattle.trees.specs.Label.{Label, labelLess};
 ghost use Rattle.trees.specs.Token.{Token, spelling};
 ghost use Rattle.trees.specs.Tree.{Tree, decoded};
@@ -45,16 +47,24 @@ pub struct Three {
 }
 
 // 1 where label j of the list comes before label k in label order, else 0.
-fn before(list: &[u8], start: &[usize; 80], size: &[usize; 80], j: usize, k: usize) -> usize
+fn before(
+    edition: Edition,
+    list: &[u8],
+    start: &[usize; 80],
+    size: &[usize; 80],
+    j: usize,
+    k: usize,
+) -> usize
     requires { ⌜ (j < 80) × (k < 80) ⌝ }
-    ensures { λ r. ⌜ r ≡ cond (labelLess (labelIn (now (list .entry)) (now (start .entry)) (now (size .entry)) j)
-        (labelIn (now (list .entry)) (now (start .entry)) (now (size .entry)) k)) 1 0 ⌝ }
+    ensures { λ r. ⌜ r ≡ cond (labelLess (labelIn (inEdition edition (now (list .entry))) (now (start .entry)) (now (size .entry)) j)
+        (labelIn (inEdition edition (now (list .entry))) (now (start .entry)) (now (size .entry)) k)) 1 0 ⌝ }
 {
     let from1 = start[j];
     let count1 = size[j];
     let from2 = start[k];
     let count2 = size[k];
     if trees::comes_before(
+        edition,
         trees::part(list, from1, count1),
         trees::part(list, from2, count2),
     ) {
@@ -65,24 +75,31 @@ fn before(list: &[u8], start: &[usize; 80], size: &[usize; 80], j: usize, k: usi
 }
 
 // The rank of label k in label order: how many labels of the list come before it.
-fn rank(list: &[u8], start: &[usize; 80], size: &[usize; 80], count: usize, k: usize) -> usize
+fn rank(
+    edition: Edition,
+    list: &[u8],
+    start: &[usize; 80],
+    size: &[usize; 80],
+    count: usize,
+    k: usize,
+) -> usize
     requires { ⌜ (k < count) × (count ≤ 80) ⌝ }
-    ensures { λ r. ⌜ r ≡ rankIn (now (list .entry)) (now (start .entry)) (now (size .entry)) count k ⌝ }
+    ensures { λ r. ⌜ r ≡ rankIn (inEdition edition (now (list .entry))) (now (start .entry)) (now (size .entry)) count k ⌝ }
 {
     let mut r: usize = 0;
     let mut j: usize = 0;
     while j < count {
-        r += before(list, start, size, j, k);
+        r += before(edition, list, start, size, j, k);
         j += 1;
     }
     r
 }
 
 // The labels' numbers in the list, in label order.
-fn label_order(list: &[u8], places: LabelPlaces) -> [usize; 80]
+fn label_order(edition: Edition, list: &[u8], places: LabelPlaces) -> [usize; 80]
     requires { ⌜ places .count ≤ 80 ⌝ }
     ensures { λ r. ⌜ ((i : ℕ) → getD r i 0 < 80) ⌝ }
-    ensures { λ r. ⌜ InOrder (rankIn (now (list .entry)) (places .start) (places .size) (places .count)) (places .count) (places .count) r ⌝ }
+    ensures { λ r. ⌜ InOrder (rankIn (inEdition edition (now (list .entry))) (places .start) (places .size) (places .count)) (places .count) (places .count) r ⌝ }
 {
     let start = places.start;
     let size = places.size;
@@ -90,7 +107,7 @@ fn label_order(list: &[u8], places: LabelPlaces) -> [usize; 80]
     let mut order = [0usize; 80];
     let mut k: usize = 0;
     while k < count {
-        let r = rank(list, &start, &size, count, k);
+        let r = rank(edition, list, &start, &size, count, k);
         order[r] = k;
         k += 1;
     }
@@ -98,9 +115,15 @@ fn label_order(list: &[u8], places: LabelPlaces) -> [usize; 80]
 }
 
 // The numbers of the leaves with the list's labels, in list order; the number of nodes where the tree has no such leaf.
-fn leaf_numbers(text: &[u8], tree: TreeArrays, list: &[u8], places: LabelPlaces) -> [usize; 80]
+fn leaf_numbers(
+    edition: Edition,
+    text: &[u8],
+    tree: TreeArrays,
+    list: &[u8],
+    places: LabelPlaces,
+) -> [usize; 80]
     requires { ⌜ places .count ≤ 80 ⌝ }
-    ensures { λ r. ⌜ LeavesFound (now (text .entry)) tree (labelIn (now (list .entry)) (places .start) (places .size)) (places .count) r ⌝ }
+    ensures { λ r. ⌜ LeavesFound (inEdition edition (now (text .entry))) tree (labelIn (inEdition edition (now (list .entry))) (places .start) (places .size)) (places .count) r ⌝ }
 {
     let left = tree.left;
     let start = tree.start;
@@ -115,7 +138,7 @@ fn leaf_numbers(text: &[u8], tree: TreeArrays, list: &[u8], places: LabelPlaces)
         let from = list_start[k];
         let bytes = list_size[k];
         let token = trees::part(list, from, bytes);
-        let u = leaves::find_leaf(text, &left, &start, &size, nodes, token);
+        let u = leaves::find_leaf(edition, text, &left, &start, &size, nodes, token);
         leaf[k] = u;
         k += 1;
     }
@@ -237,6 +260,7 @@ fn told(three: Three, order: &[usize; 80], start: &[usize; 80], count: usize) ->
 
 // The test itself: both trees hold every label of the list, and have the same closer pair of each three.
 fn compared(
+    edition: Edition,
     first: &[u8],
     one: TreeArrays,
     second: &[u8],
@@ -246,18 +270,18 @@ fn compared(
 ) -> Agreement
     requires { ⌜ places .count ≤ 80 ⌝ }
     ensures { λ r. ⌜ ((s t : Tree) (xs : List Token)
-        → Given s t xs (now (first .entry)) (now (second .entry)) (now (list .entry)) one two places
+        → Given s t xs (inEdition edition (now (first .entry))) (inEdition edition (now (second .entry))) (inEdition edition (now (list .entry))) one two places
         → r ≡ verdictOf xs (answer (decoded s) (decoded t) (map spelling xs))) ⌝ }
 {
     let count = places.count;
     let start = places.start;
-    let leaf1 = leaf_numbers(first, one, list, places);
-    let leaf2 = leaf_numbers(second, two, list, places);
+    let leaf1 = leaf_numbers(edition, first, one, list, places);
+    let leaf2 = leaf_numbers(edition, second, two, list, places);
     let lack = lacking(&leaf1, one.nodes, &leaf2, two.nodes, &start, count);
     let Agreement::Agreed = lack else {
         return lack;
     };
-    let order = label_order(list, places);
+    let order = label_order(edition, list, places);
     let leaves1 = ranked(&leaf1, &order, count);
     let leaves2 = ranked(&leaf2, &order, count);
     let left1 = one.left;
@@ -305,22 +329,24 @@ fn list_refusal(answer: ListAnswer) -> Agreement
     }
 }
 
-// Whether two trees agree on the labels of a list. Bodies are read in the order S, T, K, and the first that cannot be read
-// decides; then a label that a tree lacks (6 or 7); then the first three labels with different closer pairs.
-pub fn agree_on(first: &[u8], second: &[u8], list: &[u8]) -> Agreement
-    ensures { λ r. ⌜ r ≡ verdict (now (first .entry)) (now (second .entry)) (now (list .entry)) ⌝ }
+// Whether two trees agree on the labels of a list, as an edition reads all three. Bodies are read in the order S, T, K, and the first
+// that cannot be read decides; then a label that a tree lacks (6 or 7); then the first three labels with different closer pairs.
+pub fn agree_on(edition: Edition, first: &[u8], second: &[u8], list: &[u8]) -> Agreement
+    ensures { λ r.
+        ⌜ r ≡ verdict (inEdition edition (now (first .entry))) (inEdition edition (now (second .entry)))
+        (inEdition edition (now (list .entry))) ⌝ }
 {
-    let one = newick::read_tree(first, Body::S);
+    let one = newick::read_tree(edition, first, Body::S);
     let answer1 = one.answer;
     let TreeAnswer::Leaves(_) = answer1 else {
         return tree_refusal(answer1, Body::S);
     };
-    let two = newick::read_tree(second, Body::T);
+    let two = newick::read_tree(edition, second, Body::T);
     let answer2 = two.answer;
     let TreeAnswer::Leaves(_) = answer2 else {
         return tree_refusal(answer2, Body::T);
     };
-    let three = lists::read_list(list, Body::K);
+    let three = lists::read_list(edition, list, Body::K);
     let answer3 = three.answer;
     let ListAnswer::Labels(_) = answer3 else {
         return list_refusal(answer3);
@@ -328,5 +354,5 @@ pub fn agree_on(first: &[u8], second: &[u8], list: &[u8]) -> Agreement
     let tree1 = one.tree;
     let tree2 = two.tree;
     let places = three.places;
-    compared(first, tree1, second, tree2, list, places)
+    compared(edition, first, tree1, second, tree2, list, places)
 }

@@ -4,71 +4,77 @@ use mathlib.Core.Path.{_≡_, refl, sym, _∙_, ap}
 use mathlib.Core.Bool.{true, false}
 use mathlib.Core.Logic.{_⊎_, inl, inr}
 use mathlib.Core.List.{List, [], _++_}
-use mathlib.Core.Option.{Option, none, some}
+use mathlib.Core.Option.{Option, none, some, Option·map}
 use native.Mathlib.Omega.{arith}
 use lib.Dec.{leb}
 use lib.ListN.{length, take, drop}
 use lib.Seq.{take-append-seam, drop-append-seam}
 use borrow.Author.Tests.{leb-false}
+use Rattle.trees.specs.declared.Edition.{Edition}
+use Rattle.trees.specs.declared.Edition.the-variants.{One}
 use Rattle.trees.specs.declared.Refusal.{Refusal}
 use Rattle.trees.specs.declared.TreeArrays.{TreeArrays}
-use Rattle.trees.specs.Token.{tokenOf}
-use Rattle.trees.specs.Tree.{Tree, relabel, decoded, Same, Valid, normal}
+use Rattle.trees.specs.Label.{labelLess}
+use Rattle.trees.specs.Token.{spelling, tokenOf}
+use Rattle.trees.specs.Tree.{Tree, decoded, Same, Valid}
 use Rattle.trees.specs.Text.{textOf, normalText}
+use Rattle.trees.specs.Edition.{foldByte, inEdition, keyed, ValidIn, normalTextIn}
 use Rattle.trees.specs.Arrays.{Standing, noLeaf, oneTree, noTree, treeOf, arraysOf}
-use Rattle.trees.specs.Writable.{Writable}
+use Rattle.trees.specs.Words.{bytesOf}
 use Rattle.trees.proofs.Bools.{bool-cases}
 use Rattle.trees.proofs.ArrayLaws.{stands}
+use Rattle.trees.proofs.EditionLaws.{valid-spelled, one-text-in, one-normal, normalTree, normal-tree-valid}
 use Rattle.trees.proofs.TokenLaws.{valid-decoded}
-use Rattle.trees.proofs.NormalLaws.{normal-twice, one-normal-text}
-use Rattle.trees.proofs.WritableLaws.{normal-writable, writable-valid, writable-back}
+use Rattle.trees.proofs.NormalLaws.{one-normal-text}
 use Rattle.writer.specs.declared.WriteAnswer.the-variants.{Written, Refused, NoTree}
 use Rattle.writer.specs.Write.{standingText, outputTooShort, textAnswer, writeAnswer, outputAfter, Lack, bytes, row, noRow, toldBy}
+use Rattle.writer.specs.Write.{EditionTexts}
+use Rattle.writer.proofs.AgainLaws.{normal-text-twice}
 use Rattle.writer.proofs.WriteLaws.{Done, done-as, done-none, done-empty, done-short, done-fits}
 
 -- arrays that stand for tree t over the text
-module _ (a : TreeArrays) (text : List ℕ) (t : Tree) (stands : treeOf a text ≡ oneTree t) (out : List ℕ) where
-  belongs : standingText (treeOf a text) ≡ some (normalText (decoded t))
+module _ (e : Edition) (a : TreeArrays) (text : List ℕ) (t : Tree) (stands : treeOf a text ≡ oneTree t) (out : List ℕ) where
+  belongs : standingText e (treeOf a text) ≡ some (normalTextIn e t)
   unfolding standingText
-  belongs = ap standingText stands
+  belongs = ap (standingText e) stands
 
-  fits : length (normalText (decoded t)) ≤ length out
-      → Done (treeOf a text) out (Written (length (normalText (decoded t)))) (normalText (decoded t) ++ drop (length (normalText (decoded t))) out)
-  fits h = done-as (treeOf a text) (some (normalText (decoded t))) out _ _ belongs (done-fits (normalText (decoded t)) out h)
+  fits : length (normalTextIn e t) ≤ length out
+      → Done e (treeOf a text) out (Written (length (normalTextIn e t))) (normalTextIn e t ++ drop (length (normalTextIn e t)) out)
+  fits h = done-as e (treeOf a text) (some (normalTextIn e t)) out _ _ belongs (done-fits (normalTextIn e t) out h)
 
-  short : length out < length (normalText (decoded t)) → Done (treeOf a text) out (Refused outputTooShort) out
-  short h = done-as (treeOf a text) (some (normalText (decoded t))) out _ _ belongs (done-short (normalText (decoded t)) out h)
+  short : length out < length (normalTextIn e t) → Done e (treeOf a text) out (Refused outputTooShort) out
+  short h = done-as e (treeOf a text) (some (normalTextIn e t)) out _ _ belongs (done-short (normalTextIn e t) out h)
 
   -- "On success the output holds the normal text and its further bytes are unchanged"
-  pub written-count : length (normalText (decoded t)) ≤ length out → writeAnswer (treeOf a text) (length out) ≡ Written (length (normalText (decoded t)))
+  pub written-count : length (normalTextIn e t) ≤ length out → writeAnswer e (treeOf a text) (length out) ≡ Written (length (normalTextIn e t))
   written-count h = sym (fits h .0)
 
-  pub written-text : length (normalText (decoded t)) ≤ length out
-      → take (length (normalText (decoded t))) (outputAfter (treeOf a text) out) ≡ normalText (decoded t)
+  pub written-text : length (normalTextIn e t) ≤ length out
+      → take (length (normalTextIn e t)) (outputAfter e (treeOf a text) out) ≡ normalTextIn e t
   written-text h =
-      ap (take (length (normalText (decoded t)))) (sym (fits h .1)) ∙ take-append-seam (normalText (decoded t)) (drop (length (normalText (decoded t))) out)
+      ap (take (length (normalTextIn e t))) (sym (fits h .1)) ∙ take-append-seam (normalTextIn e t) (drop (length (normalTextIn e t)) out)
 
-  pub written-rest : length (normalText (decoded t)) ≤ length out
-      → drop (length (normalText (decoded t))) (outputAfter (treeOf a text) out) ≡ drop (length (normalText (decoded t))) out
+  pub written-rest : length (normalTextIn e t) ≤ length out
+      → drop (length (normalTextIn e t)) (outputAfter e (treeOf a text) out) ≡ drop (length (normalTextIn e t)) out
   written-rest h =
-      ap (drop (length (normalText (decoded t)))) (sym (fits h .1)) ∙ drop-append-seam (normalText (decoded t)) (drop (length (normalText (decoded t))) out)
+      ap (drop (length (normalTextIn e t))) (sym (fits h .1)) ∙ drop-append-seam (normalTextIn e t) (drop (length (normalTextIn e t)) out)
 
   -- "On refusal no set and no count is returned, and an output keeps every byte"
-  pub too-short : length out < length (normalText (decoded t)) → writeAnswer (treeOf a text) (length out) ≡ Refused outputTooShort
+  pub too-short : length out < length (normalTextIn e t) → writeAnswer e (treeOf a text) (length out) ≡ Refused outputTooShort
   too-short h = sym (short h .0)
 
-  pub short-kept : length out < length (normalText (decoded t)) → outputAfter (treeOf a text) out ≡ out
+  pub short-kept : length out < length (normalTextIn e t) → outputAfter e (treeOf a text) out ≡ out
   short-kept h = sym (short h .1)
 
 -- the same in the scope paper's terms
-module _ (a : TreeArrays) (text : List ℕ) (t : Tree) (stands : treeOf a text ≡ oneTree t) (out : List ℕ) where
-  pub bytes-told : length (normalText (decoded t)) ≤ length out → toldBy (writeAnswer (treeOf a text) (length out)) ≡ bytes (length (normalText (decoded t)))
+module _ (e : Edition) (a : TreeArrays) (text : List ℕ) (t : Tree) (stands : treeOf a text ≡ oneTree t) (out : List ℕ) where
+  pub bytes-told : length (normalTextIn e t) ≤ length out → toldBy (writeAnswer e (treeOf a text) (length out)) ≡ bytes (length (normalTextIn e t))
   unfolding toldBy
-  bytes-told h = ap toldBy (written-count a text t stands out h)
+  bytes-told h = ap toldBy (written-count e a text t stands out h)
 
-  pub nine-told : length out < length (normalText (decoded t)) → toldBy (writeAnswer (treeOf a text) (length out)) ≡ row 9 79 0
+  pub nine-told : length out < length (normalTextIn e t) → toldBy (writeAnswer e (treeOf a text) (length out)) ≡ row 9 79 0
   unfolding toldBy outputTooShort
-  nine-told h = ap toldBy (too-short a text t stands out h)
+  nine-told h = ap toldBy (too-short e a text t stands out h)
 
 real-lack : (o : Option (List ℕ)) (n : ℕ) (r : Refusal) → textAnswer o n ≡ Refused r → Lack o n r
 unfolding textAnswer
@@ -84,38 +90,56 @@ real-lack (some x) n r e = go (bool-cases (leb (length x) n))
         let d : Refused outputTooShort ≡ Refused r = rw h at e in
         record { text = x; belongs = refl; longer = leb-false (length x) n h; told = cc }
 
-pub lacking-text : (s : Standing) (n : ℕ) (r : Refusal) → writeAnswer s n ≡ Refused r → Lack (standingText s) n r
+pub lacking-text : (e : Edition) (s : Standing) (n : ℕ) (r : Refusal) → writeAnswer e s n ≡ Refused r → Lack (standingText e s) n r
 unfolding writeAnswer
-lacking-text s n r e = real-lack (standingText s) n r e
+lacking-text e s n r h = real-lack (standingText e s) n r h
 
 -- arrays that stand for no leaf and for no tree
-empty-done : (out : List ℕ) → Done noLeaf out (Written 0) out
+module _ (e : Edition) (out : List ℕ) where
+  empty-done : Done e noLeaf out (Written 0) out
+  unfolding standingText
+  empty-done = done-as e noLeaf (some []) out (Written 0) out refl (done-empty out)
+
+  none-done : Done e noTree out NoTree out
+  unfolding standingText
+  none-done = done-as e noTree none out NoTree out refl (done-none out)
+
+  pub empty-told : (toldBy (writeAnswer e noLeaf (length out)) ≡ bytes 0) × (outputAfter e noLeaf out ≡ out)
+  unfolding toldBy
+  empty-told = (ap toldBy (sym (empty-done .0)), sym (empty-done .1))
+
+  pub none-told : (toldBy (writeAnswer e noTree (length out)) ≡ noRow) × (outputAfter e noTree out ≡ out)
+  unfolding toldBy
+  none-told = (ap toldBy (sym (none-done .0)), sym (none-done .1))
+
+-- ---- texts of trees
+
+-- the arrays of a valid tree are written as its normal text
+pub tree-text : (e : Edition) (t : Tree) → ValidIn e t → standingText e (treeOf (arraysOf t) (textOf t)) ≡ some (normalTextIn e t)
 unfolding standingText
-empty-done out = done-as noLeaf (some []) out (Written 0) out refl (done-empty out)
-
-none-done : (out : List ℕ) → Done noTree out NoTree out
-unfolding standingText
-none-done out = done-as noTree none out NoTree out refl (done-none out)
-
-pub empty-told : (out : List ℕ) → (toldBy (writeAnswer noLeaf (length out)) ≡ bytes 0) × (outputAfter noLeaf out ≡ out)
-unfolding toldBy
-empty-told out = (ap toldBy (sym (empty-done out .0)), sym (empty-done out .1))
-
-pub none-told : (out : List ℕ) → (toldBy (writeAnswer noTree (length out)) ≡ noRow) × (outputAfter noTree out ≡ out)
-unfolding toldBy
-none-told out = (ap toldBy (sym (none-done out .0)), sym (none-done out .1))
-
--- trees that stand for equal ones are written as the same bytes
-pub one-text : (s t : Tree) → Valid s → Same (decoded s) (decoded t) → standingText (oneTree s) ≡ standingText (oneTree t)
-unfolding standingText
-one-text s t v p = ap some (one-normal-text (decoded s) (decoded t) (valid-decoded s v) p)
+tree-text e t v = ap (standingText e) (stands t (valid-spelled e t v))
 
 -- "reading it gives the tree again": what was read from a normal text is written as the same bytes
-pub text-again : (t : Tree) → Writable t
-    → standingText (treeOf (arraysOf (relabel tokenOf (normal t))) (normalText t)) ≡ some (normalText t)
-unfolding standingText normalText
-text-again t w =
-    let n = normal-writable t w in
-    ap standingText (stands (relabel tokenOf (normal t)) (writable-valid (normal t) n))
-    ∙ ap (λ (s : Tree). some (normalText s)) (writable-back (normal t) n)
-    ∙ ap (λ (s : Tree). some (textOf (relabel tokenOf s))) (normal-twice t (w .different))
+pub text-again : (e : Edition) (t : Tree) → ValidIn e t
+    → standingText e (treeOf (arraysOf (normalTree e t)) (normalTextIn e t)) ≡ some (normalTextIn e t)
+unfolding normalTextIn
+text-again e t v = tree-text e (normalTree e t) (normal-tree-valid e t v) ∙ ap some (normal-text-twice e t v)
+
+-- trees that the edition reads as equal are written as texts that it reads as equal
+pub text-alike : (e : Edition) (s t : Tree) → ValidIn e s → Same (keyed e s) (keyed e t)
+    → Option·map (inEdition e) (standingText e (oneTree s)) ≡ Option·map (inEdition e) (standingText e (oneTree t))
+unfolding standingText
+text-alike e s t v p = ap some (one-text-in e s t v p)
+
+pub edition-texts : EditionTexts
+unfolding standingText normalTextIn foldByte labelLess spelling tokenOf bytesOf decoded
+edition-texts = record { by-first = refl; by-second = refl }
+
+-- by edition 1 it is the normal text of what the tokens stand for, so trees that stand for equal ones are written as the same bytes
+pub one-standing : (t : Tree) → standingText One (oneTree t) ≡ some (normalText (decoded t))
+unfolding standingText
+one-standing t = ap some (one-normal t)
+
+pub one-text : (s t : Tree) → Valid s → Same (decoded s) (decoded t) → standingText One (oneTree s) ≡ standingText One (oneTree t)
+one-text s t v p =
+    one-standing s ∙ ap some (one-normal-text (decoded s) (decoded t) (valid-decoded s v) p) ∙ sym (one-standing t)

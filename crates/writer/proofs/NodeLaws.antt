@@ -1,6 +1,6 @@
--- Nodes of good arrays: the decoded tree below a node is made of those below its children. Assumes nothing.
+-- Nodes of good arrays: the tree below a node is made of those below its children. Assumes nothing.
 use Prim.Native.Nat.{ℕ, zero, suc, _<_}
-use mathlib.Core.Path.{_≡_, _∙_, ap, ap₂}
+use mathlib.Core.Path.{_≡_, _∙_, ap₂}
 use mathlib.Core.Bool.{true, false, cond}
 use mathlib.Core.Logic.{_⊎_, inl, inr}
 use mathlib.Core.List.{List}
@@ -8,12 +8,10 @@ use native.Mathlib.Nat.{not-suc-le-zero, lt-suc-self}
 use native.Mathlib.Omega.{arith}
 use lib.ListN.{getD}
 use Rattle.trees.specs.declared.TreeArrays.{TreeArrays}
-use Rattle.trees.specs.Token.{spelling}
-use Rattle.trees.specs.Tree.{Tree, leaf, node, decoded}
+use Rattle.trees.specs.Tree.{Tree, leaf, node}
 use Rattle.trees.specs.Arrays.{isLeaf, labelAt, goodNodes, treeAt}
 use Rattle.trees.proofs.Bools.{bool-cases}
 use Rattle.trees.proofs.ArrayLaws.{good-at, children-below, treeAt-leaf, treeAt-node}
-use Rattle.trees.proofs.DecodedLaws.{decoded-leaf, decoded-node}
 use Rattle.writer.specs.Passes.{below}
 
 -- induction over node numbers
@@ -52,11 +50,9 @@ module _ (a : TreeArrays) (text : List ℕ) (n : ℕ) (g : goodNodes a text n �
       let y : ℕ = getD (a .right) u 0 in
       let l : x < u = children-below a text u (good-at a text n g u h) e .left-below in
       let r : y < u = children-below a text u (good-at a text n g u h) e .right-below in
-      ap decoded (treeAt-node u a text u e)
-      ∙ decoded-node (treeAt u a text x) (treeAt u a text y)
-      ∙ ap₂ (λ (v w : Tree). node (decoded v) (decoded w)) (any-room x (omega arith) u (suc x) l (lt-suc-self x))
-      (any-room y (omega arith) u (suc y) r (lt-suc-self y))
+      treeAt-node u a text u e
+      ∙ ap₂ node (any-room x (omega arith) u (suc x) l (lt-suc-self x)) (any-room y (omega arith) u (suc y) r (lt-suc-self y))
 
-pub below-leaf : (a : TreeArrays) (text : List ℕ) (u : ℕ) → isLeaf a u ≡ true → below a text u ≡ leaf (spelling (labelAt a text u))
+pub below-leaf : (a : TreeArrays) (text : List ℕ) (u : ℕ) → isLeaf a u ≡ true → below a text u ≡ leaf (labelAt a text u)
 unfolding below
-below-leaf a text u e = ap decoded (treeAt-leaf u a text u e) ∙ decoded-leaf (labelAt a text u)
+below-leaf a text u e = treeAt-leaf u a text u e

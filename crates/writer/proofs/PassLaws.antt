@@ -11,18 +11,22 @@ use native.Mathlib.Omega.{arith}
 use borrow.Author.Tests.{ne-eqb}
 use lib.ListN.{length, getD, set, replicate, length-append, length-set, getD-replicate}
 use lib.Seq.{getD-set-same, getD-set-other}
+use Rattle.trees.specs.declared.Edition.{Edition}
 use Rattle.trees.specs.declared.TreeArrays.{TreeArrays}
 use Rattle.trees.specs.Label.{Label, labelLess}
-use Rattle.trees.specs.Token.{spelling, tokenOf, tokenLimit}
-use Rattle.trees.specs.Tree.{Tree, leaf, node, leaves, relabel, smallest, normal}
+use Rattle.trees.specs.Token.{spelling, tokenLimit}
+use Rattle.trees.specs.Tree.{Tree, leaf, node, leaves, relabel, smallest}
 use Rattle.trees.specs.Text.{written}
 use Rattle.trees.specs.Arrays.{isLeaf, labelAt, goodNodes}
+use Rattle.trees.specs.Edition.{inEdition, key, keyed, normalIn, rewritten}
 use Rattle.trees.proofs.Bools.{bool-cases}
 use Rattle.trees.proofs.ArrayLaws.{good-at, label-inside, children-below, shown-label}
+use Rattle.trees.proofs.EditionLaws.{keyed-leaf, keyed-node}
 use Rattle.trees.proofs.StoredLaws.{stored-back, shown-back}
 use Rattle.trees.proofs.TokenLaws.{token-short}
 use Rattle.writer.specs.Passes.{pass, leafSpelling, leafToken, weightAt, weightCap, sumAt, goesFirst, leastAt, below, shownText, nodeText, Leasts}
 use Rattle.writer.proofs.NodeLaws.{by-number, below-leaf, below-node}
+use Rattle.writer.proofs.StepLaws.{leaf-key}
 
 abbrev in-order : Bool → Tree → Tree → Tree
 in-order b x y = cond b (node x y) (node y x)
@@ -64,7 +68,7 @@ pass-holds P f t (suc n) l step u h =
 module _ (a : TreeArrays) (text : List ℕ) (n : ℕ) (g : goodNodes a text n ≡ true) where
   -- a measure of trees that adds up at nodes is found by a pass of sums, at most the cap
   pub sums-found : (f : Tree → ℕ) (w : List ℕ) (plus cap : ℕ)
-      → ((u : ℕ) → u < n → isLeaf a u ≡ true → f (leaf (spelling (labelAt a text u))) ≡ getD w u 0 + plus)
+      → ((u : ℕ) → u < n → isLeaf a u ≡ true → f (leaf (labelAt a text u)) ≡ getD w u 0 + plus)
       → ((x y : Tree) → f (node x y) ≡ f x + f y)
       → (t : List ℕ) → n ≤ length t
       → (u : ℕ) → u < n → getD (pass (sumAt (a .left) (a .right) w plus cap) t n) u 0 ≡ min cap (f (below a text u))
@@ -87,17 +91,17 @@ module _ (a : TreeArrays) (text : List ℕ) (n : ℕ) (g : goodNodes a text n �
           rw e (omega arith)
 
   -- a leaf's label lies in the text, and what the leaf writes is the label's written form
-  pub label-part : (u : ℕ) → u < n → isLeaf a u ≡ true → leafSpelling text (a .start) (a .size) u ≡ spelling (labelAt a text u)
+  label-part : (u : ℕ) → u < n → isLeaf a u ≡ true → leafSpelling text (a .start) (a .size) u ≡ spelling (labelAt a text u)
   label-part u h e = ap spelling (shown-label a text u (good-at a text n g u h) e)
 
-  pub label-token : (u : ℕ) → u < n → isLeaf a u ≡ true → leafToken text (a .start) (a .size) u ≡ tokenOf (spelling (labelAt a text u))
+  pub label-token : (u : ℕ) → u < n → isLeaf a u ≡ true → leafToken text (a .start) (a .size) u ≡ rewritten (labelAt a text u)
   unfolding leafToken
   label-token u h e =
       let short = label-inside a text u (good-at a text n g u h) e .short in
       rw (label-part u h e, stored-back (spelling (labelAt a text u)) short) (shown-back (spelling (labelAt a text u)) short)
 
   label-weight : (u : ℕ) → u < n → isLeaf a u ≡ true
-      → length (tokenOf (spelling (labelAt a text u))) ≡ weightAt text (a .left) (a .start) (a .size) u
+      → length (rewritten (labelAt a text u)) ≡ weightAt text (a .left) (a .start) (a .size) u
   unfolding weightAt isLeaf
   label-weight u h e = rw e (ap length (sym (label-token u h e)))
 
@@ -153,106 +157,116 @@ module _ (a : TreeArrays) (text : List ℕ) (n : ℕ) (g : goodNodes a text n �
             pair-length (shownText x) (shownText y),
           ))
 
-  pub leasts-found : (t : List ℕ) → n ≤ length t → Leasts a text (pass (leastAt text (a .left) (a .right) (a .start) (a .size)) t n) n
-  unfolding leastAt isLeaf smallest goesFirst
-  leasts-found t l =
-      pass-holds (λ u v. leafSpelling text (a .start) (a .size) v ≡ smallest (below a text u))
-      (leastAt text (a .left) (a .right) (a .start) (a .size)) t n l
-      (λ s u h all. go s u h all (bool-cases (isLeaf a u)))
+  module _ (e : Edition) where
+    -- as an edition reads the text, the label is the one that is compared
+    label-key : (u : ℕ) → u < n → isLeaf a u ≡ true → leafSpelling (inEdition e text) (a .start) (a .size) u ≡ key e (labelAt a text u)
+    label-key u h l = sym (leaf-key e text (a .start) (a .size) u) ∙ ap (key e) (shown-label a text u (good-at a text n g u h) l)
+
+    pub leasts-found : (t : List ℕ) → n ≤ length t
+        → Leasts e a text (pass (leastAt (inEdition e text) (a .left) (a .right) (a .start) (a .size)) t n) n
+    unfolding leastAt isLeaf smallest goesFirst
+    leasts-found t l =
+        pass-holds (λ u v. label v ≡ least u) (leastAt (inEdition e text) (a .left) (a .right) (a .start) (a .size)) t n l
+        (λ s u h all. go s u h all (bool-cases (isLeaf a u)))
+      where
+        label : ℕ → Label
+        label v = leafSpelling (inEdition e text) (a .start) (a .size) v
+
+        least : ℕ → Label
+        least u = smallest (keyed e (below a text u))
+
+        pair : (i j : ℕ) (x y : Label) (b : Bool) → label i ≡ x → label j ≡ y → label (cond b i j) ≡ cond b x y
+        pair i j x y true p q = p
+        pair i j x y false p q = q
+
+        go : (s : List ℕ) (u : ℕ) → u < n → ((k : ℕ) → k < u → label (getD s k 0) ≡ least k)
+            → (isLeaf a u ≡ true) ⊎ (isLeaf a u ≡ false)
+            → label (leastAt (inEdition e text) (a .left) (a .right) (a .start) (a .size) s u) ≡ least u
+        go s u h all (inl d) =
+            rw d (label-key u h d ∙ sym (ap smallest (ap (keyed e) (below-leaf a text u d) ∙ keyed-leaf e (labelAt a text u))))
+        go s u h all (inr d) =
+            let x : ℕ = getD (a .left) u 0 in
+            let y : ℕ = getD (a .right) u 0 in
+            let p : label (getD s x 0) ≡ least x = all x (children-below a text u (good-at a text n g u h) d .left-below) in
+            let q : label (getD s y 0) ≡ least y = all y (children-below a text u (good-at a text n g u h) d .right-below) in
+            let b : Bool = labelLess (label (getD s x 0)) (label (getD s y 0)) in
+            ap (λ (c : Bool). label (cond c u (cond b (getD s x 0) (getD s y 0)))) d
+            ∙ pair (getD s x 0) (getD s y 0) (least x) (least y) b p q
+            ∙ ap (λ (c : Bool). cond c (least x) (least y)) (ap₂ labelLess p q)
+            ∙ sym (ap smallest (ap (keyed e) (below-node a text n g u h d) ∙ keyed-node e (below a text x) (below a text y)))
+
+    -- how an inner node is written: first the child that holds the smaller smallest label
+    pub node-written : (t : List ℕ) → Leasts e a text t n → (u : ℕ) → u < n → isLeaf a u ≡ false → (b : Bool)
+        → b ≡ goesFirst (inEdition e text) (a .start) (a .size) t (getD (a .left) u 0) (getD (a .right) u 0)
+        → nodeText e a text u
+        ≡ 40 ∷ (nodeText e a text (cond b (getD (a .left) u 0) (getD (a .right) u 0))
+        ++ (44 ∷ (nodeText e a text (cond b (getD (a .right) u 0) (getD (a .left) u 0)) ++ (41 ∷ []))))
+    unfolding nodeText normalIn relabel written goesFirst
+    node-written t least u h d b k =
+        let x : ℕ = getD (a .left) u 0 in
+        let y : ℕ = getD (a .right) u 0 in
+        let p : leafSpelling (inEdition e text) (a .start) (a .size) (getD t x 0) ≡ smallest (keyed e (below a text x)) =
+        least x (omega (arith, children-below a text u (good-at a text n g u h) d .left-below)) in
+        let q : leafSpelling (inEdition e text) (a .start) (a .size) (getD t y 0) ≡ smallest (keyed e (below a text y)) =
+        least y (omega (arith, children-below a text u (good-at a text n g u h) d .right-below)) in
+        ap (λ (s : Tree). shownText (normalIn e s)) (below-node a text n g u h d)
+        ∙ ap (λ (c : Bool). shownText (in-order c (normalIn e (below a text x)) (normalIn e (below a text y))))
+        (sym (k ∙ ap₂ labelLess p q))
+        ∙ go x y b
+      where
+        go : (x y : ℕ) (c : Bool)
+            → shownText (in-order c (normalIn e (below a text x)) (normalIn e (below a text y)))
+            ≡ 40 ∷ (shownText (normalIn e (below a text (cond c x y)))
+            ++ (44 ∷ (shownText (normalIn e (below a text (cond c y x))) ++ (41 ∷ []))))
+        go x y true = refl
+        go x y false = refl
+
+module _ (e : Edition) where
+  pub leaf-written : (a : TreeArrays) (text : List ℕ) (u : ℕ) → isLeaf a u ≡ true → nodeText e a text u ≡ rewritten (labelAt a text u)
+  unfolding nodeText normalIn relabel written
+  leaf-written a text u l = rw (below-leaf a text u l)
+
+  -- the order of the children does not change the length
+  pub normal-length : (t : Tree) → length (shownText (normalIn e t)) ≡ length (shownText t)
+  unfolding normalIn relabel written
+  normal-length (leaf x) = refl
+  normal-length (node x y) = go (labelLess (smallest (keyed e x)) (smallest (keyed e y))) (normal-length x) (normal-length y)
     where
-      pair : (i j : ℕ) (x y : Label) (b : Bool) → leafSpelling text (a .start) (a .size) i ≡ x → leafSpelling text (a .start) (a .size) j ≡ y
-          → leafSpelling text (a .start) (a .size) (cond b i j) ≡ cond b x y
-      pair i j x y true p q = p
-      pair i j x y false p q = q
-
-      go : (s : List ℕ) (u : ℕ) → u < n → ((k : ℕ) → k < u → leafSpelling text (a .start) (a .size) (getD s k 0) ≡ smallest (below a text k))
-          → (isLeaf a u ≡ true) ⊎ (isLeaf a u ≡ false)
-          → leafSpelling text (a .start) (a .size) (leastAt text (a .left) (a .right) (a .start) (a .size) s u) ≡ smallest (below a text u)
-      go s u h all (inl e) = rw (e, below-leaf a text u e) (label-part u h e)
-      go s u h all (inr e) =
-          let x : ℕ = getD (a .left) u 0 in
-          let y : ℕ = getD (a .right) u 0 in
-          let p : leafSpelling text (a .start) (a .size) (getD s x 0) ≡ smallest (below a text x) =
-          all x (children-below a text u (good-at a text n g u h) e .left-below) in
-          let q : leafSpelling text (a .start) (a .size) (getD s y 0) ≡ smallest (below a text y) =
-          all y (children-below a text u (good-at a text n g u h) e .right-below) in
-          let b : Bool = labelLess (leafSpelling text (a .start) (a .size) (getD s x 0)) (leafSpelling text (a .start) (a .size) (getD s y 0)) in
-          ap (λ (d : Bool). leafSpelling text (a .start) (a .size) (cond d u (cond b (getD s x 0) (getD s y 0)))) e
-          ∙ pair (getD s x 0) (getD s y 0) (smallest (below a text x)) (smallest (below a text y)) b p q
-          ∙ ap (λ (d : Bool). cond d (smallest (below a text x)) (smallest (below a text y))) (ap₂ labelLess p q)
-          ∙ sym (ap smallest (below-node a text n g u h e))
-
-  -- how an inner node is written: first the child that holds the smaller smallest label
-  pub node-written : (t : List ℕ) → Leasts a text t n → (u : ℕ) → u < n → isLeaf a u ≡ false → (b : Bool)
-      → b ≡ goesFirst text (a .start) (a .size) t (getD (a .left) u 0) (getD (a .right) u 0)
-      → nodeText a text u
-      ≡ 40 ∷ (nodeText a text (cond b (getD (a .left) u 0) (getD (a .right) u 0))
-      ++ (44 ∷ (nodeText a text (cond b (getD (a .right) u 0) (getD (a .left) u 0)) ++ (41 ∷ []))))
-  unfolding nodeText normal relabel written goesFirst
-  node-written t least u h e b d =
-      let x : ℕ = getD (a .left) u 0 in
-      let y : ℕ = getD (a .right) u 0 in
-      let p : leafSpelling text (a .start) (a .size) (getD t x 0) ≡ smallest (below a text x) =
-      least x (omega (arith, children-below a text u (good-at a text n g u h) e .left-below)) in
-      let q : leafSpelling text (a .start) (a .size) (getD t y 0) ≡ smallest (below a text y) =
-      least y (omega (arith, children-below a text u (good-at a text n g u h) e .right-below)) in
-      ap (λ (s : Tree). shownText (normal s)) (below-node a text n g u h e)
-      ∙ ap (λ (c : Bool). shownText (in-order c (normal (below a text x)) (normal (below a text y))))
-      (sym (d ∙ ap₂ labelLess p q))
-      ∙ go x y b
-    where
-      go : (x y : ℕ) (c : Bool)
-          → shownText (in-order c (normal (below a text x)) (normal (below a text y)))
-          ≡ 40 ∷ (shownText (normal (below a text (cond c x y)))
-          ++ (44 ∷ (shownText (normal (below a text (cond c y x))) ++ (41 ∷ []))))
-      go x y true = refl
-      go x y false = refl
-
-pub leaf-written : (a : TreeArrays) (text : List ℕ) (u : ℕ) → isLeaf a u ≡ true → nodeText a text u ≡ tokenOf (spelling (labelAt a text u))
-unfolding nodeText normal relabel written
-leaf-written a text u e = rw (below-leaf a text u e)
-
--- the order of the children does not change the length
-pub normal-length : (t : Tree) → length (shownText (normal t)) ≡ length (shownText t)
-unfolding normal relabel written
-normal-length (leaf x) = refl
-normal-length (node x y) = go (labelLess (smallest x) (smallest y)) (normal-length x) (normal-length y)
-  where
-    go : (b : Bool) → length (shownText (normal x)) ≡ length (shownText x) → length (shownText (normal y)) ≡ length (shownText y)
-        → length (shownText (in-order b (normal x) (normal y))) ≡ length (shownText (node x y))
-    go true p q = omega (arith, pair-length (shownText (normal x)) (shownText (normal y)), pair-length (shownText x) (shownText y))
-    go false p q = omega (arith, pair-length (shownText (normal y)) (shownText (normal x)), pair-length (shownText x) (shownText y))
+      go : (b : Bool) → length (shownText (normalIn e x)) ≡ length (shownText x) → length (shownText (normalIn e y)) ≡ length (shownText y)
+          → length (shownText (in-order b (normalIn e x) (normalIn e y))) ≡ length (shownText (node x y))
+      go true p q = omega (arith, pair-length (shownText (normalIn e x)) (shownText (normalIn e y)), pair-length (shownText x) (shownText y))
+      go false p q = omega (arith, pair-length (shownText (normalIn e y)) (shownText (normalIn e x)), pair-length (shownText x) (shownText y))
 
 -- an inner node with its children in the order of writing
-pub record Pair (a : TreeArrays) (text : List ℕ) (u f s : ℕ) : Type 0 where
+pub record Pair (e : Edition) (a : TreeArrays) (text : List ℕ) (u f s : ℕ) : Type 0 where
   pub first : f < u
   pub second : s < u
-  pub made : nodeText a text u ≡ 40 ∷ (nodeText a text f ++ (44 ∷ (nodeText a text s ++ (41 ∷ []))))
-  pub long : length (nodeText a text u) ≡ length (nodeText a text f) + length (nodeText a text s) + 3
+  pub made : nodeText e a text u ≡ 40 ∷ (nodeText e a text f ++ (44 ∷ (nodeText e a text s ++ (41 ∷ []))))
+  pub long : length (nodeText e a text u) ≡ length (nodeText e a text f) + length (nodeText e a text s) + 3
 
 either-below : (b : Bool) (x y u : ℕ) → x < u → y < u → cond b x y < u
 either-below true x y u p q = p
 either-below false x y u p q = q
 
-module _ (a : TreeArrays) (text : List ℕ) (n : ℕ) (g : goodNodes a text n ≡ true) where
+module _ (e : Edition) (a : TreeArrays) (text : List ℕ) (n : ℕ) (g : goodNodes a text n ≡ true) where
   -- l and r are the children, b tells which goes first
-  pub pair-of : (t : List ℕ) → Leasts a text t n → (u : ℕ) → u < n
+  pub pair-of : (t : List ℕ) → Leasts e a text t n → (u : ℕ) → u < n
       → (l r : ℕ) → l ≡ getD (a .left) u 0 → r ≡ getD (a .right) u 0 → (l ≡ u → ⊥) → (b : Bool)
-      → b ≡ goesFirst text (a .start) (a .size) t l r
-      → (f s : ℕ) → f ≡ cond b l r → s ≡ cond b r l → Pair a text u f s
+      → b ≡ goesFirst (inEdition e text) (a .start) (a .size) t l r
+      → (f s : ℕ) → f ≡ cond b l r → s ≡ cond b r l → Pair e a text u f s
   unfolding isLeaf
   pair-of t least u h l r el er ne b eb f s ef es =
-      let e : isLeaf a u ≡ false = ne-eqb (getD (a .left) u 0) u (λ (k : getD (a .left) u 0 ≡ u). ne (el ∙ k)) in
-      let x : getD (a .left) u 0 < u = children-below a text u (good-at a text n g u h) e .left-below in
-      let y : getD (a .right) u 0 < u = children-below a text u (good-at a text n g u h) e .right-below in
+      let d : isLeaf a u ≡ false = ne-eqb (getD (a .left) u 0) u (λ (k : getD (a .left) u 0 ≡ u). ne (el ∙ k)) in
+      let x : getD (a .left) u 0 < u = children-below a text u (good-at a text n g u h) d .left-below in
+      let y : getD (a .right) u 0 < u = children-below a text u (good-at a text n g u h) d .right-below in
       let f′ : f ≡ cond b (getD (a .left) u 0) (getD (a .right) u 0) = ef ∙ ap₂ (cond b) el er in
       let s′ : s ≡ cond b (getD (a .right) u 0) (getD (a .left) u 0) = es ∙ ap₂ (cond b) er el in
-      let m : nodeText a text u ≡ 40 ∷ (nodeText a text f ++ (44 ∷ (nodeText a text s ++ (41 ∷ [])))) =
-      node-written a text n g t least u h e b (eb ∙ ap₂ (goesFirst text (a .start) (a .size) t) el er)
-      ∙ ap₂ (λ (p q : ℕ). 40 ∷ (nodeText a text p ++ (44 ∷ (nodeText a text q ++ (41 ∷ []))))) (sym f′) (sym s′) in
+      let m : nodeText e a text u ≡ 40 ∷ (nodeText e a text f ++ (44 ∷ (nodeText e a text s ++ (41 ∷ [])))) =
+      node-written a text n g e t least u h d b (eb ∙ ap₂ (goesFirst (inEdition e text) (a .start) (a .size) t) el er)
+      ∙ ap₂ (λ (p q : ℕ). 40 ∷ (nodeText e a text p ++ (44 ∷ (nodeText e a text q ++ (41 ∷ []))))) (sym f′) (sym s′) in
       record {
         first = subst (λ (k : ℕ). k < u) (sym f′) (either-below b (getD (a .left) u 0) (getD (a .right) u 0) u x y);
         second = subst (λ (k : ℕ). k < u) (sym s′) (either-below b (getD (a .right) u 0) (getD (a .left) u 0) u y x);
         made = m;
-        long = ap length m ∙ pair-length (nodeText a text f) (nodeText a text s);
+        long = ap length m ∙ pair-length (nodeText e a text f) (nodeText e a text s);
       }

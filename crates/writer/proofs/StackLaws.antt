@@ -9,10 +9,11 @@ use lib.Dec.{eqb, ltb}
 use lib.ListN.{length, getD, set, replicate, length-append, length-set, length-replicate}
 use lib.Seq.{sets, getD-set-same, getD-set-other}
 use borrow.Author.Tests.{eq-eqb, ne-eqb, eqb-true, eqb-false, lt-ltb, le-ltb, ltb-true}
+use Rattle.trees.specs.declared.Edition.{Edition}
 use Rattle.trees.specs.declared.TreeArrays.{TreeArrays}
-use Rattle.trees.specs.Token.{spelling}
 use Rattle.trees.specs.Tree.{Tree, leaf, leaves}
 use Rattle.trees.specs.Arrays.{goodNodes, isLeaf, labelAt}
+use Rattle.trees.specs.Edition.{inEdition}
 use Rattle.trees.proofs.TreeLaws.{leaves-node, leaves-some}
 use Rattle.trees.proofs.Bools.{bool-cases}
 use Rattle.writer.specs.Passes.{leafToken, goesFirst, firstAt, below, nodeText, Leasts, Child, own, pair, otherOf, Children}
@@ -47,10 +48,11 @@ leaves-add : (b : Bool) (x y : ℕ) (f : ℕ → ℕ) → f x + f y ≡ f (cond 
 leaves-add true x y f = refl
 leaves-add false x y f = omega arith
 
-module _ (a : TreeArrays) (text : List ℕ) (n : ℕ) (g : goodNodes a text n ≡ true) where
+module _ (e : Edition) (a : TreeArrays) (text : List ℕ) (n : ℕ) (g : goodNodes a text n ≡ true) where
   -- by what the passes found, each node is a leaf or has two children in the order of writing
-  pub children-found : (t first : List ℕ) → Leasts a text t n
-      → ((u : ℕ) → u < n → getD first u 0 ≡ firstAt text (a .left) (a .right) (a .start) (a .size) t u) → Children a text first n
+  pub children-found : (t first : List ℕ) → Leasts e a text t n
+      → ((u : ℕ) → u < n → getD first u 0 ≡ firstAt (inEdition e text) (a .left) (a .right) (a .start) (a .size) t u)
+      → Children e a text first n
   unfolding firstAt isLeaf
   children-found t first least found u h = go (bool-cases (isLeaf a u))
     where
@@ -60,16 +62,16 @@ module _ (a : TreeArrays) (text : List ℕ) (n : ℕ) (g : goodNodes a text n �
       r : ℕ
       r = getD (a .right) u 0
 
-      go : (isLeaf a u ≡ true) ⊎ (isLeaf a u ≡ false) → Child a text u (getD first u 0) (otherOf (a .left) (a .right) (getD first u 0) u)
-      go (inl e) = own (found u h ∙ rw e refl) e (leaf-written a text u e ∙ sym (label-token a text n g u h e))
-      go (inr e) =
-          let b = goesFirst text (a .start) (a .size) t l r in
-          let ef : getD first u 0 ≡ cond b l r = found u h ∙ rw e refl in
+      go : (isLeaf a u ≡ true) ⊎ (isLeaf a u ≡ false) → Child e a text u (getD first u 0) (otherOf (a .left) (a .right) (getD first u 0) u)
+      go (inl q) = own (found u h ∙ rw q refl) q (leaf-written e a text u q ∙ sym (label-token a text n g u h q))
+      go (inr q) =
+          let b = goesFirst (inEdition e text) (a .start) (a .size) t l r in
+          let ef : getD first u 0 ≡ cond b l r = found u h ∙ rw q refl in
           let es = other-second b l r (getD first u 0) ef in
-          let p = pair-of a text n g t least u h l r refl refl (eqb-false l u e) b refl (getD first u 0)
+          let p = pair-of e a text n g t least u h l r refl refl (eqb-false l u q) b refl (getD first u 0)
           (otherOf (a .left) (a .right) (getD first u 0) u) ef es in
           pair (p .first) (p .second) (p .made)
-          (ap (λ (z : Tree). length (leaves z)) (below-node a text n g u h e)
+          (ap (λ (z : Tree). length (leaves z)) (below-node a text n g u h q)
           ∙ leaves-node (below a text l) (below a text r)
           ∙ leaves-add b l r (λ k. length (leaves (below a text k)))
           ∙ ap₂ (λ (x y : ℕ). length (leaves (below a text x)) + length (leaves (below a text y))) (sym ef) (sym es))
@@ -81,12 +83,12 @@ leaf-one x = refl
 
 -- the first d entries of a stack
 module _ (a : TreeArrays) (text : List ℕ) where
-  text-kept : (stack : List ℕ) (k x d : ℕ) → d ≤ k → stackText a text (set stack k x) d ≡ stackText a text stack d
+  text-kept : (e : Edition) (stack : List ℕ) (k x d : ℕ) → d ≤ k → stackText e a text (set stack k x) d ≡ stackText e a text stack d
   unfolding stackText
-  text-kept stack k x zero h = refl
-  text-kept stack k x (suc d) h =
-      ap₂ (λ (z : ℕ) (l : List ℕ). thingText a text z ++ l) (getD-set-other stack k d x 0 (λ (e : d ≡ k). omega arith))
-      (text-kept stack k x d (omega arith))
+  text-kept e stack k x zero h = refl
+  text-kept e stack k x (suc d) h =
+      ap₂ (λ (z : ℕ) (l : List ℕ). thingText e a text z ++ l) (getD-set-other stack k d x 0 (λ (q : d ≡ k). omega arith))
+      (text-kept e stack k x d (omega arith))
 
   steps-kept : (stack : List ℕ) (k x d : ℕ) → d ≤ k → stackSteps a text (set stack k x) d ≡ stackSteps a text stack d
   unfolding stackSteps
@@ -160,13 +162,13 @@ module _ (stack : List ℕ) (d s f : ℕ) (room : d + 4 ≤ length stack) where
         length-set (set (set stack d 160) (d + 1) s) (d + 2) 159,
       ))
 
-  four-kept : (a : TreeArrays) (text : List ℕ) → stackText a text (four stack d s f) d ≡ stackText a text stack d
+  four-kept : (e : Edition) (a : TreeArrays) (text : List ℕ) → stackText e a text (four stack d s f) d ≡ stackText e a text stack d
   unfolding four
-  four-kept a text =
-      text-kept a text _ (d + 3) f d (omega arith)
-      ∙ text-kept a text _ (d + 2) 159 d (omega arith)
-      ∙ text-kept a text _ (d + 1) s d (omega arith)
-      ∙ text-kept a text stack d 160 d (omega arith)
+  four-kept e a text =
+      text-kept a text e _ (d + 3) f d (omega arith)
+      ∙ text-kept a text e _ (d + 2) 159 d (omega arith)
+      ∙ text-kept a text e _ (d + 1) s d (omega arith)
+      ∙ text-kept a text e stack d 160 d (omega arith)
 
   four-left : (a : TreeArrays) (text : List ℕ) → stackSteps a text (four stack d s f) d ≡ stackSteps a text stack d
   unfolding four
@@ -176,13 +178,13 @@ module _ (stack : List ℕ) (d s f : ℕ) (room : d + 4 ≤ length stack) where
       ∙ steps-kept a text _ (d + 1) s d (omega arith)
       ∙ steps-kept a text stack d 160 d (omega arith)
 
-  four-text : (a : TreeArrays) (text : List ℕ)
-      → stackText a text (four stack d s f) (d + 4)
-      ≡ thingText a text f ++ (44 ∷ (thingText a text s ++ (41 ∷ stackText a text stack d)))
+  four-text : (e : Edition) (a : TreeArrays) (text : List ℕ)
+      → stackText e a text (four stack d s f) (d + 4)
+      ≡ thingText e a text f ++ (44 ∷ (thingText e a text s ++ (41 ∷ stackText e a text stack d)))
   unfolding stackText thingText markOf
-  four-text a text =
-      let e : d + 4 ≡ suc (suc (suc (suc d))) = omega arith in
-      ap (stackText a text (four stack d s f)) e ∙ rw (four-first, four-comma, four-second, four-close, four-kept a text) refl
+  four-text e a text =
+      let i : d + 4 ≡ suc (suc (suc (suc d))) = omega arith in
+      ap (stackText e a text (four stack d s f)) i ∙ rw (four-first, four-comma, four-second, four-close, four-kept e a text) refl
 
   four-steps : (a : TreeArrays) (text : List ℕ)
       → stackSteps a text (four stack d s f) (d + 4)
@@ -217,61 +219,61 @@ four-things n stack d s f room hf hs all =
     (omega (arith, e, length-set stack d 160, length-set (set (set stack d 160) (d + 1) s) (d + 2) 159)) (λ k. hf) c
 
 -- one step: thing k, the last of the stack's d + 1, is taken off; what it writes itself and the stack afterwards
-pub record Step (a : TreeArrays) (text first : List ℕ) (n : ℕ) (stack : List ℕ) (d k : ℕ) : Type 0 where
-  pub writes : thingText a text k ++ stackText a text stack d
+pub record Step (e : Edition) (a : TreeArrays) (text first : List ℕ) (n : ℕ) (stack : List ℕ) (d k : ℕ) : Type 0 where
+  pub writes : thingText e a text k ++ stackText e a text stack d
       ≡ ownText text (a .start) (a .size) first k
-      ++ stackText a text (stackAfter (a .left) (a .right) first k stack d) (depthAfter first k d)
+      ++ stackText e a text (stackAfter (a .left) (a .right) first k stack d) (depthAfter first k d)
   pub counts : thingSteps a text k + stackSteps a text stack d
       ≡ suc (stackSteps a text (stackAfter (a .left) (a .right) first k stack d) (depthAfter first k d))
   pub things : Things n (stackAfter (a .left) (a .right) first k stack d) (depthAfter first k d)
   pub long : length (stackAfter (a .left) (a .right) first k stack d) ≡ length stack
 
-module _ (a : TreeArrays) (text first : List ℕ) (n : ℕ) (children : Children a text first n) (stack : List ℕ) (d k : ℕ)
+module _ (e : Edition) (a : TreeArrays) (text first : List ℕ) (n : ℕ) (children : Children e a text first n) (stack : List ℕ) (d k : ℕ)
     (few : n ≤ 159) (room : d + 4 ≤ length stack) (all : Things n stack d) where
-  step-mark : ltb k 159 ≡ false → Step a text first n stack d k
+  step-mark : ltb k 159 ≡ false → Step e a text first n stack d k
   unfolding ownText stackAfter depthAfter goesOn thingText thingSteps
-  step-mark e = record { writes = rw e refl; counts = rw e (omega arith); things = rw e all; long = rw e refl }
+  step-mark q = record { writes = rw q refl; counts = rw q (omega arith); things = rw q all; long = rw q refl }
 
-  step-leaf : ltb k 159 ≡ true → getD first k 0 ≡ k → isLeaf a k ≡ true → nodeText a text k ≡ leafToken text (a .start) (a .size) k
-      → Step a text first n stack d k
+  step-leaf : ltb k 159 ≡ true → getD first k 0 ≡ k → isLeaf a k ≡ true → nodeText e a text k ≡ leafToken text (a .start) (a .size) k
+      → Step e a text first n stack d k
   unfolding ownText stackAfter depthAfter goesOn thingText thingSteps
-  step-leaf e f l made =
+  step-leaf q f l made =
       let own-leaf = eq-eqb (getD first k 0) k f in
-      let one : length (leaves (below a text k)) ≡ 1 = ap (λ (t : Tree). length (leaves t)) (below-leaf a text k l) ∙ leaf-one (spelling (labelAt a text k)) in
+      let one : length (leaves (below a text k)) ≡ 1 = ap (λ (t : Tree). length (leaves t)) (below-leaf a text k l) ∙ leaf-one (labelAt a text k) in
       record {
-        writes = rw (e, own-leaf) (ap (λ (x : List ℕ). x ++ stackText a text stack d) made);
-        counts = rw (e, own-leaf) (omega (arith, one));
-        things = rw (e, own-leaf) all;
-        long = rw (e, own-leaf) refl;
+        writes = rw (q, own-leaf) (ap (λ (x : List ℕ). x ++ stackText e a text stack d) made);
+        counts = rw (q, own-leaf) (omega (arith, one));
+        things = rw (q, own-leaf) all;
+        long = rw (q, own-leaf) refl;
       }
 
   step-pair : ltb k 159 ≡ true → (getD first k 0 ≡ k → ⊥) → getD first k 0 < n
       → otherOf (a .left) (a .right) (getD first k 0) k < n
-      → nodeText a text k
-      ≡ 40 ∷ (nodeText a text (getD first k 0)
-      ++ (44 ∷ (nodeText a text (otherOf (a .left) (a .right) (getD first k 0) k) ++ (41 ∷ []))))
+      → nodeText e a text k
+      ≡ 40 ∷ (nodeText e a text (getD first k 0)
+      ++ (44 ∷ (nodeText e a text (otherOf (a .left) (a .right) (getD first k 0) k) ++ (41 ∷ []))))
       → length (leaves (below a text k))
       ≡ length (leaves (below a text (getD first k 0)))
       + length (leaves (below a text (otherOf (a .left) (a .right) (getD first k 0) k)))
-      → Step a text first n stack d k
+      → Step e a text first n stack d k
   unfolding ownText stackAfter depthAfter goesOn thingText thingSteps four
-  step-pair e ne hf hs made count =
+  step-pair q ne hf hs made count =
       let f = getD first k 0 in
       let s = otherOf (a .left) (a .right) (getD first k 0) k in
       let apart = ne-eqb (getD first k 0) k ne in
       let lf = lt-ltb f 159 (omega arith) in
       let ls = lt-ltb s 159 (omega arith) in
-      let tf : thingText a text f ≡ nodeText a text f = rw lf refl in
-      let ts : thingText a text s ≡ nodeText a text s = rw ls refl in
+      let tf : thingText e a text f ≡ nodeText e a text f = rw lf refl in
+      let ts : thingText e a text s ≡ nodeText e a text s = rw ls refl in
       let cf : thingSteps a text f ≡ 4 * length (leaves (below a text f)) - 3 = rw lf refl in
       let cs : thingSteps a text s ≡ 4 * length (leaves (below a text s)) - 3 = rw ls refl in
       record {
-        writes = rw (e, apart)
-            (ap (λ (x : List ℕ). x ++ stackText a text stack d) made
-            ∙ pair-append (nodeText a text f) (nodeText a text s) (stackText a text stack d)
-            ∙ sym (ap (λ (x : List ℕ). 40 ∷ x) (four-text stack d s f room a text
-            ∙ ap₂ (λ (x y : List ℕ). x ++ (44 ∷ (y ++ (41 ∷ stackText a text stack d)))) tf ts)));
-        counts = rw (e, apart)
+        writes = rw (q, apart)
+            (ap (λ (x : List ℕ). x ++ stackText e a text stack d) made
+            ∙ pair-append (nodeText e a text f) (nodeText e a text s) (stackText e a text stack d)
+            ∙ sym (ap (λ (x : List ℕ). 40 ∷ x) (four-text stack d s f room e a text
+            ∙ ap₂ (λ (x y : List ℕ). x ++ (44 ∷ (y ++ (41 ∷ stackText e a text stack d)))) tf ts)));
+        counts = rw (q, apart)
             (omega (
               arith,
               count,
@@ -281,23 +283,23 @@ module _ (a : TreeArrays) (text first : List ℕ) (n : ℕ) (children : Children
               leaves-some (below a text s),
               four-steps stack d s f room a text,
             ));
-        things = rw (e, apart) (four-things n stack d s f room hf hs all);
-        long = rw (e, apart) (four-long stack d s f);
+        things = rw (q, apart) (four-things n stack d s f room hf hs all);
+        long = rw (q, apart) (four-long stack d s f);
       }
 
-  pub step : (k < 159 → k < n) → Step a text first n stack d k
+  pub step : (k < 159 → k < n) → Step e a text first n stack d k
   step below-n = go (bool-cases (ltb k 159))
     where
-      node-step : ltb k 159 ≡ true → Child a text k (getD first k 0) (otherOf (a .left) (a .right) (getD first k 0) k)
-          → Step a text first n stack d k
-      node-step e (own f l made) = step-leaf e f l made
-      node-step e (pair f s made count) =
-          let h = below-n (ltb-true k 159 e) in
-          step-pair e (λ (z : getD first k 0 ≡ k). omega arith) (omega arith) (omega arith) made count
+      node-step : ltb k 159 ≡ true → Child e a text k (getD first k 0) (otherOf (a .left) (a .right) (getD first k 0) k)
+          → Step e a text first n stack d k
+      node-step q (own f l made) = step-leaf q f l made
+      node-step q (pair f s made count) =
+          let h = below-n (ltb-true k 159 q) in
+          step-pair q (λ (z : getD first k 0 ≡ k). omega arith) (omega arith) (omega arith) made count
 
-      go : (ltb k 159 ≡ true) ⊎ (ltb k 159 ≡ false) → Step a text first n stack d k
-      go (inl e) = node-step e (children k (below-n (ltb-true k 159 e)))
-      go (inr e) = step-mark e
+      go : (ltb k 159 ≡ true) ⊎ (ltb k 159 ≡ false) → Step e a text first n stack d k
+      go (inl q) = node-step q (children k (below-n (ltb-true k 159 q)))
+      go (inr q) = step-mark q
 
 -- a thing by the tests of the code
 module _ (text s z first : List ℕ) (k : ℕ) where
@@ -340,32 +342,32 @@ module _ (l r first : List ℕ) (k : ℕ) (stack : List ℕ) (d : ℕ) where
       )
 
 -- the tree is being written: what is stored and what the stack will store is the whole text
-pub record Writing (a : TreeArrays) (text : List ℕ) (n : ℕ) (whole before out stack : List ℕ) (depth at : ℕ) : Type 0 where
+pub record Writing (e : Edition) (a : TreeArrays) (text : List ℕ) (n : ℕ) (whole before out stack : List ℕ) (depth at : ℕ) : Type 0 where
   pub long : length stack ≡ 320
   pub things : Things n stack depth
   pub few : stackSteps a text stack depth ≤ 317
-  pub rest : at + length (stackText a text stack depth) ≡ length whole
-  pub stores : sets out at (stackText a text stack depth) ≡ sets before 0 whole
+  pub rest : at + length (stackText e a text stack depth) ≡ length whole
+  pub stores : sets out at (stackText e a text stack depth) ≡ sets before 0 whole
   pub kept : length out ≡ length before
 
-pub depth-few : {a : TreeArrays} {text : List ℕ} {n : ℕ} {whole before out stack : List ℕ} {depth at : ℕ}
-    → Writing a text n whole before out stack depth at → depth ≤ 317
-depth-few {a} {text} {n} {whole} {before} {out} {stack} {depth} w = omega (arith, w .few, depth-steps a text stack depth)
+pub depth-few : {e : Edition} {a : TreeArrays} {text : List ℕ} {n : ℕ} {whole before out stack : List ℕ} {depth at : ℕ}
+    → Writing e a text n whole before out stack depth at → depth ≤ 317
+depth-few {e} {a} {text} {n} {whole} {before} {out} {stack} {depth} w = omega (arith, w .few, depth-steps a text stack depth)
 
-module _ (a : TreeArrays) (text : List ℕ) (n : ℕ) (fits : n ≤ 159) (before : List ℕ) where
+module _ (e : Edition) (a : TreeArrays) (text : List ℕ) (n : ℕ) (fits : n ≤ 159) (before : List ℕ) where
   one-thing : (u : ℕ) → u < n → (stack : List ℕ) → getD stack 0 0 ≡ u → length (leaves (below a text u)) ≤ 80
-      → (stackText a text stack 1 ≡ nodeText a text u) × (stackSteps a text stack 1 ≤ 317)
+      → (stackText e a text stack 1 ≡ nodeText e a text u) × (stackSteps a text stack 1 ≤ 317)
   unfolding stackText stackSteps thingText thingSteps
-  one-thing u h stack e few =
+  one-thing u h stack q few =
       let l = lt-ltb u 159 (omega arith) in
-      (rw (e, l) (append-nil (nodeText a text u)), rw (e, l) (omega arith))
+      (rw (q, l) (append-nil (nodeText e a text u)), rw (q, l) (omega arith))
 
   pub writing-start : (u : ℕ) → u < n → length (leaves (below a text u)) ≤ 80
-      → Writing a text n (nodeText a text u) before before (set (replicate 320 0) 0 u) 1 0
+      → Writing e a text n (nodeText e a text u) before before (set (replicate 320 0) 0 u) 1 0
   writing-start u h few =
       let z : length {A = ℕ} (replicate 320 0) ≡ 320 = length-replicate {A = ℕ} 320 0 in
-      let e = getD-set-same (replicate 320 0) 0 u 0 (omega (arith, z)) in
-      let t = one-thing u h (set (replicate 320 0) 0 u) e few in
+      let q = getD-set-same (replicate 320 0) 0 u 0 (omega (arith, z)) in
+      let t = one-thing u h (set (replicate 320 0) 0 u) q few in
       record {
         long = length-set (replicate 320 0) 0 u ∙ z;
         things = things-more n (replicate 320 0) 0 1 u (omega arith) (omega (arith, z)) (λ k. h) (λ i l k. absurd (omega arith));
@@ -375,25 +377,25 @@ module _ (a : TreeArrays) (text : List ℕ) (n : ℕ) (fits : n ≤ 159) (before
         kept = refl;
       }
 
-  module _ (first : List ℕ) (children : Children a text first n) (whole out stack : List ℕ) (depth at d : ℕ) (e : depth ≡ suc d)
-      (w : Writing a text n whole before out stack depth at) where
+  module _ (first : List ℕ) (children : Children e a text first n) (whole out stack : List ℕ) (depth at d : ℕ) (ed : depth ≡ suc d)
+      (w : Writing e a text n whole before out stack depth at) where
     room : d + 4 ≤ length stack
     room = omega (arith, w .long, w .few, depth-steps a text stack depth)
 
-    last-step : Step a text first n stack d (getD stack d 0)
+    last-step : Step e a text first n stack d (getD stack d 0)
     last-step =
-        step a text first n children stack d (getD stack d 0) fits room (λ i l. w .things i (omega arith)) (w .things d (omega arith))
+        step e a text first n children stack d (getD stack d 0) fits room (λ i l. w .things i (omega arith)) (w .things d (omega arith))
 
-    top : stackText a text stack depth
+    top : stackText e a text stack depth
         ≡ ownText text (a .start) (a .size) first (getD stack d 0)
-        ++ stackText a text (stackAfter (a .left) (a .right) first (getD stack d 0) stack d) (depthAfter first (getD stack d 0) d)
+        ++ stackText e a text (stackAfter (a .left) (a .right) first (getD stack d 0) stack d) (depthAfter first (getD stack d 0) d)
     unfolding stackText
-    top = ap (stackText a text stack) e ∙ last-step .writes
+    top = ap (stackText e a text stack) ed ∙ last-step .writes
 
     falls : stackSteps a text stack depth
         ≡ suc (stackSteps a text (stackAfter (a .left) (a .right) first (getD stack d 0) stack d) (depthAfter first (getD stack d 0) d))
     unfolding stackSteps
-    falls = ap (stackSteps a text stack) e ∙ last-step .counts
+    falls = ap (stackSteps a text stack) ed ∙ last-step .counts
 
     pub has-room : d + 4 ≤ length stack
     has-room = room
@@ -407,16 +409,16 @@ module _ (a : TreeArrays) (text : List ℕ) (n : ℕ) (fits : n ≤ 159) (before
           w .kept,
           ap length top,
           length-append (ownText text (a .start) (a .size) first (getD stack d 0))
-              (stackText a text (stackAfter (a .left) (a .right) first (getD stack d 0) stack d) (depthAfter first (getD stack d 0) d)),
+              (stackText e a text (stackAfter (a .left) (a .right) first (getD stack d 0) stack d) (depthAfter first (getD stack d 0) d)),
         )
 
     next : (o : List ℕ) (i : ℕ) → i ≡ at + length (ownText text (a .start) (a .size) first (getD stack d 0))
         → o ≡ sets out at (ownText text (a .start) (a .size) first (getD stack d 0)) → length o ≡ length out
-        → Writing a text n whole before o (stackAfter (a .left) (a .right) first (getD stack d 0) stack d)
+        → Writing e a text n whole before o (stackAfter (a .left) (a .right) first (getD stack d 0) stack d)
         (depthAfter first (getD stack d 0) d) i
     next o i ei eo el =
         let own-part = ownText text (a .start) (a .size) first (getD stack d 0) in
-        let left = stackText a text (stackAfter (a .left) (a .right) first (getD stack d 0) stack d) (depthAfter first (getD stack d 0) d) in
+        let left = stackText e a text (stackAfter (a .left) (a .right) first (getD stack d 0) stack d) (depthAfter first (getD stack d 0) d) in
         record {
           long = last-step .long ∙ w .long;
           things = last-step .things;
@@ -434,17 +436,17 @@ module _ (a : TreeArrays) (text : List ℕ) (n : ℕ) (fits : n ≤ 159) (before
         (edd : dd ≡ depthAfter first (getD stack d 0) d) where
       pub writing-next : i ≡ at + length (ownText text (a .start) (a .size) first (getD stack d 0))
           → o ≡ sets out at (ownText text (a .start) (a .size) first (getD stack d 0)) → length o ≡ length out
-          → Writing a text n whole before o st dd i
+          → Writing e a text n whole before o st dd i
       writing-next ei eo el =
-          subst (λ (q : List ℕ). Writing a text n whole before o q dd i) (sym est)
+          subst (λ (q : List ℕ). Writing e a text n whole before o q dd i) (sym est)
           (subst
-          (λ (q : ℕ). Writing a text n whole before o (stackAfter (a .left) (a .right) first (getD stack d 0) stack d) q i)
+          (λ (q : ℕ). Writing e a text n whole before o (stackAfter (a .left) (a .right) first (getD stack d 0) stack d) q i)
           (sym edd) (next o i ei eo el))
 
       pub fewer-steps : stackSteps a text st dd < stackSteps a text stack depth
       fewer-steps = rw (est, edd) (omega (arith, falls))
 
-  pub writing-end : (whole out stack : List ℕ) (at : ℕ) → Writing a text n whole before out stack 0 at
+  pub writing-end : (whole out stack : List ℕ) (at : ℕ) → Writing e a text n whole before out stack 0 at
       → (at ≡ 0 + length whole) × (out ≡ sets before 0 whole)
   unfolding stackText
   writing-end whole out stack at w = (omega (arith, w .rest), w .stores)

@@ -9,15 +9,19 @@ use native.Mathlib.Omega.{arith}
 use lib.Dec.{ltb, leb}
 use lib.ListN.{length, getD, take, replicate, length-append, length-take, length-replicate}
 use borrow.Author.Tests.{le-leb, lt-leb, lt-ltb, le-ltb, eq-eqb, ne-eqb}
+use Rattle.trees.specs.declared.Edition.{Edition}
+use Rattle.trees.specs.declared.Edition.the-variants.{One}
 use Rattle.trees.specs.declared.ShownLabel.{ShownLabel}
 use Rattle.trees.specs.declared.StoredLabel.{StoredLabel}
 use Rattle.trees.specs.declared.TreeArrays.{TreeArrays}
-use Rattle.trees.specs.Label.{Label, labelLimit}
+use Rattle.trees.specs.Label.{Label, labelLimit, labelLess}
 use Rattle.trees.specs.Token.{Token, spelling, tokenOf, tokenLimit}
 use Rattle.trees.specs.Arrays.{isLeaf, labelAt, goodNode, goodNodes}
-use Rattle.trees.specs.Stored.{storedBytes, storedOf, shownBytes, shownOf, partOf}
+use Rattle.trees.specs.Edition.{inEdition, key}
+use Rattle.trees.specs.Stored.{storedBytes, storedOf, shownBytes, shownOf, partOf, leafLabel}
 use Rattle.trees.proofs.Bools.{bool-cases, clash, and-intro}
 use Rattle.trees.proofs.ArrayLaws.{good-at}
+use Rattle.trees.proofs.FoldLaws.{fold-part, one-itself}
 use Rattle.writer.specs.Passes.{leafSpelling, leafToken, weightAt, sumAt, leastAt, goesFirst}
 
 -- ---- the test of a node; l, r, s and n are its entries
@@ -62,7 +66,23 @@ pub good-more : (a : TreeArrays) (text : List ℕ) (u : ℕ) → goodNodes a tex
 unfolding goodNodes
 good-more a text u g e = rw (add-one u) (and-intro (goodNodes a text u) (goodNode a text u) g e)
 
--- ---- what a leaf writes; x is its label as it is kept, y as it is shown
+-- ---- what a leaf is compared by
+
+-- the part of the text, as an edition reads it, is the part of the text that it reads
+pub leaf-key : (e : Edition) (text s z : List ℕ) (u : ℕ) → key e (leafLabel text s z u) ≡ leafSpelling (inEdition e text) s z u
+leaf-key e text s z u = ap spelling (sym (fold-part e (getD s u 0) (getD z u 0) text))
+
+-- x and y are the leaves that t names, a and b their tokens
+pub order-told : (e : Edition) (text s z t : List ℕ) (i j x y : ℕ) → x ≡ getD t i 0 → y ≡ getD t j 0
+    → (a b : Token) → a ≡ leafLabel text s z x → b ≡ leafLabel text s z y
+    → (r : Bool) → r ≡ labelLess (key e a) (key e b) → r ≡ goesFirst (inEdition e text) s z t i j
+unfolding goesFirst
+order-told e text s z t i j x y ex ey a b ea eb r er =
+    er
+    ∙ ap₂ (λ (p q : Token). labelLess (key e p) (key e q)) (ea ∙ ap (leafLabel text s z) ex) (eb ∙ ap (leafLabel text s z) ey)
+    ∙ ap₂ labelLess (leaf-key e text s z (getD t i 0)) (leaf-key e text s z (getD t j 0))
+
+-- ---- what a leaf writes, by edition 1 as it stands; x is its label as it is kept, y as it is shown
 
 -- as many bytes count as are shown
 shown-length : (x : Label) → shownOf x .len ≡ length (shownBytes (shownOf x))
@@ -76,11 +96,14 @@ shown-length x =
       length-replicate {A = ℕ} (tokenLimit - length (tokenOf x)) 0,
     )
 
-module _ (text s z : List ℕ) (u : ℕ) (x : StoredLabel) (ex : x ≡ storedOf (leafSpelling text s z u)) (y : ShownLabel)
+module _ (text s z : List ℕ) (u : ℕ) (x : StoredLabel) (ex : x ≡ storedOf (leafSpelling (inEdition One text) s z u)) (y : ShownLabel)
     (ey : y ≡ shownOf (storedBytes x)) where
+  kept-as : x ≡ storedOf (leafSpelling text s z u)
+  kept-as = ex ∙ ap (λ (t : List ℕ). storedOf (leafSpelling t s z u)) (one-itself text)
+
   pub token-bytes : (b : List ℕ) → b ≡ take (y .len) (y .bytes) → b ≡ leafToken text s z u
   unfolding leafToken shownBytes
-  token-bytes b eb = eb ∙ ap shownBytes ey ∙ ap (λ (k : StoredLabel). shownBytes (shownOf (storedBytes k))) ex
+  token-bytes b eb = eb ∙ ap shownBytes ey ∙ ap (λ (k : StoredLabel). shownBytes (shownOf (storedBytes k))) kept-as
 
   pub weight-leaf : (l : List ℕ) → getD l u 0 ≡ u → y .len ≡ weightAt text l s z u
   unfolding weightAt leafToken
@@ -88,7 +111,7 @@ module _ (text s z : List ℕ) (u : ℕ) (x : StoredLabel) (ex : x ≡ storedOf 
       rw (eq-eqb (getD l u 0) u e)
       (ap (λ (k : ShownLabel). k .len) ey
       ∙ shown-length (storedBytes x)
-      ∙ ap (λ (k : StoredLabel). length (shownBytes (shownOf (storedBytes k)))) ex)
+      ∙ ap (λ (k : StoredLabel). length (shownBytes (shownOf (storedBytes k)))) kept-as)
 
 pub weight-node : (text l s z : List ℕ) (u : ℕ) → (getD l u 0 ≡ u → ⊥) → 0 ≡ weightAt text l s z u
 unfolding weightAt

@@ -5,12 +5,14 @@ use mathlib.Core.Bool.{Bool, true, false, cond, not}
 use mathlib.Core.List.{List, [], _∷_, _++_}
 use lib.Dec.{eqb, ltb}
 use lib.ListN.{length, getD, set, replicate}
+use Rattle.trees.specs.declared.Edition.{Edition}
 use Rattle.trees.specs.declared.TreeArrays.{TreeArrays}
 use Rattle.trees.specs.Label.{Label, labelLess}
-use Rattle.trees.specs.Token.{Token, spelling, tokenOf, tokenLimit}
-use Rattle.trees.specs.Tree.{Tree, leaves, relabel, decoded, normal, smallest, leafLimit}
+use Rattle.trees.specs.Token.{Token, spelling, tokenLimit}
+use Rattle.trees.specs.Tree.{Tree, leaves, relabel, smallest, leafLimit}
 use Rattle.trees.specs.Text.{written}
 use Rattle.trees.specs.Arrays.{treeAt, isLeaf}
+use Rattle.trees.specs.Edition.{inEdition, keyed, normalIn, rewritten}
 use Rattle.trees.specs.Stored.{storedBytes, storedOf, shownBytes, shownOf, leafLabel}
 
 abbrev pub arraysFrom : ℕ → List ℕ → List ℕ → List ℕ → List ℕ → TreeArrays
@@ -25,7 +27,7 @@ pass f t (suc n) = set (pass f t n) n (f (pass f t n) n)
 abbrev pub leafSpelling : (text s z : List ℕ) → ℕ → Label
 leafSpelling text s z u = spelling (leafLabel text s z u)
 
--- what leaf u writes: that label's written form
+-- what leaf u writes: that label's written form, of the text as it stands
 unfoldable pub leafToken : (text s z : List ℕ) → ℕ → Token
 leafToken text s z u = shownBytes (shownOf (storedBytes (storedOf (leafSpelling text s z u))))
 
@@ -48,7 +50,7 @@ unfoldable pub rootSum : List ℕ → List ℕ → List ℕ → ℕ → ℕ → 
 unfolding pass sumAt
 rootSum l r w plus cap n = getD (pass (sumAt l r w plus cap) (replicate 159 0) n) (n - 1) 0
 
--- t names for a node the leaf with the smallest label below it: that of i is less than that of j
+-- t names for a node the leaf with the smallest label below it: that of i is less than that of j. The text is the one that an edition reads
 unfoldable pub goesFirst : List ℕ → List ℕ → List ℕ → List ℕ → ℕ → ℕ → Bool
 goesFirst text s z t i j = labelLess (leafSpelling text s z (getD t i 0)) (leafSpelling text s z (getD t j 0))
 
@@ -65,47 +67,48 @@ unfolding goesFirst
 firstAt text l r s z t u =
     cond (eqb (getD l u 0) u) u (cond (goesFirst text s z t (getD l u 0) (getD r u 0)) (getD l u 0) (getD r u 0))
 
--- the tree below node u, its labels decoded
+-- the tree below node u, its labels as they stand in the text
 unfoldable pub below : TreeArrays → List ℕ → ℕ → Tree
-below a text u = decoded (treeAt (suc u) a text u)
+below a text u = treeAt (suc u) a text u
 
--- how a tree of decoded labels is written, its children as they stand
+-- how a tree of tokens is written, each in its label's one form, its children as they stand
 abbrev pub shownText : Tree → List ℕ
-shownText t = written (relabel tokenOf t)
+shownText t = written (relabel rewritten t)
 
 -- how node u is written
-unfoldable pub nodeText : TreeArrays → List ℕ → ℕ → List ℕ
-unfolding below
-nodeText a text u = shownText (normal (below a text u))
+unfoldable pub nodeText : Edition → TreeArrays → List ℕ → ℕ → List ℕ
+unfolding below normalIn
+nodeText e a text u = shownText (normalIn e (below a text u))
 
--- t names the leaf with the smallest label below each of the first n nodes
-abbrev pub Leasts : TreeArrays → List ℕ → List ℕ → ℕ → Type 0
-Leasts a text t n = (u : ℕ) → u < n → leafSpelling text (a .start) (a .size) (getD t u 0) ≡ smallest (below a text u)
+-- t names the leaf with the smallest label, as the edition reads it, below each of the first n nodes
+abbrev pub Leasts : Edition → TreeArrays → List ℕ → List ℕ → ℕ → Type 0
+Leasts e a text t n =
+    (u : ℕ) → u < n → leafSpelling (inEdition e text) (a .start) (a .size) (getD t u 0) ≡ smallest (keyed e (below a text u))
 
 -- node u is a leaf, or has child f written first and child s after it
-pub data Child (a : TreeArrays) (text : List ℕ) (u f s : ℕ) : Type 0 where
-  own : f ≡ u → isLeaf a u ≡ true → nodeText a text u ≡ leafToken text (a .start) (a .size) u → Child a text u f s
+pub data Child (e : Edition) (a : TreeArrays) (text : List ℕ) (u f s : ℕ) : Type 0 where
+  own : f ≡ u → isLeaf a u ≡ true → nodeText e a text u ≡ leafToken text (a .start) (a .size) u → Child e a text u f s
   pair : f < u → s < u
-      → nodeText a text u ≡ 40 ∷ (nodeText a text f ++ (44 ∷ (nodeText a text s ++ (41 ∷ []))))
+      → nodeText e a text u ≡ 40 ∷ (nodeText e a text f ++ (44 ∷ (nodeText e a text s ++ (41 ∷ []))))
       → length (leaves (below a text u)) ≡ length (leaves (below a text f)) + length (leaves (below a text s))
-      → Child a text u f s
+      → Child e a text u f s
 
 -- the child that is not f
 abbrev pub otherOf : List ℕ → List ℕ → ℕ → ℕ → ℕ
 otherOf l r f u = cond (eqb f (getD l u 0)) (getD r u 0) (getD l u 0)
 
-abbrev pub Children : TreeArrays → List ℕ → List ℕ → ℕ → Type 0
-Children a text first n =
-    (u : ℕ) → u < n → Child a text u (getD first u 0) (otherOf (a .left) (a .right) (getD first u 0) u)
+abbrev pub Children : Edition → TreeArrays → List ℕ → List ℕ → ℕ → Type 0
+Children e a text first n =
+    (u : ℕ) → u < n → Child e a text u (getD first u 0) (otherOf (a .left) (a .right) (getD first u 0) u)
 
 -- things to write: a node by its number, 159 for `,` and 160 for `)`
 unfoldable pub markOf : ℕ → ℕ
 markOf k = cond (eqb k 159) 44 41
 
 -- what a thing writes in all
-unfoldable pub thingText : TreeArrays → List ℕ → ℕ → List ℕ
+unfoldable pub thingText : Edition → TreeArrays → List ℕ → ℕ → List ℕ
 unfolding nodeText markOf
-thingText a text k = cond (ltb k 159) (nodeText a text k) (markOf k ∷ [])
+thingText e a text k = cond (ltb k 159) (nodeText e a text k) (markOf k ∷ [])
 
 -- and itself
 unfoldable pub ownText : List ℕ → List ℕ → List ℕ → List ℕ → ℕ → List ℕ
@@ -129,10 +132,10 @@ stackAfter l r first k stack d =
     stack
 
 -- what the stack's first d things write, the last of them first, and in how many steps
-unfoldable pub stackText : TreeArrays → List ℕ → List ℕ → ℕ → List ℕ
+unfoldable pub stackText : Edition → TreeArrays → List ℕ → List ℕ → ℕ → List ℕ
 unfolding thingText
-stackText a text stack zero = []
-stackText a text stack (suc d) = thingText a text (getD stack d 0) ++ stackText a text stack d
+stackText e a text stack zero = []
+stackText e a text stack (suc d) = thingText e a text (getD stack d 0) ++ stackText e a text stack d
 
 unfoldable pub thingSteps : TreeArrays → List ℕ → ℕ → ℕ
 unfolding below

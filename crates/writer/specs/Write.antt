@@ -6,21 +6,26 @@ use mathlib.Core.List.{List, [], _++_}
 use mathlib.Core.Option.{Option, none, some}
 use lib.Dec.{leb}
 use lib.ListN.{length, drop}
+use Rattle.trees.specs.declared.Edition.{Edition}
+use Rattle.trees.specs.declared.Edition.the-variants.{One, Two}
 use Rattle.trees.specs.declared.Refusal.{Refusal}
 use Rattle.trees.specs.declared.Reason.the-variants.{TooShort}
 use Rattle.trees.specs.declared.Body.the-variants.{O}
 use Rattle.trees.specs.Refusals.{numberOf, letterOf}
-use Rattle.trees.specs.Tree.{decoded}
-use Rattle.trees.specs.Text.{normalText}
+use Rattle.trees.specs.Tree.{leaf, node}
+use Rattle.trees.specs.Edition.{normalTextIn}
 use Rattle.trees.specs.Arrays.{Standing, noLeaf, oneTree, noTree}
+use Rattle.trees.specs.Words.{bytesOf}
 use Rattle.writer.specs.declared.WriteAnswer.{WriteAnswer}
 use Rattle.writer.specs.declared.WriteAnswer.the-variants.{Written, Refused, NoTree}
 
--- "The empty set of leaves has a text of no bytes"; a tree has the normal text of what its tokens stand for
-unfoldable pub standingText : Standing → Option (List ℕ)
-standingText noLeaf = some []
-standingText (oneTree t) = some (normalText (decoded t))
-standingText noTree = none
+-- "The empty set of leaves has a text of no bytes"; a tree has its normal text by an edition: the order of children is the edition's, and
+-- "Labels are printed as the first tree spells them" (request paper, C-15)
+unfoldable pub standingText : Edition → Standing → Option (List ℕ)
+unfolding normalTextIn
+standingText e noLeaf = some []
+standingText e (oneTree t) = some (normalTextIn e t)
+standingText e noTree = none
 
 -- number 9, O 0
 unfoldable pub outputTooShort : Refusal
@@ -38,14 +43,14 @@ textOutput none out = out
 textOutput (some x) out = cond (leb (length x) (length out)) (x ++ drop (length x) out) out
 
 -- the answer for an output of n bytes
-unfoldable pub writeAnswer : Standing → ℕ → WriteAnswer
+unfoldable pub writeAnswer : Edition → Standing → ℕ → WriteAnswer
 unfolding standingText textAnswer
-writeAnswer s n = textAnswer (standingText s) n
+writeAnswer e s n = textAnswer (standingText e s) n
 
 -- the output afterwards
-unfoldable pub outputAfter : Standing → List ℕ → List ℕ
+unfoldable pub outputAfter : Edition → Standing → List ℕ → List ℕ
 unfolding standingText textOutput
-outputAfter s out = textOutput (standingText s) out
+outputAfter e s out = textOutput (standingText e s) out
 
 -- an answer in the scope paper's terms: so many bytes; a row of "Why a job is turned down" with its number, the letter's byte and the
 -- place; or that the arrays stand for no tree, for which the paper has no row, since it speaks of texts alone
@@ -66,3 +71,9 @@ pub record Lack (o : Option (List ℕ)) (n : ℕ) (r : Refusal) : Type 0 where
   pub belongs : o ≡ some text
   pub longer : n < length text
   pub told : r ≡ outputTooShort
+
+-- C-15's own, of the tree `(a,B);`: by edition 1 a capital comes before any small letter, by edition 2 `a` before `B`; both stay as they are
+-- spelled
+pub record EditionTexts : Type 0 where
+  pub by-first : standingText One (oneTree (node (leaf (bytesOf "a")) (leaf (bytesOf "B")))) ≡ some (bytesOf "(B,a);")
+  pub by-second : standingText Two (oneTree (node (leaf (bytesOf "a")) (leaf (bytesOf "B")))) ≡ some (bytesOf "(a,B);")

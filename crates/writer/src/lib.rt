@@ -2,6 +2,7 @@
 //
 // No public function has a `requires`: arrays that stand for no tree are answered too, and no entry of them is trusted.
 use trees::Body;
+use trees::Edition;
 use trees::LABEL_LIMIT;
 use trees::LEAF_LIMIT;
 use trees::Reason;
@@ -15,7 +16,7 @@ ghost use mathlib.Core.Bool.{true, cond};
 ghost use lib.ListN.{length, getD};
 ghost use lib.Seq.{sets};
 ghost use Rattle.trees.specs.Tree.{leaves};
-ghost use Rattle.trees.specs.Text.{normalText};
+ghost use Rattle.trees.specs.Edition.{inEdition, normalTextIn};
 ghost use Rattle.trees.specs.Arrays.{goodNode, goodNodes, treeOf};
 ghost use Rattle.writer.specs.Write.{writeAnswer, outputAfter};
 ghost use Rattle.writer.specs.Passes.{arraysFrom, pass, weightAt, sumAt, rootSum, goesFirst, leastAt, firstAt, below, nodeText, Children};
@@ -164,12 +165,12 @@ fn root_sum(
     entry(&sums, nodes - 1)
 }
 
-// How many bytes node u writes if it is a leaf.
+// How many bytes node u writes if it is a leaf; what is written is the label as the text spells it, so by edition 1.
 fn weight_at(text: &[u8], left: &[usize], start: &[usize], size: &[usize], u: usize) -> usize
     ensures { λ r. ⌜ r ≡ weightAt (now (text .entry)) (now (left .entry)) (now (start .entry)) (now (size .entry)) u ⌝ }
 {
     if entry(left, u) == u {
-        let label = trees::shown(trees::stored_leaf(text, start, size, u));
+        let label = trees::shown(trees::stored_leaf(Edition::One, text, start, size, u));
         return label.len;
     }
     0
@@ -199,8 +200,8 @@ fn weight_pass(
 // More than the leaves of a tree can weigh, each three bytes more than it writes.
 const WEIGHT_CAP: usize = LEAF_LIMIT * (TOKEN_LIMIT + 3) + 1;
 
-// How many bytes the text of the last node's tree has. A leaf counts three bytes more than it writes, for `(`, `,` and `)`: two too
-// many in all, with `;`.
+// How many bytes the text of the last node's tree has, whatever the edition. A leaf counts three bytes more than it writes, for `(`, `,`
+// and `)`: two too many in all, with `;`.
 fn text_size(
     text: &[u8],
     nodes: usize,
@@ -212,9 +213,10 @@ fn text_size(
     requires { ⌜ (0 < nodes) × (nodes ≤ 159) ⌝ }
     requires { ⌜ goodNodes (arraysFrom nodes (now left) (now right) (now start) (now size)) (now text) nodes ≡ true ⌝ }
     ensures { λ r.
-        ⌜ (length (leaves (below (arraysFrom nodes (now (left .entry)) (now (right .entry)) (now (start .entry)) (now (size .entry)))
+        ⌜ ((e : Edition)
+        → length (leaves (below (arraysFrom nodes (now (left .entry)) (now (right .entry)) (now (start .entry)) (now (size .entry)))
         (now (text .entry)) (nodes - 1))) ≤ 80
-        → r ≡ length (normalText (below (arraysFrom nodes (now (left .entry)) (now (right .entry)) (now (start .entry)) (now (size .entry)))
+        → r ≡ length (normalTextIn e (below (arraysFrom nodes (now (left .entry)) (now (right .entry)) (now (start .entry)) (now (size .entry)))
         (now (text .entry)) (nodes - 1)))) ⌝ }
 {
     let mut weight = [0usize; 159];
@@ -222,8 +224,9 @@ fn text_size(
     root_sum(left, right, &weight, 3, WEIGHT_CAP, nodes) - 2
 }
 
-// Whether the smallest label below node i is less than the one below node j.
+// Whether the smallest label below node i is less than the one below node j, as the edition reads them.
 fn goes_first(
+    edition: Edition,
     text: &[u8],
     start: &[usize],
     size: &[usize],
@@ -232,17 +235,18 @@ fn goes_first(
     j: usize,
 ) -> bool
     ensures { λ r.
-        ⌜ r ≡ goesFirst (now (text .entry)) (now (start .entry)) (now (size .entry)) (now (least .entry)) i j ⌝ }
+        ⌜ r ≡ goesFirst (inEdition edition (now (text .entry))) (now (start .entry)) (now (size .entry)) (now (least .entry)) i j ⌝ }
 {
     let x = entry(least, i);
     let y = entry(least, j);
     let a = trees::leaf_label(text, start, size, x);
     let b = trees::leaf_label(text, start, size, y);
-    trees::comes_before(a, b)
+    trees::comes_before(edition, a, b)
 }
 
-// The leaf with the smallest label below node u, from those of its children.
+// The leaf with the edition's smallest label below node u, from those of its children.
 fn least_at(
+    edition: Edition,
     text: &[u8],
     left: &[usize],
     right: &[usize],
@@ -252,7 +256,7 @@ fn least_at(
     u: usize,
 ) -> usize
     ensures { λ r.
-        ⌜ r ≡ leastAt (now (text .entry)) (now (left .entry)) (now (right .entry)) (now (start .entry)) (now (size .entry))
+        ⌜ r ≡ leastAt (inEdition edition (now (text .entry))) (now (left .entry)) (now (right .entry)) (now (start .entry)) (now (size .entry))
         (now (least .entry)) u ⌝ }
 {
     let l = entry(left, u);
@@ -260,12 +264,13 @@ fn least_at(
         return u;
     }
     let r = entry(right, u);
-    let first = goes_first(text, start, size, least, l, r);
+    let first = goes_first(edition, text, start, size, least, l, r);
     pick(first, entry(least, l), entry(least, r))
 }
 
 // The leaf with the smallest label below each node.
 fn least_pass(
+    edition: Edition,
     text: &[u8],
     left: &[usize],
     right: &[usize],
@@ -277,18 +282,19 @@ fn least_pass(
     requires { ⌜ nodes ≤ length (now least) ⌝ }
     ensures { λ _.
         ⌜ now (least .exit)
-        ≡ pass (leastAt (now (text .entry)) (now (left .entry)) (now (right .entry)) (now (start .entry)) (now (size .entry)))
+        ≡ pass (leastAt (inEdition edition (now (text .entry))) (now (left .entry)) (now (right .entry)) (now (start .entry)) (now (size .entry)))
         (now (least .entry)) nodes ⌝ }
 {
     let mut u: usize = 0;
     while u < nodes {
-        least[u] = least_at(text, left, right, start, size, least, u);
+        least[u] = least_at(edition, text, left, right, start, size, least, u);
         u += 1;
     }
 }
 
-// The child of node u that is written first, u itself where it is a leaf.
+// The child of node u that is written first by the edition, u itself where it is a leaf.
 fn first_at(
+    edition: Edition,
     text: &[u8],
     left: &[usize],
     right: &[usize],
@@ -298,7 +304,7 @@ fn first_at(
     u: usize,
 ) -> usize
     ensures { λ r.
-        ⌜ r ≡ firstAt (now (text .entry)) (now (left .entry)) (now (right .entry)) (now (start .entry)) (now (size .entry))
+        ⌜ r ≡ firstAt (inEdition edition (now (text .entry))) (now (left .entry)) (now (right .entry)) (now (start .entry)) (now (size .entry))
         (now (least .entry)) u ⌝ }
 {
     let l = entry(left, u);
@@ -306,12 +312,13 @@ fn first_at(
         return u;
     }
     let r = entry(right, u);
-    let first = goes_first(text, start, size, least, l, r);
+    let first = goes_first(edition, text, start, size, least, l, r);
     pick(first, l, r)
 }
 
 // The child of each node that is written first.
 fn first_pass(
+    edition: Edition,
     text: &[u8],
     left: &[usize],
     right: &[usize],
@@ -324,12 +331,12 @@ fn first_pass(
     requires { ⌜ nodes ≤ length (now first) ⌝ }
     ensures { λ _.
         ⌜ ((u : ℕ) → u < nodes → getD (now (first .exit)) u 0
-        ≡ firstAt (now (text .entry)) (now (left .entry)) (now (right .entry)) (now (start .entry)) (now (size .entry))
+        ≡ firstAt (inEdition edition (now (text .entry))) (now (left .entry)) (now (right .entry)) (now (start .entry)) (now (size .entry))
         (now (least .entry)) u) ⌝ }
 {
     let mut u: usize = 0;
     while u < nodes {
-        first[u] = first_at(text, left, right, start, size, least, u);
+        first[u] = first_at(edition, text, left, right, start, size, least, u);
         u += 1;
     }
 }
@@ -382,7 +389,7 @@ fn put_own(
         return at + 1;
     }
     if entry(first, k) == k {
-        let label = trees::shown(trees::stored_leaf(text, start, size, k));
+        let label = trees::shown(trees::stored_leaf(Edition::One, text, start, size, k));
         let bytes = label.bytes;
         return put_bytes(trees::first_bytes(&bytes, label.len), out, at);
     }
@@ -421,9 +428,11 @@ fn push(
     depth + 4
 }
 
-// Writes the tree of the last node, and says where the next byte goes. What is left to write stands on a stack: a tree of 80
-// leaves takes 4 * 80 - 3 steps, and no step leaves more than there are steps to come.
+// Writes the tree of the last node, and says where the next byte goes. The edition stands in the contract alone: `first` tells its order.
+// What is left to write stands on a stack: a tree of 80 leaves takes 4 * 80 - 3 steps, and no step leaves more than there are steps to
+// come.
 fn put_tree(
+    edition: Edition,
     text: &[u8],
     nodes: usize,
     left: &[usize],
@@ -434,16 +443,16 @@ fn put_tree(
     out: &mut [u8],
 ) -> usize
     requires { ⌜ (0 < nodes) × (nodes ≤ 159) ⌝ }
-    requires { ⌜ Children (arraysFrom nodes (now left) (now right) (now start) (now size)) (now text) (now first) nodes ⌝ }
+    requires { ⌜ Children edition (arraysFrom nodes (now left) (now right) (now start) (now size)) (now text) (now first) nodes ⌝ }
     requires { ⌜ length (leaves (below (arraysFrom nodes (now left) (now right) (now start) (now size)) (now text) (nodes - 1))) ≤ 80 ⌝ }
-    requires { ⌜ length (nodeText (arraysFrom nodes (now left) (now right) (now start) (now size)) (now text) (nodes - 1))
+    requires { ⌜ length (nodeText edition (arraysFrom nodes (now left) (now right) (now start) (now size)) (now text) (nodes - 1))
         ≤ length (now out) ⌝ }
     ensures next { λ r.
-        ⌜ r ≡ 0 + length (nodeText (arraysFrom nodes (now (left .entry)) (now (right .entry)) (now (start .entry)) (now (size .entry)))
+        ⌜ r ≡ 0 + length (nodeText edition (arraysFrom nodes (now (left .entry)) (now (right .entry)) (now (start .entry)) (now (size .entry)))
         (now (text .entry)) (nodes - 1)) ⌝ }
     ensures stored { λ _.
         ⌜ now (out .exit) ≡ sets (now (out .entry)) 0
-        (nodeText (arraysFrom nodes (now (left .entry)) (now (right .entry)) (now (start .entry)) (now (size .entry)))
+        (nodeText edition (arraysFrom nodes (now (left .entry)) (now (right .entry)) (now (start .entry)) (now (size .entry)))
         (now (text .entry)) (nodes - 1)) ⌝ }
 {
     let mut stack = [0usize; 320];
@@ -461,6 +470,7 @@ fn put_tree(
 
 // Writes the tree of good arrays that have a node.
 fn write_nodes(
+    edition: Edition,
     text: &[u8],
     nodes: usize,
     left: &[usize],
@@ -472,12 +482,12 @@ fn write_nodes(
     requires { ⌜ (0 < nodes) × (nodes ≤ 159) ⌝ }
     requires { ⌜ goodNodes (arraysFrom nodes (now left) (now right) (now start) (now size)) (now text) nodes ≡ true ⌝ }
     ensures answer { λ r.
-        ⌜ r ≡ writeAnswer
+        ⌜ r ≡ writeAnswer edition
         (treeOf (arraysFrom nodes (now (left .entry)) (now (right .entry)) (now (start .entry)) (now (size .entry)))
         (now (text .entry)))
         (length (now (out .entry))) ⌝ }
     ensures output { λ _.
-        ⌜ now (out .exit) ≡ outputAfter
+        ⌜ now (out .exit) ≡ outputAfter edition
         (treeOf (arraysFrom nodes (now (left .entry)) (now (right .entry)) (now (start .entry)) (now (size .entry)))
         (now (text .entry)))
         (now (out .entry)) ⌝ }
@@ -495,19 +505,30 @@ fn write_nodes(
         });
     }
     let mut least = [0usize; 159];
-    least_pass(text, left, right, start, size, nodes, &mut least);
+    least_pass(edition, text, left, right, start, size, nodes, &mut least);
     let mut first = [0usize; 159];
-    first_pass(text, left, right, start, size, &least, nodes, &mut first);
-    let end = put_tree(text, nodes, left, right, start, size, &first, out);
+    first_pass(
+        edition,
+        text,
+        left,
+        right,
+        start,
+        size,
+        &least,
+        nodes,
+        &mut first,
+    );
+    let end = put_tree(edition, text, nodes, left, right, start, size, &first, out);
     out[end] = b';';
     WriteAnswer::Written(end + 1)
 }
 
-// Writes the normal text of the tree that the arrays stand for over the text into `out`: each label in the one form by which it is
-// written, however it stands in the text. On any answer but `Written` the output keeps every byte, and so do its bytes past the text.
-pub fn write_tree(tree: TreeArrays, text: &[u8], out: &mut [u8]) -> WriteAnswer
-    ensures answer { λ r. ⌜ r ≡ writeAnswer (treeOf tree (now (text .entry))) (length (now (out .entry))) ⌝ }
-    ensures output { λ _. ⌜ now (out .exit) ≡ outputAfter (treeOf tree (now (text .entry))) (now (out .entry)) ⌝ }
+// Writes the normal text of the tree that the arrays stand for over the text into `out`. The edition orders the children; each label has
+// the one form by which it is written, however it stands in the text, and keeps the case of its letters. On any answer but `Written` the
+// output keeps every byte, and so do its bytes past the text.
+pub fn write_tree(edition: Edition, tree: TreeArrays, text: &[u8], out: &mut [u8]) -> WriteAnswer
+    ensures answer { λ r. ⌜ r ≡ writeAnswer edition (treeOf tree (now (text .entry))) (length (now (out .entry))) ⌝ }
+    ensures output { λ _. ⌜ now (out .exit) ≡ outputAfter edition (treeOf tree (now (text .entry))) (now (out .entry)) ⌝ }
 {
     let nodes = tree.nodes;
     if nodes == 0 {
@@ -523,5 +544,5 @@ pub fn write_tree(tree: TreeArrays, text: &[u8], out: &mut [u8]) -> WriteAnswer
     if !good_nodes(text, nodes, &left, &right, &start, &size) {
         return WriteAnswer::NoTree;
     }
-    write_nodes(text, nodes, &left, &right, &start, &size, out)
+    write_nodes(edition, text, nodes, &left, &right, &start, &size, out)
 }

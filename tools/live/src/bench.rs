@@ -1,11 +1,12 @@
 //! The engine beside the oracle's recurrence, both from texts to answer, in one run. Times are the least of all rounds.
 
-use crate::engine::{largest, largest_with, STRICT};
+use crate::engine::{asked, largest_with, EDITION_2, FLAGS, STRICT};
+use oracle::agree::Answer;
+use oracle::bodies::{answer, read};
 use oracle::families::{all_families, families, short_labels, Family};
+use oracle::fast;
 use oracle::limits::{LEAVES, TREE_TEXT};
 use oracle::random::Random;
-use oracle::text::{read_list, read_tree};
-use oracle::{agree::restrict, agree::stray, agree::Answer, fast};
 use std::hint::black_box;
 use std::time::Instant;
 
@@ -22,45 +23,60 @@ fn in_turn<const N: usize>(rounds: usize, mut call: impl FnMut(usize)) -> [f64; 
     took
 }
 
-fn plain(strict: bool, [first, second, required]: [&[u8]; 3]) -> Vec<u8> {
-    let s = read_tree(first).unwrap();
-    let t = read_tree(second).unwrap();
-    if strict && (stray(&s, &t).is_some() || stray(&t, &s).is_some()) {
+fn plain(flags: usize, texts: [&[u8]; 3]) -> Vec<u8> {
+    let Ok(bodies) = read(asked(flags), texts) else {
         return Vec::new();
-    }
-    let k = read_list(required).unwrap();
-    match fast::answer(&s, &t, &k) {
-        Answer::Set(set) => restrict(&s, &set).map_or(Vec::new(), |r| r.normal_text()),
+    };
+    match fast::answer(&bodies.s, &bodies.t, &bodies.k) {
+        Answer::Set(set) => bodies.restricted(&bodies.s, &set),
         _ => Vec::new(),
     }
 }
 
-/// What a call takes: the engine, and the plain recurrence.
-type Took = (f64, f64);
+/// What one family takes: the engine, by the flags, and then the recurrence under the first edition, without options and strict.
+type Took = [f64; FLAGS + 3];
 
-/// What one family takes: the engine without options and strict, and the recurrence the same.
-fn times(f: &Family, rounds: usize) -> [f64; 4] {
+fn times(f: &Family, rounds: usize) -> Took {
     let bodies = f.bodies.texts();
     let texts = bodies.each_ref().map(|x| &x[..]);
     let mut out = vec![0u8; TREE_TEXT];
-    let [engine, engine_strict] = in_turn(rounds, |i| {
-        black_box(if i == 0 { largest(texts, &mut out) } else { largest_with(STRICT, texts, &mut out) });
+    let engine: [f64; FLAGS + 1] = in_turn(rounds, |flags| {
+        black_box(largest_with(flags, texts, &mut out));
     });
-    let [other, other_strict] = in_turn(rounds, |i| {
-        black_box(plain(i == 1, texts));
+    let other: [f64; 2] = in_turn(rounds, |strict| {
+        black_box(plain(strict * STRICT, texts));
     });
-    [engine, engine_strict, other, other_strict]
+    std::array::from_fn(|i| if i <= FLAGS { engine[i] } else { other[i - FLAGS - 1] })
+}
+
+/// What is told of calls that are alike but for the edition.
+#[derive(Clone, Copy)]
+struct Told {
+    first: f64,
+    second: f64,
+    plain: f64,
+}
+
+impl Told {
+    /// Without options and strict.
+    fn of(took: Took) -> [Told; 2] {
+        [0, STRICT].map(|flags| Told { first: took[flags], second: took[flags | EDITION_2], plain: took[FLAGS + 1 + flags / STRICT] })
+    }
+
+    fn editions(&self) -> f64 {
+        self.second / self.first
+    }
 }
 
 /// What the stages of one call cost, by calls that end after them: a list that cannot be read ends the call when both trees are
-/// read and their leaves looked up; an output of no bytes leaves out the writing.
-fn stages(f: &Family, rounds: usize) -> [f64; 3] {
+/// read and their leaves looked up; an output of no bytes leaves out the writing. Last the reading under the second edition.
+fn stages(f: &Family, rounds: usize) -> [f64; 4] {
     let [first, second, _] = f.bodies.texts();
     let mut out = vec![0u8; TREE_TEXT];
-    let ends = [(&b","[..], TREE_TEXT), (b"", 0), (b"", TREE_TEXT)];
+    let ends = [(0, &b","[..], TREE_TEXT), (0, b"", 0), (0, b"", TREE_TEXT), (EDITION_2, b",", TREE_TEXT)];
     in_turn(rounds, |i| {
-        let (list, room) = ends[i];
-        black_box(largest([&first, &second, list], &mut out[..room]));
+        let (flags, list, room) = ends[i];
+        black_box(largest_with(flags, [&first, &second, list], &mut out[..room]));
     })
 }
 
@@ -83,43 +99,67 @@ fn least<const N: usize>(effort: Effort, all: &[&Family], measure: impl Fn(&Fami
     took
 }
 
-fn row(name: &str, n: usize, (engine, other): Took, random: f64) {
-    println!("| {name} | {n} | {engine:.0} | {other:.0} | {:.2} | {:.2} |", engine / other, engine / random);
+fn row(name: &str, n: usize, told: Told, random: f64) {
+    let Told { first, second, plain } = told;
+    let ratios = [told.editions(), first / plain, first / random].map(|x| format!("{x:.2}"));
+    println!("| {name} | {n} | {first:.0} | {second:.0} | {} | {plain:.0} | {} | {} |", ratios[0], ratios[1], ratios[2]);
 }
 
-fn stages_row(name: &str, [read, solved, whole]: [f64; 3]) {
+fn stages_row(name: &str, [read, solved, whole, second]: [f64; 4]) {
     let (solve, write) = ((solved - read).max(0.0), (whole - solved).max(0.0));
-    println!("| {name} | {read:.0} | {solve:.0} | {write:.0} | {whole:.0} |");
+    println!("| {name} | {read:.0} | {solve:.0} | {write:.0} | {whole:.0} | {second:.0} |");
 }
 
 /// Smaller trees of the first family, every family of the most leaves, the first of them strict, and last the slowest call of all, strict
-/// ones and the longest labels, bare and in quotes, among them; each beside the random pair of as many leaves.
+/// ones, the second edition and the longest labels, bare and in quotes, among them; each beside the random pair of as many leaves.
 fn table(effort: Effort, r: &mut Random, sorts: &[(String, Vec<Family>)]) {
-    println!("| trees | leaves | engine, us | plain recurrence, us | ratio | to random |");
-    println!("|---|---|---|---|---|---|");
+    println!("| trees | leaves | engine, us | edition 2, us | to edition 1 | plain recurrence, us | ratio | to random |");
+    println!("|---|---|---|---|---|---|---|---|");
     let small = [10, 20, 40].map(|n| (n, families(r, &short_labels(n)).remove(0)));
     let all: Vec<&Family> = small.iter().map(|(_, f)| f).chain(sorts.iter().flat_map(|(_, fs)| fs)).collect();
-    let mut brief = least(effort, &all, times);
+    let mut brief: Vec<[Told; 2]> = least(effort, &all, times).into_iter().map(Told::of).collect();
     let large = brief.split_off(small.len());
     let names = sorts.iter().flat_map(|(sort, fs)| fs.iter().map(move |f| format!("{}{sort}", f.name)));
-    let took: Vec<(String, [f64; 4])> = names.zip(large).collect();
-    let plain = |[engine, _, other, _]: [f64; 4]| (engine, other);
-    let strict = |[_, engine, _, other]: [f64; 4]| (engine, other);
-    small.iter().zip(brief).for_each(|((n, f), t)| row(f.name, *n, plain(t), t[0]));
+    let took: Vec<(String, [Told; 2])> = names.zip(large).collect();
+    small.iter().zip(brief).for_each(|((n, f), [t, _])| row(f.name, *n, t, t.first));
     let kinds = sorts[0].1.len();
-    let random = took[0].1[0];
-    took[..kinds].iter().for_each(|(name, t)| row(name, LEAVES, plain(*t), random));
-    row(&format!("{}, strict", took[0].0), LEAVES, strict(took[0].1), random);
-    took.iter().step_by(kinds).skip(1).for_each(|(name, t)| row(name, LEAVES, plain(*t), random));
-    let calls = took.iter().flat_map(|(name, t)| [(name.clone(), plain(*t)), (format!("{name}, strict"), strict(*t))]);
-    let (name, t) = calls.max_by(|a, b| a.1 .0.total_cmp(&b.1 .0)).unwrap();
-    row(&format!("the slowest known: {name}"), LEAVES, t, random);
+    let random = took[0].1[0].first;
+    took[..kinds].iter().for_each(|(name, [t, _])| row(name, LEAVES, *t, random));
+    row(&format!("{}, strict", took[0].0), LEAVES, took[0].1[1], random);
+    took.iter().step_by(kinds).skip(1).for_each(|(name, [t, _])| row(name, LEAVES, *t, random));
+    let calls = took.iter().flat_map(|(name, [t, s])| [(name.clone(), t), (format!("{name}, strict"), s)]);
+    let slow = |t: &Told| t.first.max(t.second);
+    let (name, t) = calls.max_by(|a, b| slow(a.1).total_cmp(&slow(b.1))).unwrap();
+    row(&format!("the slowest known: {name}"), LEAVES, *t, random);
+    println!();
+    editions_table(sorts, &took);
+}
+
+/// Whether both editions answer a family alike, and so do the same work.
+fn alike(f: &Family) -> bool {
+    let bodies = f.bodies.texts();
+    let texts = bodies.each_ref().map(|x| &x[..]);
+    answer(asked(0), texts) == answer(asked(EDITION_2), texts)
+}
+
+/// How much longer the second edition takes than the first, over the families of each sort of labels that both answer alike.
+fn editions_table(sorts: &[(String, Vec<Family>)], took: &[(String, [Told; 2])]) {
+    println!("| edition 2 to edition 1, {LEAVES} leaves | least | mean | most |");
+    println!("|---|---|---|---|");
+    let by_sort = sorts.iter().zip(took.chunks(sorts[0].1.len()));
+    for ((sort, _), calls) in by_sort.filter(|((_, fs), _)| alike(&fs[0])) {
+        let mut ratios: Vec<f64> = calls.iter().flat_map(|(_, t)| t.each_ref().map(Told::editions)).collect();
+        ratios.sort_by(f64::total_cmp);
+        let mean = ratios.iter().sum::<f64>() / ratios.len() as f64;
+        let name = if sort.is_empty() { "short labels" } else { sort.trim_start_matches(", ") };
+        println!("| {name} | {:.2} | {mean:.2} | {:.2} |", ratios[0], ratios[ratios.len() - 1]);
+    }
 }
 
 /// The stages of the families without a list, and of the first family over each sort of labels.
 fn stages_table(effort: Effort, sorts: &[(String, Vec<Family>)]) {
-    println!("| {LEAVES} leaves, us | read and look up | fill | write | whole |");
-    println!("|---|---|---|---|---|");
+    println!("| {LEAVES} leaves, us | read and look up | fill | write | whole | read and look up, edition 2 |");
+    println!("|---|---|---|---|---|---|");
     let free = sorts[0].1.iter().filter(|f| f.bodies.required.is_empty()).map(|f| (f.name.to_string(), f));
     let others = sorts[1..].iter().map(|(sort, fs)| (format!("{}{sort}", fs[0].name), &fs[0]));
     let (names, all): (Vec<String>, Vec<&Family>) = free.chain(others).unzip();

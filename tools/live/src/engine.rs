@@ -1,5 +1,8 @@
 //! The engine's C entries, in safe functions.
 
+use oracle::bodies::Options;
+use oracle::edition::Edition;
+
 #[repr(C)]
 #[derive(Clone, Copy, Debug, Default, PartialEq)]
 pub struct AgreeResult {
@@ -15,7 +18,14 @@ pub struct AgreeResult {
 
 /// The flags of `options`, and all bits that have a meaning there.
 pub const STRICT: usize = 1;
-pub const FLAGS: usize = STRICT;
+pub const EDITION_2: usize = 2;
+pub const FLAGS: usize = STRICT | EDITION_2;
+
+/// What flags that have a meaning ask for.
+pub fn asked(flags: usize) -> Options {
+    let edition = if flags & EDITION_2 == 0 { Edition::First } else { Edition::Second };
+    Options { strict: flags & STRICT != 0, edition }
+}
 
 extern "C" {
     fn agree_largest(

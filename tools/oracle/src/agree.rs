@@ -2,7 +2,7 @@
 
 use crate::text::Tree;
 
-/// A label's bytes, decoded.
+/// The bytes of a label: decoded, or its key, by which an edition compares it.
 pub type Label = Vec<u8>;
 
 /// What two trees and a required list come to, 1 to 5 and 9 to 12 left aside.

@@ -1,8 +1,11 @@
-//! The stored stream of texts for the readers and the writer: each case is a kind byte (`t` a tree, `l` a list, `p` a place of eight
-//! bytes), the length as two bytes, and the text. What must be printed for it is a line.
+//! The stored stream of texts for the readers and the writer: each case is a kind byte (`t` a tree, `l` a list, `T` and `L` the same under
+//! the second edition, `p` a place of eight bytes), the length as two bytes, and the text. What must be printed for it is a line.
 
+use crate::drawn::small_quoted;
+use crate::edition::Edition;
 use crate::families::{long_labels, long_quoted};
 use crate::lengths;
+use crate::letters;
 use crate::limits::{LABEL, LEAVES, LIST};
 use crate::places::place_cases;
 use crate::quotes;
@@ -109,7 +112,17 @@ pub fn cases() -> Vec<Case> {
         let l = joined(&names[..n]);
         lists.push(r.damaged(&l, BYTES));
     }
-    [both(trees, lists), quoted_cases(), place_cases(), both(lengths::tree_texts(), lengths::list_texts())].concat()
+    let lengths = both(lengths::tree_texts(), lengths::list_texts());
+    let letters = both(letters::tree_texts(), letters::list_texts());
+    let first = [both(trees, lists), quoted_cases(), place_cases(), lengths, letters].concat();
+    let second = under_second(&first);
+    [first, second].concat()
+}
+
+/// The trees and lists again, under the second edition.
+fn under_second(cases: &[Case]) -> Vec<Case> {
+    let texts = cases.iter().filter(|c| c.kind != b'p');
+    texts.map(|c| Case { kind: c.kind.to_ascii_uppercase(), text: c.text.clone() }).collect()
 }
 
 fn both(trees: Vec<Vec<u8>>, lists: Vec<Vec<u8>>) -> Vec<Case> {
@@ -128,7 +141,7 @@ fn quoted_cases() -> Vec<Case> {
     lists.extend(quotes::inside());
     trees.push(caterpillar(&long_quoted(LEAVES)).text());
     lists.extend(quotes::full_lists().into_iter().take(6));
-    let [some_trees, some_lists] = quotes::damaged_texts(&mut r, 25);
+    let [some_trees, some_lists] = quotes::damaged_texts(&mut r, 25, small_quoted);
     trees.extend(some_trees);
     lists.extend(some_lists);
     both(trees, lists)
@@ -144,21 +157,20 @@ pub fn stream() -> Vec<u8> {
     out
 }
 
-/// What the program `normal` must print for a text, but for the line end.
-fn normal_line(text: &[u8]) -> Vec<u8> {
-    match read_tree(text) {
-        Ok(t) => t.normal_text(),
+fn normal_line(edition: Edition, text: &[u8]) -> Vec<u8> {
+    match read_tree(edition, text) {
+        Ok(t) => t.normal_text(edition),
         Err(f) => format!("refused {} S {}", f.number, f.place).into_bytes(),
     }
 }
 
 /// What the program `normal` must print.
 pub fn normal_printed(text: &[u8]) -> Vec<u8> {
-    [normal_line(text), b"\n".to_vec()].concat()
+    [normal_line(Edition::First, text), b"\n".to_vec()].concat()
 }
 
-fn list_line(text: &[u8]) -> Vec<u8> {
-    match read_parts(text) {
+fn list_line(edition: Edition, text: &[u8]) -> Vec<u8> {
+    match read_parts(edition, text) {
         Ok((_, parts)) => {
             let shown: Vec<Vec<u8>> = parts.iter().map(|p| text[p.clone()].to_vec()).collect();
             [format!("list {} ", parts.len()).into_bytes(), joined(&shown)].concat()
@@ -176,8 +188,10 @@ pub fn expected() -> Vec<u8> {
     let mut out = Vec::new();
     for c in cases() {
         out.extend(match c.kind {
-            b't' => normal_line(&c.text),
-            b'l' => list_line(&c.text),
+            b't' => normal_line(Edition::First, &c.text),
+            b'T' => normal_line(Edition::Second, &c.text),
+            b'l' => list_line(Edition::First, &c.text),
+            b'L' => list_line(Edition::Second, &c.text),
             _ => place_line(&c.text),
         });
         out.push(b'\n');

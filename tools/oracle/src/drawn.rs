@@ -3,7 +3,7 @@
 use crate::agree::Label;
 use crate::limits::{LABEL, LEAVES};
 use crate::random::Random;
-use crate::spelling::{confusable, cycled, forms, Bodies};
+use crate::spelling::{confusable, cycled, forms, lettered, recased, Bodies};
 use crate::trees::{caterpillar, perturbed, random_tree};
 
 pub fn labels(n: usize) -> Vec<Label> {
@@ -115,7 +115,7 @@ fn spaced(r: &mut Random, n: usize) -> Vec<Label> {
 pub fn one_byte_apart(n: usize) -> Vec<Label> {
     let label = |i: usize| {
         let mut x = vec![b'a'; LABEL];
-        x[i % LABEL] = b"b _-"[i / LABEL];
+        x[i % LABEL] = b"b _-A"[i / LABEL];
         x
     };
     (0..n).map(label).collect()
@@ -129,24 +129,60 @@ pub fn long_bodies(r: &mut Random, large: bool) -> [Vec<u8>; 3] {
     bodies.spelled(r, forms).texts()
 }
 
-/// Small bodies whose labels have blanks and underscores, and stand bare or in quotes.
-pub fn small_quoted(r: &mut Random) -> [Vec<u8>; 3] {
-    let bodies = if r.below(2) == 0 { small_over(r, confusable()) } else { alike_over(r, confusable(), 9) };
+/// Small bodies over such labels, which stand bare or in quotes.
+fn small_spelled(r: &mut Random, pool: Vec<Label>) -> [Vec<u8>; 3] {
+    let bodies = if r.below(2) == 0 { small_over(r, pool) } else { alike_over(r, pool, 9) };
     let forms = forms(r);
     bodies.spelled(r, forms).texts()
 }
 
-/// The same of up to 80 leaves.
-pub fn large_quoted(r: &mut Random) -> [Vec<u8>; 3] {
+/// Small bodies whose labels have blanks and underscores.
+pub fn small_quoted(r: &mut Random) -> [Vec<u8>; 3] {
+    small_spelled(r, confusable())
+}
+
+/// The same of up to 80 leaves, over labels that are drawn.
+fn large_spelled(r: &mut Random, labels: fn(&mut Random, usize) -> Vec<Label>) -> [Vec<u8>; 3] {
     let bodies = if r.below(2) == 0 {
-        let pool = spaced(r, 100);
+        let pool = labels(r, 100);
         large_over(r, pool)
     } else {
-        let pool = spaced(r, LEAVES + 2);
+        let pool = labels(r, LEAVES + 2);
         alike_over(r, pool, LEAVES)
     };
     let forms = forms(r);
     bodies.spelled(r, forms).texts()
+}
+
+/// Bodies of up to 80 leaves whose labels have blanks and underscores.
+pub fn large_quoted(r: &mut Random) -> [Vec<u8>; 3] {
+    large_spelled(r, spaced)
+}
+
+/// Small bodies of capital and small letters: a label is the same in all three, or each body has letters of its own choice. Sometimes two
+/// labels are equal under the second edition only.
+pub fn small_cased(r: &mut Random) -> [Vec<u8>; 3] {
+    let mut pool: Vec<Label> = lettered().iter().map(|x| recased(r, x)).collect();
+    if r.below(4) == 0 {
+        pool.truncate(11);
+        let again = recased(r, &pool[0]);
+        pool.push(again);
+    }
+    let texts = small_spelled(r, pool);
+    sometimes_recased(r, texts)
+}
+
+/// Bodies of up to 80 leaves like these, the labels of each different under both editions.
+pub fn large_cased(r: &mut Random) -> [Vec<u8>; 3] {
+    let texts = large_spelled(r, |r, n| spaced(r, n).iter().map(|x| recased(r, x)).collect());
+    sometimes_recased(r, texts)
+}
+
+fn sometimes_recased(r: &mut Random, texts: [Vec<u8>; 3]) -> [Vec<u8>; 3] {
+    if r.below(3) == 0 {
+        return texts;
+    }
+    texts.map(|x| recased(r, &x))
 }
 
 /// A text with a few bytes changed, dropped or added, many of them quotes, blanks and underscores.

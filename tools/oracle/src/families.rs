@@ -2,7 +2,7 @@
 //! go through them.
 
 use crate::agree::Label;
-use crate::job::{job, strict};
+use crate::job::{job, strict, with_edition, SECOND};
 use crate::limits::{LABEL, LEAVES};
 use crate::random::Random;
 use crate::spelling::{cycled, quoted, Bodies, Form};
@@ -149,17 +149,22 @@ pub fn all_families(r: &mut Random) -> Vec<(String, Vec<Family>)> {
     mixed.iter_mut().for_each(|f| f.bodies = f.bodies.spelled(r, [Form::Bare, Form::Quoted, Form::Quoted]));
     let quoted = families(r, &long_quoted(LEAVES));
     let one_slot = families(r, &one_slot(LEAVES));
+    let mut capitals = families(r, &long_labels(LEAVES));
+    capitals.iter_mut().for_each(|f| f.bodies.second = f.bodies.second.relabelled(&mut |x| x.to_ascii_uppercase()));
     vec![
         (String::new(), short),
         (format!(", labels of {LABEL} bytes"), long),
         (format!(", labels of {LABEL} bytes, the second tree's in quotes"), mixed),
         (format!(", labels of {LABEL} bytes in quotes"), quoted),
         (format!(", labels of {LABEL} bytes that share a slot"), one_slot),
+        // under the first edition these trees share no label
+        (format!(", labels of {LABEL} bytes, the second tree's in capitals"), capitals),
     ]
 }
 
-/// Each family as a job and as a strict one.
+/// Each family as a job and as a strict one, under both editions.
 pub fn family_jobs() -> Vec<Vec<u8>> {
     let all = all_families(&mut Random(80));
-    all.iter().flat_map(|(_, fs)| fs).flat_map(|f| [f.job(), strict(&f.job())]).collect()
+    let jobs = all.iter().flat_map(|(_, fs)| fs).flat_map(|f| [f.job(), strict(&f.job())]);
+    jobs.flat_map(|j| [with_edition(SECOND, &j), j]).collect()
 }

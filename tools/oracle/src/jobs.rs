@@ -2,6 +2,7 @@
 
 use crate::agree::Label;
 use crate::drawn::{labels, small_bodies};
+use crate::edition_jobs::{edition_jobs, otherwise};
 use crate::job::{job, printed};
 use crate::lengths::length_jobs;
 use crate::limits::{DIGITS, JOB, LEAVES, LIST};
@@ -71,6 +72,26 @@ fn contents_jobs() -> Vec<Vec<u8>> {
     out.push(vec![b' '; JOB + 1]);
     out.push(bytes("S 0\nT 0\nK 0\n\n"));
     out.extend([JOB, JOB + 1].map(|n| filled(n, [b"((a,b),(c,d));", b"a;", b""], 2, b"a")));
+    out
+}
+
+/// Contents about bodies of 2, 2 and 1 bytes: those with lines in front of the lengths, and those that are told whole. Each before these
+/// bodies.
+pub fn headed(fronts: &[&str], heads: &[&str], bodies: [&str; 2]) -> Vec<Vec<u8>> {
+    let all = fronts.iter().map(|x| format!("{x}S 2\nT 2\nK 1\n\n")).chain(heads.iter().map(|x| x.to_string()));
+    all.flat_map(|x| bodies.map(|tail| bytes(&format!("{x}{tail}")))).collect()
+}
+
+/// All that the job may begin with, of which only the whole is answered; and each byte of its first lines, so many bytes of them, as its
+/// neighbour or left out.
+pub fn spoilt(whole: &[u8], lines: usize) -> Vec<Vec<u8>> {
+    let mut out: Vec<Vec<u8>> = (0..=whole.len()).map(|n| whole[..n].to_vec()).collect();
+    for i in 0..lines {
+        let mut other = whole.to_vec();
+        other[i] ^= 1;
+        out.push(other);
+        out.push([&whole[..i], &whole[i + 1..]].concat());
+    }
     out
 }
 
@@ -163,6 +184,9 @@ pub fn jobs() -> Vec<Vec<u8>> {
     out.extend(quoted_jobs());
     out.extend(place_jobs());
     out.extend(length_jobs());
+    let again = otherwise(&out);
+    out.extend(edition_jobs());
+    out.extend(again);
     out
 }
 

@@ -46,11 +46,11 @@ fn threes() -> Vec<[Label; 3]> {
 }
 
 /// A tree of one leaf, and one whose first two leaves are closer.
-fn one(x: &[u8]) -> Vec<u8> {
+pub fn one(x: &[u8]) -> Vec<u8> {
     leaf(x).text()
 }
 
-fn closer(x: &[u8], y: &[u8], z: &[u8]) -> Vec<u8> {
+pub fn closer(x: &[u8], y: &[u8], z: &[u8]) -> Vec<u8> {
     join(join(leaf(x), leaf(y)), leaf(z)).text()
 }
 
@@ -123,12 +123,12 @@ fn whole_jobs() -> Vec<Vec<u8>> {
 }
 
 /// As many labels of as many bytes as may be in each body, all in quotes and with an underscore.
-fn greatest_bodies() -> [Vec<u8>; 3] {
+pub fn greatest_bodies() -> [Vec<u8>; 3] {
     let up = caterpillar(&long_quoted(LEAVES));
     [up.text(), up.mirrored().text(), list(&long_quoted(LIST))]
 }
 
-/// Their job: no other that is answered is longer, but for the line `strict`, and no answer.
+/// Their job: no other that is answered is longer, but for the lines `strict` and of an edition, and no answer.
 pub fn greatest() -> Vec<u8> {
     let [s, t, k] = greatest_bodies();
     let made = job(&s, &t, &k);

@@ -2,6 +2,7 @@
 
 use crate::cases::Case;
 use crate::drawn::labels;
+use crate::edition::Edition;
 use crate::families::long_labels;
 use crate::job::job;
 use crate::jobs::list;
@@ -43,7 +44,7 @@ fn long_tree() -> Vec<u8> {
 
 fn cut_trees() -> Vec<Vec<u8>> {
     let told = |(p, x): (usize, Vec<u8>)| {
-        assert_eq!(read_tree(&x), Err(Fault { number: 1, place: p }));
+        assert_eq!(read_tree(Edition::First, &x), Err(Fault { number: 1, place: p }));
         x
     };
     cut(&long_tree()).into_iter().map(told).collect()
@@ -51,7 +52,7 @@ fn cut_trees() -> Vec<Vec<u8>> {
 
 fn cut_lists() -> Vec<Vec<u8>> {
     let told = |(p, x): (usize, Vec<u8>)| {
-        assert_eq!(read_parts(&x).err(), Some(Fault { number: 1, place: p }));
+        assert_eq!(read_parts(Edition::First, &x).err(), Some(Fault { number: 1, place: p }));
         x
     };
     cut(&list(&long_labels(LIST))).into_iter().map(told).collect()

@@ -1,7 +1,7 @@
 //! Texts about quotes and underscores: labels in each form they may have, and quotes that break their rules.
 
 use crate::agree::Label;
-use crate::drawn::{damaged_quoted, small_quoted};
+use crate::drawn::damaged_quoted;
 use crate::limits::{LABEL, LEAVES, LIST};
 use crate::random::Random;
 use crate::spelling::quoted;
@@ -129,11 +129,11 @@ pub fn behind() -> Vec<Vec<u8>> {
     (0..=255u8).map(|b| vec![b'\'', b'a', b'\'', b]).collect()
 }
 
-/// Trees and lists with damage, drawn at random.
-pub fn damaged_texts(r: &mut Random, count: usize) -> [Vec<Vec<u8>>; 2] {
+/// Trees and lists with damage, of bodies drawn at random.
+pub fn damaged_texts(r: &mut Random, count: usize, bodies: fn(&mut Random) -> [Vec<u8>; 3]) -> [Vec<Vec<u8>>; 2] {
     let mut out = [Vec::new(), Vec::new()];
     for i in 0..count {
-        let [s, t, k] = small_quoted(r);
+        let [s, t, k] = bodies(r);
         let tree = if i % 2 == 0 { s } else { t };
         out[0].push(damaged_quoted(r, &tree));
         out[1].push(damaged_quoted(r, &k));

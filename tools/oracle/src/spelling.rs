@@ -32,6 +32,15 @@ pub fn spelled(r: &mut Random, form: Form, x: &[u8]) -> Vec<u8> {
     }
 }
 
+/// The label, or the whole body, in capital and small letters of another choice: all of one sort, or each at random.
+pub fn recased(r: &mut Random, x: &[u8]) -> Vec<u8> {
+    match r.below(4) {
+        0 => x.to_ascii_uppercase(),
+        1 => x.to_ascii_lowercase(),
+        _ => x.iter().map(|b| if r.below(2) == 0 { b.to_ascii_uppercase() } else { b.to_ascii_lowercase() }).collect(),
+    }
+}
+
 /// Two trees and a list. The labels are decoded, or as they shall stand in the texts.
 #[derive(Clone, Debug)]
 pub struct Bodies {
@@ -80,4 +89,15 @@ pub fn confusable() -> Vec<Label> {
     let same = [" ".repeat(LABEL), "_".repeat(LABEL), format!("{}a", " ".repeat(LABEL - 1))];
     let all = all.map(String::from);
     all.iter().chain(&long).chain(&same).map(|x| x.as_bytes().to_vec()).collect()
+}
+
+/// Decoded labels, all different under both editions, of letters from the beginning and the end of the alphabet and of bytes that stand
+/// before, between and after capital and small ones.
+pub fn lettered() -> Vec<Label> {
+    let all = [
+        "a", "b", "y", "z", "aa", "ab", "az", "ba", "zz", "a b", "a_b", "a-b", "a0b", "a.b", "azb", "_", "_a", "_z", "a_", "z_", "z ", " z",
+        "-a", "0z", "9a", ".z",
+    ];
+    let long = ["z_", "a ", "zab-"].map(|x| cycled(x, LABEL));
+    all.map(String::from).iter().chain(&long).map(|x| x.as_bytes().to_vec()).collect()
 }

@@ -4,7 +4,7 @@ use crate::agree::{restrict, Label};
 use crate::drawn::{alike_bodies, labels};
 use crate::families::{long_labels, strangers};
 use crate::job::{job, strict};
-use crate::jobs::{bytes, damaged, damaged_bodies, filled, list, small_job, P, Q, R};
+use crate::jobs::{damaged, damaged_bodies, filled, headed, list, small_job, spoilt, P, Q, R};
 use crate::limits::{JOB, LABEL, LEAVES};
 use crate::random::Random;
 use crate::text::Tree;
@@ -107,20 +107,10 @@ fn contents_jobs() -> Vec<Vec<u8>> {
         "strict\nT 2\nK 1\n\n", "strict\nS 2\nT 2\nK 1\n", "strict\nS 2\nT 2\nK 1\n\n\n", "strict\nS 2\nT 2\nK 2\n\n", "strict\nS 2\nT 1\nK 1\n\n",
         "strict\nS 3\nT 1\nK 1\n\n", "strict\nS 0\nT 4\nK 1\n\n", "strict\nS 4\nT 0\nK 1\n\n", "S 9\nT 2\nK 1\n\nstrict\n",
     ];
-    let all = fronts.iter().map(|x| format!("{x}S 2\nT 2\nK 1\n\n")).chain(heads.iter().map(|x| x.to_string()));
-    let mut out: Vec<Vec<u8>> = all.flat_map(|x| ["a;a;a", "a;b;a"].map(|tail| bytes(&format!("{x}{tail}")))).collect();
-    // all that a strict job may begin with: only the whole is answered
-    let whole = strict(&job(b"(a,b);", b"(b,a);", b"a"));
-    out.extend((0..=whole.len()).map(|n| whole[..n].to_vec()));
-    // each byte of the line as its neighbour, or left out
-    for i in 0..strict(b"").len() {
-        let mut other = whole.clone();
-        other[i] ^= 1;
-        out.push(other);
-        out.push([&whole[..i], &whole[i + 1..]].concat());
-    }
-    // just as many bytes as a job may have, the line counted, and one more
+    let mut out = headed(&fronts, &heads, ["a;a;a", "a;b;a"]);
     let line = strict(b"").len();
+    out.extend(spoilt(&strict(&job(b"(a,b);", b"(b,a);", b"a")), line));
+    // just as many bytes as a job may have, the line counted, and one more
     for (n, second) in [(JOB, &b"((a,c),(b,d));"[..]), (JOB, b"(d,b);"), (JOB + 1, b"(d,b);")] {
         out.push(strict(&filled(n - line, [b"((a,b),(c,d));", second, b""], 2, b"a")));
     }

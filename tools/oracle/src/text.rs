@@ -1,11 +1,12 @@
 //! Tree text and lists, read by collecting every fault of a text and taking the one with the smallest place.
 
 use crate::agree::Label;
+use crate::edition::Edition;
 use crate::limits::{LABEL, LEAVES, LIST};
 use std::ops::Range;
 
-/// A rooted binary tree. A tree that was read has labels that are decoded; one that is made in order to be written as it is has them as
-/// they shall stand in the text.
+/// A rooted binary tree. A tree that was read has labels that are decoded, one that is to be compared has their keys; one that is made in
+/// order to be written as it is has them as they shall stand in the text.
 #[derive(Clone, Debug, PartialEq)]
 pub enum Tree {
     Leaf(Label),
@@ -30,7 +31,7 @@ fn is_quoted_byte(b: u8) -> bool {
 
 /// A label where one may stand, or what begins as one.
 #[derive(Clone, Debug)]
-pub struct Token {
+struct Token {
     /// Its first byte: the opening quote, if it has one.
     at: usize,
     /// The bytes that the limit counts.
@@ -45,7 +46,7 @@ fn run(text: &[u8], from: usize, wanted: fn(u8) -> bool) -> Range<usize> {
 }
 
 /// The label that begins at a place.
-pub fn token(text: &[u8], at: usize) -> Option<Token> {
+fn token(text: &[u8], at: usize) -> Option<Token> {
     match *text.get(at)? {
         b'\'' => {
             let inner = run(text, at + 1, is_quoted_byte);
@@ -64,7 +65,7 @@ pub fn token(text: &[u8], at: usize) -> Option<Token> {
 
 impl Token {
     /// The bytes that the label stands for: a bare underscore is a blank, a quoted one itself.
-    pub fn label(&self, text: &[u8]) -> Label {
+    fn label(&self, text: &[u8]) -> Label {
         let quoted = self.inner.start > self.at;
         text[self.inner.clone()].iter().map(|&b| if b == b'_' && !quoted { b' ' } else { b }).collect()
     }
@@ -79,7 +80,7 @@ impl Token {
     }
 
     /// The part of the text that shows it.
-    pub fn part(&self) -> Range<usize> {
+    fn part(&self) -> Range<usize> {
         self.at..self.end.unwrap()
     }
 }
@@ -167,7 +168,7 @@ fn joined(text: &[u8], o: &mut Outline) -> Result<Vec<Label>, Fault> {
 }
 
 /// Of all faults the one with the smallest place, and at one place the smaller number.
-fn first_fault(text: &[u8], o: &Outline, limit: Option<usize>) -> Option<Fault> {
+fn first_fault(edition: Edition, text: &[u8], o: &Outline, limit: Option<usize>) -> Option<Fault> {
     let mut all: Vec<Fault> = Vec::new();
     all.extend(o.fault);
     all.extend(limit.map(|at| fault(4, at)));
@@ -177,7 +178,7 @@ fn first_fault(text: &[u8], o: &Outline, limit: Option<usize>) -> Option<Fault> 
             all.push(fault(3, t.inner.start + LABEL));
         }
         if t.counts() {
-            let x = t.label(text);
+            let x = edition.key(&t.label(text));
             if before.contains(&x) {
                 all.push(fault(5, t.at));
             }
@@ -187,33 +188,29 @@ fn first_fault(text: &[u8], o: &Outline, limit: Option<usize>) -> Option<Fault> 
     all.into_iter().min_by_key(|f| (f.place, f.number))
 }
 
-pub fn read_tree(text: &[u8]) -> Result<Tree, Fault> {
-    read_placed(text).map(|(tree, _)| tree)
+pub fn read_tree(edition: Edition, text: &[u8]) -> Result<Tree, Fault> {
+    read_placed(edition, text).map(|(tree, _)| tree)
 }
 
 /// The tree, and the places of its labels from left to right.
-pub fn read_placed(text: &[u8]) -> Result<(Tree, Vec<usize>), Fault> {
+pub fn read_placed(edition: Edition, text: &[u8]) -> Result<(Tree, Vec<usize>), Fault> {
     let mut o = Outline::default();
     // The descent is as deep as the text has `(`; a text with 80 of them is refused there anyway.
     let cut = text.iter().enumerate().filter(|(_, &b)| b == b'(').nth(LEAVES + 20).map_or(text.len(), |(i, _)| i);
     let tree = whole(&text[..cut], &mut o);
     o.fault = tree.as_ref().err().copied();
-    match first_fault(text, &o, o.opens.get(LEAVES - 1).copied()) {
+    match first_fault(edition, text, &o, o.opens.get(LEAVES - 1).copied()) {
         Some(f) => Err(f),
         None => Ok((tree.unwrap(), o.tokens.iter().map(|t| t.at).collect())),
     }
 }
 
-pub fn read_list(text: &[u8]) -> Result<Vec<Label>, Fault> {
-    read_parts(text).map(|(labels, _)| labels)
-}
-
 /// The labels of a list, and the parts of its text that show them.
-pub fn read_parts(text: &[u8]) -> Result<(Vec<Label>, Vec<Range<usize>>), Fault> {
+pub fn read_parts(edition: Edition, text: &[u8]) -> Result<(Vec<Label>, Vec<Range<usize>>), Fault> {
     let mut o = Outline::default();
     let labels = if text.is_empty() { Ok(Vec::new()) } else { joined(text, &mut o) };
     o.fault = labels.as_ref().err().copied();
-    match first_fault(text, &o, o.tokens.get(LIST).map(|t| t.at)) {
+    match first_fault(edition, text, &o, o.tokens.get(LIST).map(|t| t.at)) {
         Some(f) => Err(f),
         None => Ok((labels.unwrap(), o.tokens.iter().map(Token::part).collect())),
     }
@@ -243,6 +240,11 @@ impl Tree {
         }
     }
 
+    /// The tree as it is compared: with the keys of its labels.
+    pub fn keyed(&self, edition: Edition) -> Tree {
+        self.relabelled(&mut |x| edition.key(x))
+    }
+
     /// The same tree with the two children of each node exchanged.
     pub fn mirrored(&self) -> Tree {
         match self {
@@ -251,13 +253,15 @@ impl Tree {
         }
     }
 
-    /// The node's text with children in the order of their smallest labels, and labels as they are written.
-    pub fn normal(&self) -> Vec<u8> {
+    /// The smallest label below the node, as it is compared, and the node's text: the child that holds the smaller one first, labels as
+    /// they are written.
+    fn normal(&self, edition: Edition) -> (Label, Vec<u8>) {
         match self {
-            Tree::Leaf(x) => shown(x),
+            Tree::Leaf(x) => (edition.key(x), shown(x)),
             Tree::Node(a, b) => {
-                let (p, q) = if a.leaves().iter().min() < b.leaves().iter().min() { (a, b) } else { (b, a) };
-                [&b"("[..], &p.normal(), b",", &q.normal(), b")"].concat()
+                let (a, b) = (a.normal(edition), b.normal(edition));
+                let (p, q) = if a.0 < b.0 { (a, b) } else { (b, a) };
+                (p.0, [&b"("[..], &p.1, b",", &q.1, b")"].concat())
             }
         }
     }
@@ -270,8 +274,9 @@ impl Tree {
         }
     }
 
-    pub fn normal_text(&self) -> Vec<u8> {
-        [self.normal(), b";".to_vec()].concat()
+    /// The normal text of a tree of decoded labels.
+    pub fn normal_text(&self, edition: Edition) -> Vec<u8> {
+        [self.normal(edition).1, b";".to_vec()].concat()
     }
 
     pub fn text(&self) -> Vec<u8> {

@@ -1,7 +1,8 @@
 //! What the programs are given.
 
+use oracle::edition_jobs::greatest_cased;
 use oracle::families::{family_jobs, long_labels, long_quoted};
-use oracle::job::{job, strict};
+use oracle::job::{every_state, job, strict, with_edition, SECOND};
 use oracle::lengths::greatest;
 use oracle::limits::{JOB, LABEL, LEAVES, LIST, TREE_TEXT};
 use oracle::trees::caterpillar;
@@ -24,9 +25,14 @@ fn of_length(n: usize, body: usize) -> Vec<u8> {
     jobs::filled(n, [b"((a,b),c);", b"((a,c),b);", b"a"], body, filler)
 }
 
-/// The same with the line `strict`, which is counted.
+/// The same with these lines in front, which are counted.
+fn of_length_after(lines: &[u8], n: usize, body: usize) -> Vec<u8> {
+    [lines, &of_length(n - lines.len(), body)].concat()
+}
+
+/// The same with the line `strict`.
 fn strict_of_length(n: usize, body: usize) -> Vec<u8> {
-    strict(&of_length(n - strict(b"").len(), body))
+    of_length_after(&strict(b""), n, body)
 }
 
 /// A strict job whose last leaf of the second tree is not in the first; its list cannot be read.
@@ -57,7 +63,7 @@ fn long_jobs() -> Vec<Vec<u8>> {
         out.push(with_tail(answered(), n, b'a'));
         out.push(with_tail(strict(&answered()), n, b'a'));
         out.push(with_tail(stray(), n, b','));
-        out.extend((0..3).flat_map(|body| [of_length(n, body), strict_of_length(n, body)]));
+        out.extend(every_state(b"").iter().flat_map(|lines| [0, 1, 2].map(|body| of_length_after(lines, n, body))));
     }
     for n in [2 * JOB, 2 * JOB + 1, 65_536, 65_537, 5 * MEGABYTE] {
         out.push(vec![b' '; n]);
@@ -65,6 +71,7 @@ fn long_jobs() -> Vec<Vec<u8>> {
         out.push(with_tail(strict(&answered()), n, b'a'));
         out.push(with_tail(of_length(JOB, 2), n, b'a'));
         out.push(with_tail(strict_of_length(JOB, 2), n, b'a'));
+        out.push(with_tail(with_edition(SECOND, &answered()), n, b'a'));
     }
     out
 }
@@ -90,6 +97,10 @@ fn refusals() -> Vec<Vec<u8>> {
     out.push(job(b"((a,b),c);", b"((b,a),x);", b""));
     out.push(job(b"(a,b);", b"((b,x),a);", b"x"));
     out.push(job(b"('a b',b);", b"((b,'a_b'),a_b);", b"'a_b'"));
+    // under the second edition an answer, 5 and 8
+    out.push(job(b"((Ab,c),D);", b"((aB,C),d);", b"AB,d"));
+    out.push(job(b"(A,a);", b"(a,A);", b"a,A"));
+    out.push(job(b"((A,b),C);", b"((a,c),B);", b"c,B,a"));
     out
 }
 
@@ -98,9 +109,10 @@ pub fn jobs(examples: &str) -> Vec<Vec<u8>> {
     out.push(Vec::new());
     out.push(greatest());
     out.push(strict(&greatest()));
+    out.push(greatest_cased());
     out.push(all_of(&long_labels(LEAVES)));
     out.push(stray());
-    out.extend(refusals().iter().flat_map(|x| [x.clone(), strict(x)]));
+    out.extend(refusals().iter().flat_map(|x| every_state(x)));
     out.extend(long_jobs());
     out.extend(family_jobs());
     out.extend(jobs::jobs());
@@ -112,10 +124,12 @@ pub fn slow_jobs() -> Vec<Vec<u8>> {
         Vec::new(),
         answered(),
         strict(&answered()),
+        with_edition(SECOND, &answered()),
         stray(),
         job(b"((a,b),c);", b"((a,c),b);", b"a,b,c"),
         greatest(),
         strict(&greatest()),
+        greatest_cased(),
         of_length(JOB, 2),
         of_length(JOB + 1, 2),
         strict_of_length(JOB, 2),
@@ -152,7 +166,8 @@ fn long_texts() -> Vec<Vec<u8>> {
 pub fn texts(examples: &str) -> Vec<Vec<u8>> {
     let mut out = files(examples, ".nwk");
     out.extend(long_texts());
-    out.extend(cases::cases().into_iter().map(|c| c.text));
+    // the cases of the second edition have the same texts
+    out.extend(cases::cases().into_iter().filter(|c| c.kind.is_ascii_lowercase()).map(|c| c.text));
     out
 }
 

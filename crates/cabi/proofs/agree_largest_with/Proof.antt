@@ -17,10 +17,10 @@ returns c =
 
 returns-2 : tie.Need-returns-2
 returns-2 c =
-    let a = c .before .before .before .before .before .before .before .before .before .args in
-    let e = flags-known (a .first .now) (a .second .now) (a .required .now) (length (a .out .now)) (a .flags) (c .before .before .before .before .if1 .left) in
+    let o = c .before .before .before .before in
+    let a = o .before .before .before .before .before .before .args in
+    let e = flags-known (a .first .now) (a .second .now) (a .required .now) (length (a .out .now)) (a .flags) (o .options-of .result) (o .options-of .ensures) in
     (c .before .before .answered .ensures .0 ∙ ap numbersOf (sym e), c .before .before .answered .ensures .1 ∙ ap (λ (x : Solution). outputOf x (a .out .now)) (sym e))
 
 pub agree-largest-with-spec : {M : Type 1} → statement M
-agree-largest-with-spec =
-    tie.close (tie.spec (λ c κs. search needs) returns (λ c κs. search needs) (λ c. search needs) returns-2)
+agree-largest-with-spec = tie.close (tie.spec (λ c. search needs) (λ c κs. search needs) returns (λ c κs. search needs) (λ c κs. search needs) (λ c. search needs) returns-2)

@@ -1,10 +1,10 @@
 -- `job::answer_job` meets its contract: 11, then 10, then the answer to the bodies. Assumes nothing.
-use Rattle.job.proofs.AnswerLaws.{job-long, job-broken, laid-inside, list-base, job-solved, answered-turned, output-turned}
-use Rattle.job.specs.Answered.{answered, answerTo, jobOutput}
+use Rattle.job.proofs.AnswerLaws.{job-long, job-broken, laid-inside, bodies-base, job-solved, answered-turned, output-turned}
+use Rattle.job.specs.Answered.{Begin, answered, answerTo, jobOutput}
 use Rattle.mast.specs.Largest.{Solution}
 use mathlib.Core.Path.{_∙_, sym, ap, ap₂}
 use native.Mathlib.Omega.{arith}
-use Prim.Native.Nat.{ℕ, _+_}
+use Prim.Native.Nat.{_+_}
 use lib.ListN.{length, drop, length-take}
 use borrow.Author.Needs.{needs}
 use Rattle.job.proofs.answer_job.Statement.{statement}
@@ -48,47 +48,47 @@ add-end c =
 
 part-answer-bodies-end : tie.Need-part-answer-bodies-end
 part-answer-bodies-end c =
-    let told = c .before .before .before .before in
+    let told = c .before .before .before .before .before in
     let start = told .before .before .before .before .before .before in
     let g = told .layout .given in
     omega (arith, laid-inside (start .args .job .now) (g .0 .0) (g .0 .1 .0) (sym (g .1) ∙ told .before .before .contents .ensures))
 
 part-answer-bodies-end-2 : tie.Need-part-answer-bodies-end-2
 part-answer-bodies-end-2 c =
-    let told = c .before .before .before .before .before in
+    let told = c .before .before .before .before .before .before in
     let start = told .before .before .before .before .before .before in
     let g = told .layout .given in
     omega (arith, laid-inside (start .args .job .now) (g .0 .0) (g .0 .1 .0) (sym (g .1) ∙ told .before .before .contents .ensures))
 
 part-answer-bodies-end-3 : tie.Need-part-answer-bodies-end-3
 part-answer-bodies-end-3 c =
-    let told = c .before .before .before .before .before .before in
+    let told = c .before .before .before .before .before .before .before in
     let start = told .before .before .before .before .before .before in
     let g = told .layout .given in
     omega (arith, laid-inside (start .args .job .now) (g .0 .0) (g .0 .1 .0) (sym (g .1) ∙ told .before .before .contents .ensures))
 
 answer-bodies-requires : tie.Need-answer-bodies-requires
 answer-bodies-requires c κs =
-    let told = c .before .before .before .before .before .before .before .before in
+    let told = c .before .before .before .before .before .before .before .before .before in
     let job = told .before .before .before .before .before .before .args .job .now in
     let g = told .layout .given in
     let t = g .0 .1 .0 in
     let l = g .0 .0 + t .first + t .second in
     let laid = laid-inside job (g .0 .0) t (sym (g .1) ∙ told .before .before .contents .ensures) in
-    omega (arith, laid, length-take (t .required) (drop l job))
+    (omega (arith, laid, length-take (t .required) (drop l job)), omega (arith, laid, length-take (t .first) (drop (g .0 .0) job)))
 
 returns-3 : tie.Need-returns-3
 unfolding answerTo
 returns-3 c =
-    let told = c .before .before .before .before .before .before .before .before .before .before .before in
+    let told = c .before .before .before .before .before .before .before .before .before .before .before .before in
     let start = told .before .before .before .before .before .before in
     let job = start .args .job .now in
     let out = start .args .out .now in
     let g = told .layout .given in
     let t = g .0 .1 .0 in
     let l = sym (g .1) ∙ told .before .before .contents .ensures in
-    let e = job-solved job (g .0 .0) t l (omega arith) in (
-      c .before .before .answer-bodies .ensures .0 ∙ ap₂ (λ (n : ℕ) (x : Solution). answered n (length out) x) (list-base job (g .0 .0) t l) e,
+    let e = job-solved job (g .0 .0) t l (omega arith) _ (c .before .before .before .before .before .before .before .edition-of .ensures) in (
+      c .before .before .answer-bodies .ensures .0 ∙ ap₂ (λ (at : Begin) (x : Solution). answered at (length out) x) (bodies-base job (g .0 .0) t l) e,
       c .before .before .answer-bodies .ensures .1 ∙ ap (λ (x : Solution). jobOutput x out) e,
     )
 
@@ -106,6 +106,7 @@ answer-job-spec =
     add-second-at
     add-list-at
     add-end
+    (λ c κs. search needs)
     (λ c. search needs)
     (λ c. search needs)
     part-answer-bodies-end

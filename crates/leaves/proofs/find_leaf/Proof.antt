@@ -5,19 +5,20 @@ use mathlib.Core.Path.{_≡_, refl, sym, _∙_}
 use native.Mathlib.Omega.{arith}
 use borrow.Author.Needs.{needs}
 use Rattle.trees.specs.Arrays.{nodeLimit}
-use Rattle.trees.specs.Token.{spelling}
+use Rattle.trees.specs.Edition.{inEdition, key}
 use Rattle.leaves.specs.Find.{labelled, leafFrom, foundLeaf}
 use Rattle.leaves.proofs.FindLaws.{from-hit, from-miss, from-end}
 use Rattle.leaves.proofs.find_leaf.Statement.{statement}
 use Rattle.leaves.proofs.find_leaf.Tie as tie
 
 abbrev Inv-loop : tie.InvT-loop
-Inv-loop text left start size nodes token end u₀ u =
+Inv-loop edition text left start size nodes token end u₀ u =
     (u ≤ end) × (end ≤ nodeLimit)
-    × (leafFrom (labelled text left start size (spelling token)) (end - u) u ≡ foundLeaf text left start size (spelling token) nodes)
+    × (leafFrom (labelled (inEdition edition text) left start size (key edition token)) (end - u) u
+    ≡ foundLeaf (inEdition edition text) left start size (key edition token) nodes)
 
 abbrev μ-loop : tie.MeasureT-loop
-μ-loop text left start size nodes token end u₀ u =
+μ-loop edition text left start size nodes token end u₀ u =
     end - u
 
 least-requires : tie.Need-least-requires Inv-loop μ-loop

@@ -2,6 +2,8 @@
 use borrow.Author.Tests.{ne-eqb, eq-eqb}
 use Rattle.leaves.specs.Find.{labelled}
 use borrow.Author.Needs.{needs}
+use lib.ListN.{getD}
+use Rattle.trees.proofs.FoldLaws.{fold-part}
 use Rattle.leaves.proofs.has_label.Statement.{statement}
 use Rattle.leaves.proofs.has_label.Tie as tie
 
@@ -25,7 +27,8 @@ same-label-requires c κs = search needs
 returns-2 : tie.Need-returns-2
 unfolding labelled
 returns-2 c =
-    rw (c .same-label .ensures, c .before .leaf-label .ensures) (simp (eq-eqb _ _ (c .before .before .before .before .if1 .left)))
+    let a = c .before .before .before .before .before .before .before .before .args in
+    rw (c .same-label .ensures, c .before .leaf-label .ensures, fold-part (a .edition) (getD (a .start .now) (a .u) 0) (getD (a .size .now) (a .u) 0) (a .text .now)) (simp (eq-eqb _ _ (c .before .before .before .before .if1 .left)))
 
 pub has-label-spec : {M : Type 1} → statement M
 has-label-spec =

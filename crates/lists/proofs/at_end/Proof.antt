@@ -18,8 +18,8 @@ returns c =
     rw (c .before .before .before .before .before .before .stage .given .1)
     (end-repeat _ _ _ _ _ _ _ _ _ (k .0, (k .1 .0, k .1 .1 .0)) _ _ (c .if1 .taken))
 
-add-t18 : tie.Need-add-t18
-add-t18 c =
+add-t19 : tie.Need-add-t19
+add-t19 c =
     let s = c .before .before .before .before .before .before in
     omega (arith, rw (s .stage .given .1) at (s .before .before .before .pre .0))
 
@@ -59,7 +59,7 @@ at-end-spec =
     (λ c. search needs)
     keep-requires
     returns
-    add-t18
+    add-t19
     (λ c. search needs)
     (λ c κs. search needs)
     (λ c. search needs)

@@ -1,24 +1,28 @@
 -- `read_list` meets its contract. The loop's invariant: the stage machine goes on to the definition's answer, and every label so far has
 -- its mark. Assumes nothing.
-use Prim.Native.Nat.{_-_}
+use Prim.Native.Nat.{ℕ, _-_}
 use native.Mathlib.Omega.{arith}
-use mathlib.Core.Path.{_∙_}
+use mathlib.Core.Path.{_∙_, ap, sym}
 use borrow.Author.Needs.{needs}
 use lib.ListN.{length}
+use Rattle.trees.specs.Edition.{inEdition}
 use Rattle.trees.specs.Slots.{Marked}
+use Rattle.trees.proofs.FoldLaws.{fold-size, kind-folded}
 use Rattle.trees.proofs.ByteLaws.{kind-told}
 use Rattle.trees.proofs.SlotLaws.{marked-start}
 use Rattle.lists.specs.ReadList.{listLimit}
+use Rattle.lists.specs.ListMachine.{endAt}
+use Rattle.lists.proofs.EditionLists.{list-answer-in}
 use Rattle.lists.proofs.ReaderLoop.{Running, running-start, running-next, running-stop, running-end}
 use Rattle.lists.proofs.read_list.Statement.{statement}
 use Rattle.lists.proofs.read_list.Tie as tie
 
 abbrev Inv-loop : tie.InvT-loop
-Inv-loop text body table start₀ size₀ seen₀ stage₀ i₀ start size seen stage i =
-    Running text body stage start size i × Marked listLimit text start size seen
+Inv-loop edition text body table start₀ size₀ seen₀ stage₀ i₀ start size seen stage i =
+    Running (inEdition edition text) body stage start size i × Marked listLimit (inEdition edition text) start size seen
 
 abbrev μ-loop : tie.MeasureT-loop
-μ-loop text body table start₀ size₀ seen₀ stage₀ i₀ start size seen stage i =
+μ-loop edition text body table start₀ size₀ seen₀ stage₀ i₀ start size seen stage i =
     length text - i
 
 loop-holds : tie.Need-loop-holds Inv-loop μ-loop
@@ -35,18 +39,23 @@ returns c =
     let s = c .before .before .before .before in
     let k = s .before .before .before .before in
     let l = k .before .before .before .before in
+    let g = l .before .before .before .before .args in
+    let more = k .before .before .before .loop-test .taken in
     c .told .ensures
-    ∙ running-stop _ _ _ _ _ _ (l .loop .inv .0) _ _ _ _ (omega arith)
-    (kind-told _ _ _ (l .before .before .classes .ensures) (k .before .shared-slice-known2 .given (l .loop .i) .fits) (k .kind-in .ensures))
+    ∙ running-stop _ _ _ _ _ _ (l .loop .inv .0) _ _ _ _ (rw (fold-size (g .edition) (g .text .now)) more)
+    (kind-told _ _ _ (l .before .before .classes .ensures) (k .before .shared-slice-known2 .given (l .loop .i) .fits) (k .kind-in .ensures) ∙ kind-folded (g .edition) (g .text .now) _ more)
     (s .step .ensures .0) _ _ _ _ (c .before .before .reason .given .1)
+    ∙ list-answer-in (g .edition) (g .body) (g .text .now)
 
 loop-again : tie.Need-loop-again Inv-loop μ-loop
 loop-again c =
     let s = c .before .before .before in
     let k = s .before .before .before .before in
-    let l = k .before .before .before .before in (
-      running-next _ _ _ _ _ _ (l .loop .inv .0) _ _ _ _ (omega arith)
-          (kind-told _ _ _ (l .before .before .classes .ensures) (k .before .shared-slice-known2 .given (l .loop .i) .fits) (k .kind-in .ensures))
+    let l = k .before .before .before .before in
+    let g = l .before .before .before .before .args in
+    let more = k .before .before .before .loop-test .taken in (
+      running-next _ _ _ _ _ _ (l .loop .inv .0) _ _ _ _ (rw (fold-size (g .edition) (g .text .now)) more)
+          (kind-told _ _ _ (l .before .before .classes .ensures) (k .before .shared-slice-known2 .given (l .loop .i) .fits) (k .kind-in .ensures) ∙ kind-folded (g .edition) (g .text .now) _ more)
           (s .step .ensures .0) _ (c .before .next .given .1),
       s .step .ensures .1,
     )
@@ -59,7 +68,11 @@ at-end-requires c κs =
 returns-2 : tie.Need-returns-2 Inv-loop μ-loop
 returns-2 c =
     let l = c .before .before .before .before .before in
-    c .told2 .ensures ∙ running-end _ _ _ _ _ _ (l .before .loop .inv .0) _ _ _ (l .loop-test .left) (c .before .at-end .ensures)
+    let g = l .before .before .before .before .before .args in
+    c .told2 .ensures
+    ∙ running-end _ _ _ _ _ _ (l .before .loop .inv .0) _ _ _ (rw (fold-size (g .edition) (g .text .now)) (l .loop-test .left))
+    (c .before .at-end .ensures ∙ ap (λ (n : ℕ). endAt (inEdition (g .edition) (g .text .now)) (g .body) (l .before .loop .stage) n (l .before .loop .start) (l .before .loop .size)) (sym (fold-size (g .edition) (g .text .now))))
+    ∙ list-answer-in (g .edition) (g .body) (g .text .now)
 
 pub read-list-spec : {M : Type 1} → statement M
 read-list-spec =

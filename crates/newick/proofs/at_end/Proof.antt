@@ -1,6 +1,6 @@
 -- `at_end` answers `answerOf`. Assumes nothing.
 use Prim.Native.Nat.{ℕ}
-use mathlib.Core.Path.{_≡_, refl, sym, _∙_}
+use mathlib.Core.Path.{_≡_, refl, ap, sym, _∙_}
 use mathlib.Core.List.{List, [], _∷_}
 use native.Mathlib.Omega.{arith}
 use lib.ListN.{length}
@@ -11,6 +11,7 @@ use Rattle.newick.specs.declared.Mode.{Mode}
 use Rattle.newick.specs.declared.Mode.the-variants.{Due, Inside, Quoted, After, Done}
 use Rattle.trees.specs.declared.Body.{Body}
 use Rattle.trees.specs.declared.Reason.the-variants.{EndsTooSoon}
+use Rattle.trees.proofs.FoldLaws.{fold-size}
 use Rattle.newick.specs.Machine.{answerOf, refusal}
 use Rattle.newick.proofs.Mode.{the-type}
 use Rattle.newick.proofs.Keys.{left-over}
@@ -32,8 +33,8 @@ rest Done text body st start size h = absurd (left-over (0 ∷ 2 ∷ 3 ∷ []) 4
 enum-told : tie.Need-enum-told
 enum-told c = search needs
 
-add-t10 : tie.Need-add-t10
-add-t10 c =
+add-t11 : tie.Need-add-t11
+add-t11 c =
     omega (arith, ready-as _ (c .before .enum-told .given .1) (c .before .before .before .before .pre) .few)
 
 enum-known-mode : tie.Need-enum-known-mode
@@ -68,19 +69,21 @@ returns-3 : tie.Need-returns-3
 unfolding answerOf
 returns-3 c =
     let t = c .before in
-    c .refuse2 .ensures
+    let a = t .before .before .before .before .before .before .args in
+    c .refuse2 .ensures ∙ ap (refusal (a .body) EndsTooSoon) (sym (fold-size (a .edition) (a .text .now)))
     ∙ sym (answer-as _ _ _ _ _ (c .before .before .before .before .mode .given .1) ∙ rw (sym (t .before .repeated .ensures) ∙ t .if1 .left))
 
 returns-4 : tie.Need-returns-4
 returns-4 c =
-    c .refuse3 .ensures ∙ rest _ _ _ _ _ _ (c .before .match .keys3)
+    let a = c .before .before .before .args in
+    c .refuse3 .ensures ∙ ap (refusal (a .body) EndsTooSoon) (sym (fold-size (a .edition) (a .text .now))) ∙ rest _ _ _ _ _ _ (c .before .match .keys3)
 
 pub at-end-spec : {M : Type 1} → statement M
 at-end-spec =
     tie.close
     (tie.spec
     enum-told
-    add-t10
+    add-t11
     enum-known-mode
     repeated-requires
     refuse-requires

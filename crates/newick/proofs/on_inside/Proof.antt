@@ -31,8 +31,8 @@ rest text st a first len i Other h = refl
 enum-told : tie.Need-enum-told
 enum-told c = search needs
 
-add-t16 : tie.Need-add-t16
-add-t16 c = search needs
+add-t17 : tie.Need-add-t17
+add-t17 c = search needs
 
 on-label-end-requires : tie.Need-on-label-end-requires
 on-label-end-requires c κs = search needs
@@ -53,4 +53,4 @@ returns-3 c =
 
 pub on-inside-spec : {M : Type 1} → statement M
 on-inside-spec =
-    tie.close (tie.spec enum-told add-t16 on-label-end-requires returns returns-2 returns-3)
+    tie.close (tie.spec enum-told add-t17 on-label-end-requires returns returns-2 returns-3)

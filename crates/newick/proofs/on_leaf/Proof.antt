@@ -1,6 +1,8 @@
 -- `on_leaf` takes the step `leafOf`, and a leaf leaves its mark. Assumes nothing.
-use mathlib.Core.Path.{sym, _∙_}
+use mathlib.Core.Path.{ap, sym, _∙_}
 use native.Mathlib.Omega.{arith}
+use Rattle.trees.specs.Edition.{inEdition}
+use Rattle.trees.proofs.FoldLaws.{fold-part}
 use Rattle.trees.proofs.SlotLaws.{slot-small, met-told, marked-next}
 use Rattle.newick.specs.Machine.{leafOf, repeatOf}
 use borrow.Author.Needs.{needs}
@@ -12,7 +14,7 @@ unfolding leafOf repeatOf
 returns c =
     let s = c .before .before .before .before .before .before .before .before in
     let m = s .before .before .before .pre .1 .1 in
-    let r = met-told _ _ _ _ _ m _ _ _ _ (s .before .part .ensures) (s .slot .ensures) _ _ (c .before .is-met .ensures) in
+    let r = met-told _ _ _ _ _ m _ _ _ _ (ap (inEdition _) (s .before .part .ensures) ∙ sym (fold-part _ _ _ _)) (s .slot .ensures) _ _ (c .before .is-met .ensures) in
     (λ k. rw (sym r ∙ c .if1 .taken), m)
 
 element-write-seen : tie.Need-element-write-seen
@@ -23,8 +25,8 @@ unfolding leafOf repeatOf
 returns-2 c =
     let s = c .before .before .before .before .before .before .before .before in
     let m = s .before .before .before .pre .1 .1 in
-    let r = met-told _ _ _ _ _ m _ _ _ _ (s .before .part .ensures) (s .slot .ensures) _ _ (c .before .is-met .ensures) in
-    (λ k. rw (sym r ∙ c .if1 .left), marked-next _ _ _ _ _ m _ _ _ _ (s .before .part .ensures) (s .slot .ensures) _ (omega arith))
+    let r = met-told _ _ _ _ _ m _ _ _ _ (ap (inEdition _) (s .before .part .ensures) ∙ sym (fold-part _ _ _ _)) (s .slot .ensures) _ _ (c .before .is-met .ensures) in
+    (λ k. rw (sym r ∙ c .if1 .left), marked-next _ _ _ _ _ m _ _ _ _ (ap (inEdition _) (s .before .part .ensures) ∙ sym (fold-part _ _ _ _)) (s .slot .ensures) _ (omega arith))
 
 pub on-leaf-spec : {M : Type 1} → statement M
 on-leaf-spec =

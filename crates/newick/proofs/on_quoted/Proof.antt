@@ -50,8 +50,13 @@ returns-4 c =
 returns-5 : tie.Need-returns-5
 returns-5 c = (λ k. rest _ _ _ _ _ _ _ (c .match .keys4), c .before .before .pre .1 .1)
 
+on-leaf-requires : tie.Need-on-leaf-requires
+on-leaf-requires c κs =
+    let p = c .before .before .before .before .before .before .before .before .before .pre in
+    (p .0, (p .1 .0 .0, p .1 .1))
+
 pub on-quoted-spec : {M : Type 1} → statement M
 on-quoted-spec =
     tie.close
     (tie.spec (λ c. search needs) (λ c κs. search needs) (λ c. search needs) (λ c κs. search needs) (λ c. search needs) returns
-    (λ c. search needs) (λ c κs. search needs) returns-2 returns-3 returns-4 returns-5)
+    (λ c. search needs) on-leaf-requires returns-2 returns-3 returns-4 returns-5)

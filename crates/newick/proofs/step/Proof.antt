@@ -1,6 +1,7 @@
 -- `step` takes the step `moveOf` on the byte's kind, which the class table tells. Assumes nothing.
 use mathlib.Core.Path.{sym, ap, _∙_}
 use Rattle.trees.proofs.ByteLaws.{kind-told}
+use Rattle.trees.proofs.FoldLaws.{kind-folded}
 use Rattle.newick.specs.Machine.{dueOf, insideOf, quotedOf, afterOf}
 use Rattle.newick.proofs.MachineLaws.{ready-as, move-due, move-inside, move-quoted, move-after, move-done}
 use borrow.Author.Needs.{needs}
@@ -53,14 +54,14 @@ returns : tie.Need-returns
 returns c =
     let p = c .before .before .before .before in
     let b = p .before .shared-slice-known2 .given (p .before .before .before .args .at) in
-    let k = kind-told _ _ _ (p .before .before .before .pre .0 .1) (b .fits) (p .kind-in .ensures) in
+    let k = kind-told _ _ _ (p .before .before .before .pre .0 .1) (b .fits) (p .kind-in .ensures) ∙ kind-folded (p .before .before .before .args .edition) (p .before .before .before .args .text .now) _ (p .before .before .before .pre .0 .0) in
     (c .on-due .ensures _ _ _ _ ∙ ap (dueOf _ _ _) k ∙ sym (move-due _ _ _ _ _ _ (c .before .before .enum-told .given .1)), p .before .before .before .pre .1 .1)
 
 returns-2 : tie.Need-returns-2
 returns-2 c =
     let p = c .before .before .before .before .before .before .before .before .before .before in
     let b = p .before .shared-slice-known2 .given (p .before .before .before .args .at) in
-    let k = kind-told _ _ _ (p .before .before .before .pre .0 .1) (b .fits) (p .kind-in .ensures) in
+    let k = kind-told _ _ _ (p .before .before .before .pre .0 .1) (b .fits) (p .kind-in .ensures) ∙ kind-folded (p .before .before .before .args .edition) (p .before .before .before .args .text .now) _ (p .before .before .before .pre .0 .0) in
     let m = c .before .before .before .before .before .before .before .before .mode .given .1 in
     (c .on-inside .ensures .0 ∙ ap (insideOf _ _ _ _ _ _) k ∙ sym (move-inside _ _ _ _ _ _ _ _ m), c .on-inside .ensures .1)
 
@@ -68,7 +69,7 @@ returns-3 : tie.Need-returns-3
 returns-3 c =
     let p = c .before .before .before .before .before .before .before .before .before in
     let b = p .before .shared-slice-known2 .given (p .before .before .before .args .at) in
-    let k = kind-told _ _ _ (p .before .before .before .pre .0 .1) (b .fits) (p .kind-in .ensures) in
+    let k = kind-told _ _ _ (p .before .before .before .pre .0 .1) (b .fits) (p .kind-in .ensures) ∙ kind-folded (p .before .before .before .args .edition) (p .before .before .before .args .text .now) _ (p .before .before .before .pre .0 .0) in
     let m = c .before .before .before .before .before .before .before .mode2 .given .1 in
     (c .on-quoted .ensures .0 _ ∙ ap (quotedOf _ _ _ _ _ _) k ∙ sym (move-quoted _ _ _ _ _ _ _ _ m), c .on-quoted .ensures .1)
 
@@ -76,7 +77,7 @@ returns-4 : tie.Need-returns-4
 returns-4 c =
     let p = c .before .before .before .before .before .before .before in
     let b = p .before .shared-slice-known2 .given (p .before .before .before .args .at) in
-    let k = kind-told _ _ _ (p .before .before .before .pre .0 .1) (b .fits) (p .kind-in .ensures) in
+    let k = kind-told _ _ _ (p .before .before .before .pre .0 .1) (b .fits) (p .kind-in .ensures) ∙ kind-folded (p .before .before .before .args .edition) (p .before .before .before .args .text .now) _ (p .before .before .before .pre .0 .0) in
     (c .on-after .ensures _ _ ∙ ap (afterOf _ _ _ _) k ∙ sym (move-after _ _ _ _ _ _ _ (c .before .before .before .before .before .mode3 .given .1)), p .before .before .before .pre .1 .1)
 
 returns-5 : tie.Need-returns-5

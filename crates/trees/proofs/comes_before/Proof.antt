@@ -35,7 +35,7 @@ returns : tie.Need-returns
 returns c =
     let a = c .before .before .before .before .before .before .before .before .before .args in
     let q = c .before .before .before in
-    let same = both-told orderOf (a .a .now) (a .b .now) _ _ _ _ (q .before .before .before .inner .ensures) (q .before .before .is-quoted .ensures)
+    let same = both-told (a .edition) orderOf (a .a .now) (a .b .now) _ _ _ _ (q .before .before .before .inner .ensures) (q .before .before .is-quoted .ensures)
     (q .before .inner2 .ensures) (q .is-quoted2 .ensures) in
     sym (order-less _ _ (sym same ∙ sym (c .before .before .compare-read .ensures) ∙ c .enum-told .given .1))
 
@@ -43,7 +43,7 @@ returns-2 : tie.Need-returns-2
 returns-2 c =
     let a = c .before .before .before .before .before .before .before .before .before .args in
     let q = c .before .before .before in
-    let same = both-told orderOf (a .a .now) (a .b .now) _ _ _ _ (q .before .before .before .inner .ensures) (q .before .before .is-quoted .ensures)
+    let same = both-told (a .edition) orderOf (a .a .now) (a .b .now) _ _ _ _ (q .before .before .before .inner .ensures) (q .before .before .is-quoted .ensures)
     (q .before .inner2 .ensures) (q .is-quoted2 .ensures) in
     sym (equal-before _ _ (sym same ∙ sym (c .before .before .compare-read .ensures) ∙ c .enum-told2 .given .1))
 
@@ -51,7 +51,7 @@ returns-3 : tie.Need-returns-3
 returns-3 c =
     let a = c .before .before .before .before .before .before .before .before .before .args in
     let q = c .before .before .before in
-    let same = both-told orderOf (a .a .now) (a .b .now) _ _ _ _ (q .before .before .before .inner .ensures) (q .before .before .is-quoted .ensures)
+    let same = both-told (a .edition) orderOf (a .a .now) (a .b .now) _ _ _ _ (q .before .before .before .inner .ensures) (q .before .before .is-quoted .ensures)
     (q .before .inner2 .ensures) (q .is-quoted2 .ensures) in
     sym (greater-before _ _ (sym same ∙ sym (c .before .before .compare-read .ensures) ∙ c .enum-told3 .given .1))
 

@@ -9,11 +9,11 @@ use Rattle.trees.proofs.compare_read.Statement.{statement}
 use Rattle.trees.proofs.compare_read.Tie as tie
 
 abbrev Inv-loop : tie.InvT-loop
-Inv-loop a aquoted b bquoted i₀ i =
-    (i ≤ length a) × (i ≤ length b) × OrderFrom aquoted bquoted a b i
+Inv-loop edition a aquoted b bquoted i₀ i =
+    (i ≤ length a) × (i ≤ length b) × OrderFrom edition aquoted bquoted a b i
 
 abbrev μ-loop : tie.MeasureT-loop
-μ-loop a aquoted b bquoted i₀ i =
+μ-loop edition a aquoted b bquoted i₀ i =
     length a - i
 
 loop-holds : tie.Need-loop-holds Inv-loop μ-loop
@@ -24,7 +24,7 @@ returns : tie.Need-returns Inv-loop μ-loop
 returns c =
     let a = c .before .before .before .before .before .args in
     let l = c .before .before .loop in
-    read-second-ends (a .aquoted) (a .bquoted) (a .a .now) (a .b .now) (l .i) (l .inv .2) (omega arith) (omega arith)
+    read-second-ends (a .edition) (a .aquoted) (a .bquoted) (a .a .now) (a .b .now) (l .i) (l .inv .2) (omega arith) (omega arith)
 
 shared-slice-read-decode : tie.Need-shared-slice-read-decode Inv-loop μ-loop
 shared-slice-read-decode c =
@@ -48,7 +48,7 @@ returns-2 c =
     let l = c .before .before .before .before .before .before .before .loop in
     let x = c .before .before .before .decode .ensures in
     let y = c .before .decode2 .ensures in
-    read-less (a .aquoted) (a .bquoted) (a .a .now) (a .b .now) (l .i) (l .inv .2) (omega arith) (omega arith) (omega arith)
+    read-less (a .edition) (a .aquoted) (a .bquoted) (a .a .now) (a .b .now) (l .i) (l .inv .2) (omega arith) (omega arith) (omega arith)
 
 returns-3 : tie.Need-returns-3 Inv-loop μ-loop
 returns-3 c =
@@ -56,7 +56,7 @@ returns-3 c =
     let l = c .before .before .before .before .before .before .before .before .loop in
     let x = c .before .before .before .before .decode .ensures in
     let y = c .before .before .decode2 .ensures in
-    read-greater (a .aquoted) (a .bquoted) (a .a .now) (a .b .now) (l .i) (l .inv .2) (omega arith) (omega arith) (omega arith)
+    read-greater (a .edition) (a .aquoted) (a .bquoted) (a .a .now) (a .b .now) (l .i) (l .inv .2) (omega arith) (omega arith) (omega arith)
 
 add-i : tie.Need-add-i Inv-loop μ-loop
 add-i c =
@@ -72,19 +72,19 @@ loop-again c =
     let l = c .before .before .before .before .before .before .before .before .loop in
     let x = c .before .before .before .before .decode .ensures in
     let y = c .before .before .decode2 .ensures in
-    (omega arith, omega arith, read-level (a .aquoted) (a .bquoted) (a .a .now) (a .b .now) (l .i) (l .inv .2) (omega arith) (omega arith) (omega arith))
+    (omega arith, omega arith, read-level (a .edition) (a .aquoted) (a .bquoted) (a .a .now) (a .b .now) (l .i) (l .inv .2) (omega arith) (omega arith) (omega arith))
 
 returns-4 : tie.Need-returns-4 Inv-loop μ-loop
 returns-4 c =
     let a = c .before .before .before .before .before .args in
     let l = c .before .before .loop in
-    read-first-ends (a .aquoted) (a .bquoted) (a .a .now) (a .b .now) (l .i) (l .inv .2) (omega arith) (omega arith)
+    read-first-ends (a .edition) (a .aquoted) (a .bquoted) (a .a .now) (a .b .now) (l .i) (l .inv .2) (omega arith) (omega arith)
 
 returns-5 : tie.Need-returns-5 Inv-loop μ-loop
 returns-5 c =
     let a = c .before .before .before .before .before .args in
     let l = c .before .before .loop in
-    read-both-end (a .aquoted) (a .bquoted) (a .a .now) (a .b .now) (l .i) (l .inv .2) (omega arith) (omega arith)
+    read-both-end (a .edition) (a .aquoted) (a .bquoted) (a .a .now) (a .b .now) (l .i) (l .inv .2) (omega arith) (omega arith)
 
 pub compare-read-spec : {M : Type 1} → statement M
 compare-read-spec =

@@ -9,11 +9,11 @@ use Rattle.trees.proofs.same_all.Statement.{statement}
 use Rattle.trees.proofs.same_all.Tie as tie
 
 abbrev Inv-loop : tie.InvT-loop
-Inv-loop a aquoted b bquoted i₀ i =
-    (i ≤ length a) × SameFrom aquoted bquoted a b i
+Inv-loop edition a aquoted b bquoted i₀ i =
+    (i ≤ length a) × SameFrom edition aquoted bquoted a b i
 
 abbrev μ-loop : tie.MeasureT-loop
-μ-loop a aquoted b bquoted i₀ i =
+μ-loop edition a aquoted b bquoted i₀ i =
     length a - i
 
 loop-holds : tie.Need-loop-holds Inv-loop μ-loop
@@ -41,7 +41,7 @@ returns c =
     let a = c .before .before .before .before .before .before .before .before .before .args in
     let x = c .before .before .before .decode .ensures in
     let y = c .before .decode2 .ensures in
-    sym (read-differ (a .aquoted) (a .bquoted) (a .a .now) (a .b .now) _ (omega arith) (omega arith) (λ e. c .if1 .taken (x ∙ e ∙ sym y)))
+    sym (read-differ (a .edition) (a .aquoted) (a .bquoted) (a .a .now) (a .b .now) _ (omega arith) (omega arith) (λ e. c .if1 .taken (x ∙ e ∙ sym y)))
 
 add-i : tie.Need-add-i Inv-loop μ-loop
 add-i c =
@@ -57,13 +57,13 @@ loop-again c =
     let l = c .before .before .before .before .before .before .loop in
     let x = c .before .before .before .decode .ensures in
     let y = c .before .decode2 .ensures in
-    (omega arith, read-agrees (a .aquoted) (a .bquoted) (a .a .now) (a .b .now) (l .i) (l .inv .1) (omega arith) (omega arith) (omega arith))
+    (omega arith, read-agrees (a .edition) (a .aquoted) (a .bquoted) (a .a .now) (a .b .now) (l .i) (l .inv .1) (omega arith) (omega arith) (omega arith))
 
 returns-2 : tie.Need-returns-2 Inv-loop μ-loop
 returns-2 c =
     let a = c .before .before .before .before .args in
     let l = c .before .loop in
-    read-same (a .aquoted) (a .bquoted) (a .a .now) (a .b .now) (l .i) (l .inv .1) (omega arith) (omega arith)
+    read-same (a .edition) (a .aquoted) (a .bquoted) (a .a .now) (a .b .now) (l .i) (l .inv .1) (omega arith) (omega arith)
 
 pub same-all-spec : {M : Type 1} → statement M
 same-all-spec =

@@ -26,7 +26,7 @@ returns c =
     let a = c .before .before .before .before .before .before .before .args in
     let q = c .before in
     c .same-read .ensures
-    ∙ both-told sameLabel (a .a .now) (a .b .now) _ _ _ _ (q .before .before .before .inner .ensures) (q .before .before .is-quoted .ensures) (q .before .inner2 .ensures) (q .is-quoted2 .ensures)
+    ∙ both-told (a .edition) sameLabel (a .a .now) (a .b .now) _ _ _ _ (q .before .before .before .inner .ensures) (q .before .before .is-quoted .ensures) (q .before .inner2 .ensures) (q .is-quoted2 .ensures)
 
 pub same-label-spec : {M : Type 1} → statement M
 same-label-spec =

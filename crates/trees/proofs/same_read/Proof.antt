@@ -9,12 +9,12 @@ use Rattle.trees.proofs.same_read.Tie as tie
 returns : tie.Need-returns
 returns c =
     let a = c .before .before .before .args in
-    sym (read-lengths (a .aquoted) (a .bquoted) (a .a .now) (a .b .now) (c .if1 .taken))
+    sym (read-lengths (a .edition) (a .aquoted) (a .bquoted) (a .a .now) (a .b .now) (c .if1 .taken))
 
 returns-2 : tie.Need-returns-2
 returns-2 c =
     let a = c .before .before .before .before .args in
-    read-same (a .aquoted) (a .bquoted) (a .a .now) (a .b .now) 0 refl (omega arith) (omega arith)
+    read-same (a .edition) (a .aquoted) (a .bquoted) (a .a .now) (a .b .now) 0 refl (omega arith) (omega arith)
 
 sub-decode : tie.Need-sub-decode
 sub-decode c = search needs
@@ -39,7 +39,7 @@ returns-3 c =
     let a = c .before .before .before .before .before .before .before .before .before .args in
     let x = c .before .before .before .decode .ensures in
     let y = c .before .decode2 .ensures in
-    sym (read-differ (a .aquoted) (a .bquoted) (a .a .now) (a .b .now) _ (omega arith) (omega arith) (λ e. c .if3 .taken (x ∙ e ∙ sym y)))
+    sym (read-differ (a .edition) (a .aquoted) (a .bquoted) (a .a .now) (a .b .now) _ (omega arith) (omega arith) (λ e. c .if3 .taken (x ∙ e ∙ sym y)))
 
 same-all-requires : tie.Need-same-all-requires
 same-all-requires c κs = search needs

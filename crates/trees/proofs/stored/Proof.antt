@@ -12,11 +12,11 @@ use Rattle.trees.proofs.stored.Statement.{statement}
 use Rattle.trees.proofs.stored.Tie as tie
 
 abbrev Inv-loop : tie.InvT-loop
-Inv-loop token x quoted len bytes₀ i₀ bytes i =
-    (i ≤ len) × (len ≡ min (length x) labelLimit) × (bytes ≡ copied labelLimit (readAs quoted x) i)
+Inv-loop edition token x quoted len bytes₀ i₀ bytes i =
+    (i ≤ len) × (len ≡ min (length x) labelLimit) × (bytes ≡ copied labelLimit (readAs edition quoted x) i)
 
 abbrev μ-loop : tie.MeasureT-loop
-μ-loop token x quoted len bytes₀ i₀ bytes i =
+μ-loop edition token x quoted len bytes₀ i₀ bytes i =
     len - i
 
 inner-requires : tie.Need-inner-requires Inv-loop μ-loop
@@ -57,22 +57,24 @@ loop-less c =
 
 loop-again : tie.Need-loop-again Inv-loop μ-loop
 loop-again c =
+    let e = c .before .before .before .before .before .before .before .before .args .edition in
     let l = c .before .before .before .loop in
     let q = c .before .before .before .before .before .is-quoted .result in
     let x = c .before .before .before .before .before .before .inner .result .now in
-    let n = read-size q x in
-    (omega arith, l .inv .1, copy-next labelLimit (readAs q x) (l .i) _ (l .bytes) (l .inv .2) (c .decode .ensures ∙ sym (read-at q x (l .i) (omega arith))) (omega arith) (omega arith))
+    let n = read-size e q x in
+    (omega arith, l .inv .1, copy-next labelLimit (readAs e q x) (l .i) _ (l .bytes) (l .inv .2) (c .decode .ensures ∙ sym (read-at e q x (l .i) (omega arith))) (omega arith) (omega arith))
 
 returns : tie.Need-returns Inv-loop μ-loop
 returns c =
+    let e = c .before .before .before .before .before .before .args .edition in
     let l = c .before .loop in
     let q = c .before .before .before .is-quoted .result in
     let x = c .before .before .before .before .inner .result .now in
-    let n = read-size q x in
-    let e : l .i ≡ c .before .before .least .result = omega arith in
-    rw (← e)
-    (stored-made (readAs q x) (l .i) (l .bytes) (omega arith) (l .inv .2)
-    ∙ ap storedOf (spelling-told _ q x (c .before .before .before .is-quoted .ensures) (c .before .before .before .before .inner .ensures)))
+    let n = read-size e q x in
+    let all : l .i ≡ c .before .before .least .result = omega arith in
+    rw (← all)
+    (stored-made (readAs e q x) (l .i) (l .bytes) (omega arith) (l .inv .2)
+    ∙ ap storedOf (spelling-told e _ q x (c .before .before .before .is-quoted .ensures) (c .before .before .before .before .inner .ensures)))
 
 pub stored-spec : {M : Type 1} → statement M
 stored-spec =

@@ -1,5 +1,10 @@
 -- `stored_leaf` meets its contract: what is stored is read of the part of the text that shows the leaf. Assumes nothing.
+use mathlib.Core.Path.{sym, ap, _∙_}
 use borrow.Author.Needs.{needs}
+use Rattle.trees.specs.Edition.{inEdition}
+use Rattle.trees.specs.Stored.{storedOf}
+use Rattle.trees.specs.Token.{Token, spelling}
+use Rattle.trees.proofs.FoldLaws.{fold-part}
 use Rattle.trees.proofs.stored_leaf.Statement.{statement}
 use Rattle.trees.proofs.stored_leaf.Tie as tie
 
@@ -11,7 +16,9 @@ stored-requires c κs = search needs
 
 returns : tie.Need-returns
 returns c =
-    cc
+    let a = c .before .before .before .before .before .args in
+    c .stored .ensures
+    ∙ ap (λ (x : Token). storedOf (spelling x)) (ap (inEdition (a .edition)) (c .before .leaf-label .ensures) ∙ sym (fold-part (a .edition) _ _ (a .text .now)))
 
 pub stored-leaf-spec : {M : Type 1} → statement M
 stored-leaf-spec = tie.close (tie.spec leaf-label-requires stored-requires returns)

@@ -3,17 +3,18 @@ use Prim.Native.Nat.{ℕ, _≤_, _<_, _-_}
 use mathlib.Core.Path.{_≡_}
 use native.Mathlib.Omega.{arith}
 use lib.ListN.{length, getD, length-set, length-replicate}
+use Rattle.trees.specs.Edition.{inEdition}
 use Rattle.triples.specs.Loops.{rankIn, InOrder}
 use Rattle.triples.proofs.LoopLaws.{rank-below, order-next, set-low, zeros-low}
 use Rattle.triples.proofs.label_order.Statement.{statement}
 use Rattle.triples.proofs.label_order.Tie as tie
 
 abbrev Inv-loop : tie.InvT-loop
-Inv-loop list start size count order₀ k₀ order k =
-    (k ≤ count) × (length order ≡ 80) × ((i : ℕ) → getD order i 0 < 80) × InOrder (rankIn list start size count) count k order
+Inv-loop edition list start size count order₀ k₀ order k =
+    (k ≤ count) × (length order ≡ 80) × ((i : ℕ) → getD order i 0 < 80) × InOrder (rankIn (inEdition edition list) start size count) count k order
 
 abbrev μ-loop : tie.MeasureT-loop
-μ-loop list start size count order₀ k₀ order k =
+μ-loop edition list start size count order₀ k₀ order k =
     count - k
 
 loop-holds : tie.Need-loop-holds Inv-loop μ-loop
@@ -31,7 +32,7 @@ mul-order c =
     omega (
       arith,
       c .rank .ensures,
-      rank-below (c8 .args .list .now) (c8 .args .places .start) (c8 .args .places .size)
+      rank-below (inEdition (c8 .args .edition) (c8 .args .list .now)) (c8 .args .places .start) (c8 .args .places .size)
           (c8 .args .places .count) (c4 .loop .k) (c .before .before .before .loop-test .taken),
     )
 
@@ -42,7 +43,7 @@ array-write-order c =
     omega (
       arith,
       c .rank .ensures,
-      rank-below (c8 .args .list .now) (c8 .args .places .start) (c8 .args .places .size)
+      rank-below (inEdition (c8 .args .edition) (c8 .args .list .now)) (c8 .args .places .start) (c8 .args .places .size)
           (c8 .args .places .count) (c4 .loop .k) (c .before .before .before .loop-test .taken),
     )
 
@@ -61,13 +62,13 @@ loop-again c =
     let l = c4 .loop .inv .1 in
     let a = c8 .args in
     let e = c .rank .ensures in
-    let b = rank-below (a .list .now) (a .places .start) (a .places .size) (a .places .count) (c4 .loop .k)
+    let b = rank-below (inEdition (a .edition) (a .list .now)) (a .places .start) (a .places .size) (a .places .count) (c4 .loop .k)
     (c .before .before .before .loop-test .taken) in (
       omega arith,
       simp length-set l,
       set-low (c4 .loop .order) (c .rank .result) (c4 .loop .k) 80 (omega (arith, l, b, e))
           (c4 .loop .inv .2) (omega arith),
-      order-next (rankIn (a .list .now) (a .places .start) (a .places .size) (a .places .count))
+      order-next (rankIn (inEdition (a .edition) (a .list .now)) (a .places .start) (a .places .size) (a .places .count))
           (a .places .count) (c4 .loop .k) (c .rank .result) (c4 .loop .order) (c .before .before .before .loop-test .taken) e (omega
           (arith, l, b, e)) (c4 .loop .inv .3),
     )

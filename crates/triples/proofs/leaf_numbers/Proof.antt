@@ -1,7 +1,9 @@
 -- The invariant: each label passed has its leaf number. Assumes nothing.
-use mathlib.Core.Path.{ap, _≡_, _∙_}
+use mathlib.Core.Path.{ap, sym, _≡_, _∙_}
 use Prim.Native.Nat.{ℕ, _≤_, _<_, _-_}
 use native.Mathlib.Omega.{arith}
+use Rattle.trees.specs.Edition.{inEdition}
+use Rattle.trees.proofs.FoldLaws.{fold-part}
 use borrow.Author.Needs.{needs}
 use lib.ListN.{length, getD, length-set, length-replicate}
 use Rattle.trees.specs.Token.{Token, spelling}
@@ -12,12 +14,12 @@ use Rattle.triples.proofs.leaf_numbers.Statement.{statement}
 use Rattle.triples.proofs.leaf_numbers.Tie as tie
 
 abbrev Inv-loop : tie.InvT-loop
-Inv-loop text list left start size nodes list-start list-size count leaf₀ k₀ leaf k =
-    (k ≤ count) × (length leaf ≡ 80) × ((i : ℕ) → i < k → getD leaf i 0 ≡ foundLeaf text left start size
-    (labelIn list list-start list-size i) nodes)
+Inv-loop edition text list left start size nodes list-start list-size count leaf₀ k₀ leaf k =
+    (k ≤ count) × (length leaf ≡ 80) × ((i : ℕ) → i < k → getD leaf i 0 ≡ foundLeaf (inEdition edition text) left start size
+    (labelIn (inEdition edition list) list-start list-size i) nodes)
 
 abbrev μ-loop : tie.MeasureT-loop
-μ-loop text list left start size nodes list-start list-size count leaf₀ k₀ leaf k =
+μ-loop edition text list left start size nodes list-start list-size count leaf₀ k₀ leaf k =
     count - k
 
 loop-holds : tie.Need-loop-holds Inv-loop μ-loop
@@ -74,10 +76,10 @@ loop-again c =
     let a = c14 .args in (
       omega arith,
       simp length-set l,
-      store-next (λ i x. x ≡ foundLeaf (a .text .now) (a .tree .left) (a .tree .start) (a .tree .size)
-          (labelIn (a .list .now) (a .places .start) (a .places .size) i) (a .tree .nodes)) (c6 .loop .leaf) (c6 .loop .k) _ (omega
-          (arith, l)) (c6 .loop .inv .2) (c .find-leaf .ensures ∙ ap (λ (p : Token). foundLeaf (a .text .now) (a .tree .left)
-          (a .tree .start) (a .tree .size) (spelling p) (a .tree .nodes)) (c4 .part .ensures)),
+      store-next (λ i x. x ≡ foundLeaf (inEdition (a .edition) (a .text .now)) (a .tree .left) (a .tree .start) (a .tree .size)
+          (labelIn (inEdition (a .edition) (a .list .now)) (a .places .start) (a .places .size) i) (a .tree .nodes)) (c6 .loop .leaf) (c6 .loop .k) _ (omega
+          (arith, l)) (c6 .loop .inv .2) (c .find-leaf .ensures ∙ ap (λ (p : Token). foundLeaf (inEdition (a .edition) (a .text .now)) (a .tree .left)
+          (a .tree .start) (a .tree .size) (spelling p) (a .tree .nodes)) (ap (inEdition (a .edition)) (c4 .part .ensures) ∙ sym (fold-part (a .edition) _ _ (a .list .now)))),
     )
 
 returns : tie.Need-returns Inv-loop μ-loop

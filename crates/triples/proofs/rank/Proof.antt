@@ -1,6 +1,7 @@
 -- The invariant: so many of the labels passed come before label k. Assumes nothing.
 use mathlib.Core.Path.{ap, ap₂, _≡_, refl, sym, _∙_}
 use Prim.Native.Nat.{_+_, _≤_, _-_}
+use Rattle.trees.specs.Edition.{inEdition}
 use Rattle.triples.proofs.LoopLaws.{count-fits, less-count-next}
 use native.Mathlib.Omega.{arith}
 use Rattle.triples.specs.Loops.{labelIn, lessCount, rankIn}
@@ -8,11 +9,11 @@ use Rattle.triples.proofs.rank.Statement.{statement}
 use Rattle.triples.proofs.rank.Tie as tie
 
 abbrev Inv-loop : tie.InvT-loop
-Inv-loop list start size count k r₀ j₀ r j =
-    (j ≤ count) × (r ≡ lessCount (labelIn list start size) (labelIn list start size k) j)
+Inv-loop edition list start size count k r₀ j₀ r j =
+    (j ≤ count) × (r ≡ lessCount (labelIn (inEdition edition list) start size) (labelIn (inEdition edition list) start size k) j)
 
 abbrev μ-loop : tie.MeasureT-loop
-μ-loop list start size count k r₀ j₀ r j =
+μ-loop edition list start size count k r₀ j₀ r j =
     count - j
 
 loop-holds : tie.Need-loop-holds Inv-loop μ-loop

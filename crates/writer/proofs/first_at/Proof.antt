@@ -1,5 +1,6 @@
 -- `writer::first_at` meets its contract: a leaf, or the child that goes first. Assumes nothing.
 use mathlib.Core.Path.{sym, _∙_}
+use Rattle.trees.specs.Edition.{inEdition}
 use Rattle.writer.proofs.StackLaws.{first-leaf, first-node}
 use borrow.Author.Needs.{needs}
 use Rattle.writer.proofs.first_at.Statement.{statement}
@@ -12,7 +13,7 @@ returns : tie.Need-returns
 returns c =
     let c8 = c .before .before .before .before .before .before .before .before in
     let a = c8 .args in
-    first-leaf (a .text .now) (a .left .now) (a .right .now) (a .start .now) (a .size .now) (a .least .now) (a .u)
+    first-leaf (inEdition (a .edition) (a .text .now)) (a .left .now) (a .right .now) (a .start .now) (a .size .now) (a .least .now) (a .u)
     (sym (c .before .entry .ensures) ∙ c .if1 .taken)
 
 entry-requires-2 : tie.Need-entry-requires-2
@@ -30,7 +31,7 @@ returns-2 c =
     let c4 = c3 .before in
     let c11 = c4 .before .before .before .before .before .before .before in
     let a = c11 .args in
-    first-node (a .text .now) (a .left .now) (a .right .now) (a .start .now) (a .size .now) (a .least .now) (a .u)
+    first-node (inEdition (a .edition) (a .text .now)) (a .left .now) (a .right .now) (a .start .now) (a .size .now) (a .least .now) (a .u)
     (c4 .entry .result) (c .before .before .entry2 .result) (c4 .entry .ensures) (c .before .before .entry2 .ensures) (c3 .if1 .left) (c .before .goes-first .result)
     (c .before .goes-first .ensures) (c .pick .result) (c .pick .ensures)
 

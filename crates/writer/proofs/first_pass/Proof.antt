@@ -4,18 +4,19 @@ use Prim.Native.Nat.{ℕ, _-_, _≤_, _<_}
 use mathlib.Core.Path.{_≡_, refl, _∙_}
 use native.Mathlib.Omega.{arith}
 use lib.ListN.{length, getD, length-set}
+use Rattle.trees.specs.Edition.{inEdition}
 use Rattle.writer.specs.Passes.{firstAt}
 use Rattle.trees.proofs.EntryLaws.{store-next}
 use Rattle.writer.proofs.first_pass.Statement.{statement}
 use Rattle.writer.proofs.first_pass.Tie as tie
 
 abbrev Inv-loop : tie.InvT-loop
-Inv-loop text left right start size least nodes first₀ u₀ first u =
+Inv-loop edition text left right start size least nodes first₀ u₀ first u =
     (u ≤ nodes) × (length first ≡ length first₀)
-    × ((k : ℕ) → k < u → getD first k 0 ≡ firstAt text left right start size least k)
+    × ((k : ℕ) → k < u → getD first k 0 ≡ firstAt (inEdition edition text) left right start size least k)
 
 abbrev μ-loop : tie.MeasureT-loop
-μ-loop text left right start size least nodes first₀ u₀ first u =
+μ-loop edition text left right start size least nodes first₀ u₀ first u =
     nodes - u
 
 loop-holds : tie.Need-loop-holds Inv-loop μ-loop
@@ -49,7 +50,7 @@ loop-again c =
     let a = c10 .args in (
       omega arith,
       length-set (at .first) (at .u) (c .first-at .result) ∙ at .inv .1,
-      store-next (λ k x. x ≡ firstAt (a .text .now) (a .left .now) (a .right .now) (a .start .now) (a .size .now) (a .least .now) k)
+      store-next (λ k x. x ≡ firstAt (inEdition (a .edition) (a .text .now)) (a .left .now) (a .right .now) (a .start .now) (a .size .now) (a .least .now) k)
           (at .first) (at .u) (c .first-at .result) (omega (arith, at .inv .1)) (at .inv .2) (c .first-at .ensures),
     )
 

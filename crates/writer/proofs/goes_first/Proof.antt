@@ -1,9 +1,5 @@
 -- `writer::goes_first` meets its contract. Assumes nothing.
-use mathlib.Core.Path.{_∙_, ap, ap₂}
-use Rattle.trees.specs.Label.{labelLess}
-use Rattle.trees.specs.Token.{Token, spelling}
-use Rattle.trees.specs.Stored.{leafLabel}
-use Rattle.writer.specs.Passes.{goesFirst}
+use Rattle.writer.proofs.StepLaws.{order-told}
 use borrow.Author.Needs.{needs}
 use Rattle.writer.proofs.goes_first.Statement.{statement}
 use Rattle.writer.proofs.goes_first.Tie as tie
@@ -24,14 +20,14 @@ comes-before-requires : tie.Need-comes-before-requires
 comes-before-requires c κs = search needs
 
 returns : tie.Need-returns
-unfolding goesFirst
 returns c =
     let c4 = c .before .before .before .before in
     let a = c4 .before .before .before .before .before .args in
-    let label = leafLabel (a .text .now) (a .start .now) (a .size .now) in
-    c .comes-before .ensures
-    ∙ ap₂ (λ (x y : Token). labelLess (spelling x) (spelling y)) (c .before .before .leaf-label .ensures ∙ ap label (c4 .entry .ensures))
-    (c .before .leaf-label2 .ensures ∙ ap label (c .before .before .before .entry2 .ensures))
+    let x = c .before .before .leaf-label in
+    let y = c .before .leaf-label2 in
+    order-told (a .edition) (a .text .now) (a .start .now) (a .size .now) (a .least .now) (a .i) (a .j) (c4 .entry .result)
+    (c .before .before .before .entry2 .result) (c4 .entry .ensures) (c .before .before .before .entry2 .ensures)
+    (x .result .now) (y .result .now) (x .ensures) (y .ensures) (c .comes-before .result) (c .comes-before .ensures)
 
 pub goes-first-spec : {M : Type 1} → statement M
 goes-first-spec =

@@ -1,5 +1,6 @@
 -- `writer::least_at` meets its contract. Assumes nothing.
 use mathlib.Core.Path.{sym, _∙_}
+use Rattle.trees.specs.Edition.{inEdition}
 use Rattle.writer.proofs.StepLaws.{least-leaf, least-node}
 use borrow.Author.Needs.{needs}
 use Rattle.writer.proofs.least_at.Statement.{statement}
@@ -11,7 +12,7 @@ entry-requires c κs = search needs
 returns : tie.Need-returns
 returns c =
     let a = c .before .before .before .before .before .before .before .before .args in
-    least-leaf (a .text .now) (a .left .now) (a .right .now) (a .start .now) (a .size .now) (a .least .now) (a .u)
+    least-leaf (inEdition (a .edition) (a .text .now)) (a .left .now) (a .right .now) (a .start .now) (a .size .now) (a .least .now) (a .u)
     (sym (c .before .entry .ensures) ∙ c .if1 .taken)
 
 entry-requires-2 : tie.Need-entry-requires-2
@@ -35,7 +36,7 @@ returns-2 c =
     let l = c .before .before .before .before .before .before .entry in
     let r = c .before .before .before .before .entry2 in
     let f = c .before .before .before .goes-first in
-    least-node (a .text .now) (a .left .now) (a .right .now) (a .start .now) (a .size .now) (a .least .now) (a .u) (l .result) (r .result)
+    least-node (inEdition (a .edition) (a .text .now)) (a .left .now) (a .right .now) (a .start .now) (a .size .now) (a .least .now) (a .u) (l .result) (r .result)
     (l .ensures) (r .ensures) (c .before .before .before .before .before .if1 .left) (f .result) (f .ensures)
     (c .before .before .entry3 .result) (c .before .entry4 .result)
     (c .before .before .entry3 .ensures) (c .before .entry4 .ensures) (c .pick .result) (c .pick .ensures)

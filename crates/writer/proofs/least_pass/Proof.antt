@@ -4,17 +4,18 @@ use mathlib.Core.Path.{_≡_, refl, _∙_, ap}
 use native.Mathlib.Omega.{arith}
 use borrow.Author.Needs.{needs}
 use lib.ListN.{length, length-set}
+use Rattle.trees.specs.Edition.{inEdition}
 use Rattle.writer.specs.Passes.{pass, leastAt}
 use Rattle.writer.proofs.PassLaws.{pass-step}
 use Rattle.writer.proofs.least_pass.Statement.{statement}
 use Rattle.writer.proofs.least_pass.Tie as tie
 
 abbrev Inv-loop : tie.InvT-loop
-Inv-loop text left right start size nodes least₀ u₀ least u =
-    (u ≤ nodes) × (least ≡ pass (leastAt text left right start size) least₀ u) × (length least ≡ length least₀)
+Inv-loop edition text left right start size nodes least₀ u₀ least u =
+    (u ≤ nodes) × (least ≡ pass (leastAt (inEdition edition text) left right start size) least₀ u) × (length least ≡ length least₀)
 
 abbrev μ-loop : tie.MeasureT-loop
-μ-loop text left right start size nodes least₀ u₀ least u =
+μ-loop edition text left right start size nodes least₀ u₀ least u =
     nodes - u
 
 loop-holds : tie.Need-loop-holds Inv-loop μ-loop
@@ -47,7 +48,7 @@ loop-again c =
     let at = c .before .before .before .loop in
     let a = c .before .before .before .before .before .before .before .before .before .before .args in (
       omega arith,
-      pass-step (leastAt (a .text .now) (a .left .now) (a .right .now) (a .start .now) (a .size .now)) (a .least .now) (at .least) (at .u)
+      pass-step (leastAt (inEdition (a .edition) (a .text .now)) (a .left .now) (a .right .now) (a .start .now) (a .size .now)) (a .least .now) (at .least) (at .u)
           (c .least-at .result) (at .inv .1) (c .least-at .ensures),
       length-set (at .least) (at .u) (c .least-at .result) ∙ at .inv .2,
     )
@@ -61,7 +62,7 @@ returns c =
     let a = c .before .before .before .before .before .before .before .before .args in
     let e : c .before .loop .u ≡ a .nodes = omega arith in
     c .before .loop .inv .1
-    ∙ ap (pass (leastAt (a .text .now) (a .left .now) (a .right .now) (a .start .now) (a .size .now)) (a .least .now)) e
+    ∙ ap (pass (leastAt (inEdition (a .edition) (a .text .now)) (a .left .now) (a .right .now) (a .start .now) (a .size .now)) (a .least .now)) e
 
 pub least-pass-spec : {M : Type 1} → statement M
 least-pass-spec =

@@ -1,21 +1,28 @@
 -- `writer::put_tree` meets its contract. The invariant: what is stored and what the stack will store is the whole text; the measure is
--- the number of steps that are left. Assumes nothing.
+-- the number of steps that are left. The loop never reads the edition, so the invariant is for each that orders the children so. Assumes
+-- nothing.
 use Prim.Native.Nat.{ℕ, _-_}
 use mathlib.Core.Path.{_≡_, sym, subst}
 use native.Mathlib.Omega.{arith}
-use Rattle.writer.specs.Passes.{arraysFrom, nodeText, stackSteps}
+use Rattle.trees.specs.declared.Edition.{Edition}
+use Rattle.trees.specs.declared.TreeArrays.{TreeArrays}
+use Rattle.writer.specs.Passes.{arraysFrom, nodeText, stackSteps, Children}
 use Rattle.writer.proofs.StackLaws.{Writing, depth-few, writing-start, has-room, own-fits, writing-next, fewer-steps, writing-end}
 use Rattle.writer.proofs.put_tree.Statement.{statement}
 use Rattle.writer.proofs.put_tree.Tie as tie
 
 abbrev Inv-loop : tie.InvT-loop
 Inv-loop text nodes left right start size first out₀ stack₀ depth₀ at₀ out stack depth at =
-    Writing (arraysFrom nodes left right start size) text nodes (nodeText (arraysFrom nodes left right start size) text (nodes - 1)) out₀
+    (e : Edition) → Children e (arraysFrom nodes left right start size) text first nodes
+    → Writing e (arraysFrom nodes left right start size) text nodes (nodeText e (arraysFrom nodes left right start size) text (nodes - 1)) out₀
     out stack depth at
 
 abbrev μ-loop : tie.MeasureT-loop
 μ-loop text nodes left right start size first out₀ stack₀ depth₀ at₀ out stack depth at =
     stackSteps (arraysFrom nodes left right start size) text stack depth
+
+abbrev arrays : tie.Start Inv-loop μ-loop → TreeArrays
+arrays b = arraysFrom (b .args .nodes) (b .args .left .now) (b .args .right .now) (b .args .start .now) (b .args .size .now)
 
 sub-stack : tie.Need-sub-stack Inv-loop μ-loop
 sub-stack c =
@@ -27,10 +34,9 @@ array-write-stack c =
 
 loop-holds : tie.Need-loop-holds Inv-loop μ-loop
 loop-holds c =
-    let c7 = c .before .before .before .before .before .before .before in
-    let a = c7 .args in
-    writing-start (arraysFrom (a .nodes) (a .left .now) (a .right .now) (a .start .now) (a .size .now)) (a .text .now) (a .nodes)
-    (c7 .pre .0 .1) (a .out .now) (a .nodes - 1) (omega arith) (c7 .pre .1 .1 .0)
+    let b = c .before .before .before .before .before .before .before in
+    let a = b .args in
+    λ e children. writing-start e (arrays b) (a .text .now) (a .nodes) (b .pre .0 .1) (a .out .now) (a .nodes - 1) (omega arith) (b .pre .1 .1 .0)
 
 sub-depth : tie.Need-sub-depth Inv-loop μ-loop
 sub-depth c =
@@ -38,68 +44,73 @@ sub-depth c =
 
 mul-k : tie.Need-mul-k Inv-loop μ-loop
 mul-k c =
-    omega (arith, depth-few (c .before .loop .inv))
+    let b = c .before .before .before .before .before .before .before .before .before in
+    omega (arith, depth-few (c .before .loop .inv (b .args .edition) (b .pre .1 .0)))
 
 array-read-k : tie.Need-array-read-k Inv-loop μ-loop
 array-read-k c =
-    omega (arith, depth-few (c .before .loop .inv))
+    let b = c .before .before .before .before .before .before .before .before .before in
+    omega (arith, depth-few (c .before .loop .inv (b .args .edition) (b .pre .1 .0)))
 
 put-own-requires : tie.Need-put-own-requires Inv-loop μ-loop
 put-own-requires c κs =
-    let c10 = c .before .before .before .before .before .before .before .before .before .before in
-    let a = c10 .args in
-    own-fits (arraysFrom (a .nodes) (a .left .now) (a .right .now) (a .start .now) (a .size .now)) (a .text .now) (a .nodes)
-    (c10 .pre .0 .1) (a .out .now) (a .first .now) (c10 .pre .1 .0) _ _ _ _ _ (c .before .before .loop .depth - 1) (omega arith) (c .before .before .loop .inv)
-    (c10 .pre .1 .1 .1)
+    let l = c .before .before .loop in
+    let b = c .before .before .before .before .before .before .before .before .before .before in
+    let a = b .args in
+    own-fits (a .edition) (arrays b) (a .text .now) (a .nodes) (b .pre .0 .1) (a .out .now) (a .first .now) (b .pre .1 .0)
+    _ _ _ _ _ (l .depth - 1) (omega arith) (l .inv (a .edition) (b .pre .1 .0)) (b .pre .1 .1 .1)
 
 slice-aggregate-push : tie.Need-slice-aggregate-push Inv-loop μ-loop
 slice-aggregate-push c =
-    sym (c .before .before .before .before .before .before .loop .inv .long)
+    let p = c .before .before .before .before .before .before in
+    let b = p .before .before .before .before .before .before .before .before in
+    sym (p .loop .inv (b .args .edition) (b .pre .1 .0) .long)
 
 push-requires : tie.Need-push-requires Inv-loop μ-loop
 push-requires c κs =
-    let c6 = c .before .before .before .before .before .before in
-    let c14 = c6 .before .before .before .before .before .before .before .before in
-    let a = c14 .args in
-    has-room (arraysFrom (a .nodes) (a .left .now) (a .right .now) (a .start .now) (a .size .now)) (a .text .now) (a .nodes)
-    (c14 .pre .0 .1) (a .out .now) (a .first .now) (c14 .pre .1 .0) _ _ _ _ _ (c6 .loop .depth - 1) (omega arith) (c6 .loop .inv)
+    let p = c .before .before .before .before .before .before in
+    let b = p .before .before .before .before .before .before .before .before in
+    let a = b .args in
+    has-room (a .edition) (arrays b) (a .text .now) (a .nodes) (b .pre .0 .1) (a .out .now) (a .first .now) (b .pre .1 .0)
+    _ _ _ _ _ (p .loop .depth - 1) (omega arith) (p .loop .inv (a .edition) (b .pre .1 .0))
 
 loop-less : tie.Need-loop-less Inv-loop μ-loop
 loop-less c =
-    let c5 = c .before .before .before .before .before in
-    let c8 = c5 .before .before .before in
-    let c16 = c8 .before .before .before .before .before .before .before .before in
-    let a = c16 .args in
-    fewer-steps (arraysFrom (a .nodes) (a .left .now) (a .right .now) (a .start .now) (a .size .now)) (a .text .now) (a .nodes)
-    (c16 .pre .0 .1) (a .out .now) (a .first .now) (c16 .pre .1 .0) _ _ _ _ _ (c8 .loop .depth - 1) (omega arith) (c8 .loop .inv)
-    (c5 .put-own .last .1 .1 .1 .1 .1 .0) _ _ (c5 .put-own .result) (c .before .push .ensures .1) (c .before .push .ensures .0)
+    let p = c .before .before .before .before .before in
+    let l = p .before .before .before .loop in
+    let b = p .before .before .before .before .before .before .before .before .before .before .before in
+    let a = b .args in
+    fewer-steps (a .edition) (arrays b) (a .text .now) (a .nodes) (b .pre .0 .1) (a .out .now) (a .first .now) (b .pre .1 .0)
+    _ _ _ _ _ (l .depth - 1) (omega arith) (l .inv (a .edition) (b .pre .1 .0))
+    (p .put-own .last .1 .1 .1 .1 .1 .0) _ _ (p .put-own .result) (c .before .push .ensures .1) (c .before .push .ensures .0)
 
 loop-again : tie.Need-loop-again Inv-loop μ-loop
 loop-again c =
-    let c5 = c .before .before .before .before .before in
-    let c8 = c5 .before .before .before in
-    let c16 = c8 .before .before .before .before .before .before .before .before in
-    let a = c16 .args in
-    writing-next (arraysFrom (a .nodes) (a .left .now) (a .right .now) (a .start .now) (a .size .now)) (a .text .now) (a .nodes)
-    (c16 .pre .0 .1) (a .out .now) (a .first .now) (c16 .pre .1 .0) _ _ _ _ _ (c8 .loop .depth - 1) (omega arith) (c8 .loop .inv)
-    (c5 .put-own .last .1 .1 .1 .1 .1 .0) _ _ (c5 .put-own .result) (c .before .push .ensures .1) (c .before .push .ensures .0)
-    (c5 .put-own .ensures .0) (c5 .put-own .ensures .1) (c5 .put-own .kept .1 .1 .1 .1 .1 .0)
+    let p = c .before .before .before .before .before in
+    let l = p .before .before .before .loop in
+    let b = p .before .before .before .before .before .before .before .before .before .before .before in
+    let a = b .args in
+    λ e children.
+    writing-next e (arrays b) (a .text .now) (a .nodes) (b .pre .0 .1) (a .out .now) (a .first .now) children
+    _ _ _ _ _ (l .depth - 1) (omega arith) (l .inv e children)
+    (p .put-own .last .1 .1 .1 .1 .1 .0) _ _ (p .put-own .result) (c .before .push .ensures .1) (c .before .push .ensures .0)
+    (p .put-own .ensures .0) (p .put-own .ensures .1) (p .put-own .kept .1 .1 .1 .1 .1 .0)
 
 same-length : tie.Need-same-length Inv-loop μ-loop
 same-length c =
-    c .before .loop .inv .kept
+    let b = c .before .before .before .before .before .before .before .before .before in
+    c .before .loop .inv (b .args .edition) (b .pre .1 .0) .kept
 
 returns : tie.Need-returns Inv-loop μ-loop
 returns c =
-    let c9 = c .before .before .before .before .before .before .before .before .before in
-    let a = c9 .args in
+    let b = c .before .before .before .before .before .before .before .before .before in
+    let a = b .args in
     let l = c .before .loop in
-    let e : l .depth ≡ 0 = omega arith in
-    writing-end (arraysFrom (a .nodes) (a .left .now) (a .right .now) (a .start .now) (a .size .now)) (a .text .now) (a .nodes)
-    (c9 .pre .0 .1) (a .out .now) _ (l .out) (l .stack) (l .at)
-    (subst (λ (d : ℕ). Writing (arraysFrom (a .nodes) (a .left .now) (a .right .now) (a .start .now) (a .size .now)) (a .text .now) (a .nodes)
-    (nodeText (arraysFrom (a .nodes) (a .left .now) (a .right .now) (a .start .now) (a .size .now)) (a .text .now) (a .nodes - 1))
-    (a .out .now) (l .out) (l .stack) d (l .at)) e (l .inv))
+    let z : l .depth ≡ 0 = omega arith in
+    writing-end (a .edition) (arrays b) (a .text .now) (a .nodes) (b .pre .0 .1) (a .out .now) _ (l .out) (l .stack) (l .at)
+    (subst
+    (λ (d : ℕ). Writing (a .edition) (arrays b) (a .text .now) (a .nodes) (nodeText (a .edition) (arrays b) (a .text .now) (a .nodes - 1))
+    (a .out .now) (l .out) (l .stack) d (l .at)) z (l .inv (a .edition) (b .pre .1 .0)))
 
 pub put-tree-spec : {M : Type 1} → statement M
 put-tree-spec =

@@ -8,8 +8,8 @@ use lib.ListN.{length, replicate, set}
 use borrow.Author.Needs.{needs}
 use Rattle.trees.specs.declared.TreeArrays.{TreeArrays}
 use Rattle.trees.specs.Tree.{Tree, leaves}
-use Rattle.trees.specs.Text.{normalText}
 use Rattle.trees.specs.Arrays.{Standing, treeOf}
+use Rattle.trees.specs.Edition.{normalTextIn}
 use Rattle.writer.specs.declared.WriteAnswer.the-variants.{Written, Refused, NoTree}
 use Rattle.writer.specs.Write.{standingText, outputTooShort}
 use Rattle.writer.specs.Passes.{arraysFrom, below, nodeText, Leasts}
@@ -30,6 +30,10 @@ stands b = treeOf (arrays b) (b .args .text .now)
 abbrev root : tie.Start → Tree
 root b = below (arrays b) (b .args .text .now) (b .args .nodes - 1)
 
+-- the text of that tree
+abbrev rootText : tie.Start → List ℕ
+rootText b = normalTextIn (b .args .edition) (root b)
+
 -- at most 80 leaves: the root's text belongs in the output
 abbrev few-start : tie.Else1 → tie.Start
 few-start c = c .before .before .before .before .before .before .before .before .before
@@ -40,19 +44,19 @@ few-at c =
     found-few (arrays b) (b .args .text .now) (b .pre .0 .0) (b .pre .0 .1) (b .pre .1)
     (omega (arith, c .before .root-sum .ensures, c .if1 .left))
 
-text-at : (c : tie.Else1) → standingText (stands (few-start c)) ≡ some (normalText (root (few-start c)))
+text-at : (c : tie.Else1) → let b = few-start c in standingText (b .args .edition) (stands b) ≡ some (rootText b)
 text-at c =
     let b = few-start c in
-    stands-tree (arrays b) (b .args .text .now) (b .pre .0 .0) (b .pre .0 .1) (b .pre .1) (few-at c)
+    stands-tree (arrays b) (b .args .text .now) (b .pre .0 .0) (b .pre .0 .1) (b .pre .1) (b .args .edition) (few-at c)
 
 -- the length of its text is known, and the output is long enough
-long-at : (c : tie.After-text-size) → c .text-size .result ≡ length (normalText (root (few-start (c .before))))
-long-at c = c .text-size .ensures (few-at (c .before))
+long-at : (c : tie.After-text-size) → c .text-size .result ≡ length (rootText (few-start (c .before)))
+long-at c = c .text-size .ensures (few-start (c .before) .args .edition) (few-at (c .before))
 
 abbrev fit-start : tie.Else2 → tie.Start
 fit-start c = few-start (c .before .before)
 
-fits-at : (c : tie.Else2) → length (normalText (root (fit-start c))) ≤ length (fit-start c .args .out .now)
+fits-at : (c : tie.Else2) → length (rootText (fit-start c)) ≤ length (fit-start c .args .out .now)
 fits-at c = omega (arith, c .if2 .left, long-at (c .before))
 
 abbrev fit-of : tie.After-slice-known2 → tie.Else2
@@ -70,8 +74,8 @@ returns : tie.Need-returns
 returns c =
     let b = c .before .before .before .before .before .before .before .before .before in
     let o = b .args .out .now in
-    done-as (stands b) none o NoTree o
-    (found-many (arrays b) (b .args .text .now) (b .pre .0 .0) (b .pre .0 .1) (b .pre .1)
+    done-as (b .args .edition) (stands b) none o NoTree o
+    (found-many (arrays b) (b .args .text .now) (b .pre .0 .0) (b .pre .0 .1) (b .pre .1) (b .args .edition)
     (omega (arith, c .before .root-sum .ensures, c .if1 .taken)))
     (done-none o)
 
@@ -83,8 +87,8 @@ unfolding outputTooShort
 returns-2 c =
     let b = few-start (c .before .before) in
     let o = b .args .out .now in
-    done-as (stands b) (some (normalText (root b))) o (Refused outputTooShort) o (text-at (c .before .before))
-    (done-short (normalText (root b)) o (omega (arith, c .if2 .taken, long-at (c .before))))
+    done-as (b .args .edition) (stands b) (some (rootText b)) o (Refused outputTooShort) o (text-at (c .before .before))
+    (done-short (rootText b) o (omega (arith, c .if2 .taken, long-at (c .before))))
 
 slice-aggregate-least-pass : tie.Need-slice-aggregate-least-pass
 slice-aggregate-least-pass c = search needs
@@ -111,13 +115,13 @@ put-tree-requires c κs =
     let p = d .before .before .before .before in
     let f = p .before .before in
     let b = fit-start f in
-    let least = subst (λ (t : List ℕ). Leasts (arrays b) (b .args .text .now) t (b .args .nodes)) (sym (p .least-pass .ensures))
-    (leasts-found (arrays b) (b .args .text .now) (b .args .nodes) (b .pre .1) (replicate 159 0) (b .pre .0 .1)) in (
+    let least = subst (λ (t : List ℕ). Leasts (b .args .edition) (arrays b) (b .args .text .now) t (b .args .nodes)) (sym (p .least-pass .ensures))
+    (leasts-found (arrays b) (b .args .text .now) (b .args .nodes) (b .pre .1) (b .args .edition) (replicate 159 0) (b .pre .0 .1)) in (
       b .pre .0,
       (
-        children-found (arrays b) (b .args .text .now) (b .args .nodes) (b .pre .1) _
-            (d .first-pass .last .1 .1 .1 .1 .1 .1 .1 .0) least (d .first-pass .ensures),
-        (few-at (f .before .before), omega (arith, fits-at f, text-length (root b))),
+        children-found (b .args .edition) (arrays b) (b .args .text .now) (b .args .nodes) (b .pre .1) _
+            (d .first-pass .last .1 .1 .1 .1 .1 .1 .1 .1 .0) least (d .first-pass .ensures),
+        (few-at (f .before .before), omega (arith, fits-at f, text-length (b .args .edition) (root b))),
       ),
     )
 
@@ -125,13 +129,13 @@ slice-write-out : tie.Need-slice-write-out
 unfolding nodeText
 slice-write-out c =
     let p = c .before .before .put-tree in
-    omega (arith, p .kept .1 .1 .1 .1 .1 .1 .1 .0, p .ensures .0, fits-at (fit-of c), text-length (root (fit-start (fit-of c))))
+    omega (arith, p .kept .1 .1 .1 .1 .1 .1 .1 .1 .0, p .ensures .0, fits-at (fit-of c), text-length (fit-start (fit-of c) .args .edition) (root (fit-start (fit-of c))))
 
-add-t13 : tie.Need-add-t13
+add-t14 : tie.Need-add-t14
 unfolding nodeText
-add-t13 c =
+add-t14 c =
     let b = fit-start (fit-of c) in
-    omega (arith, c .before .before .put-tree .ensures .0, fits-at (fit-of c), text-length (root b), b)
+    omega (arith, c .before .before .put-tree .ensures .0, fits-at (fit-of c), text-length (b .args .edition) (root b), b)
 
 same-length : tie.Need-same-length
 same-length c = search needs
@@ -142,9 +146,9 @@ returns-3 c =
     let p = c .before .before .put-tree in
     let b = fit-start (fit-of c) in
     let o = b .args .out .now in
-    done-as (stands b) (some (normalText (root b))) o (Written (p .result + 1)) (set (p .last .1 .1 .1 .1 .1 .1 .1 .0) (p .result) 59)
+    done-as (b .args .edition) (stands b) (some (rootText b)) o (Written (p .result + 1)) (set (p .last .1 .1 .1 .1 .1 .1 .1 .1 .0) (p .result) 59)
     (text-at (fit-of c .before .before))
-    (done-stored (root b) o (p .last .1 .1 .1 .1 .1 .1 .1 .0) (p .result) (fits-at (fit-of c)) (p .ensures .0) (p .ensures .1))
+    (done-stored (b .args .edition) (root b) o (p .last .1 .1 .1 .1 .1 .1 .1 .1 .0) (p .result) (fits-at (fit-of c)) (p .ensures .0) (p .ensures .1))
 
 pub write-nodes-spec : {M : Type 1} → statement M
 write-nodes-spec =
@@ -163,6 +167,6 @@ write-nodes-spec =
     slice-aggregate-put-tree
     put-tree-requires
     slice-write-out
-    add-t13
+    add-t14
     same-length
     returns-3)

@@ -14,14 +14,14 @@ use Rattle.writer.proofs.write_tree.Tie as tie
 returns : tie.Need-returns
 returns c =
     let a = c .before .before .before .args in
-    done-as (treeOf (a .tree) (a .text .now)) (some []) (a .out .now) (Written 0) (a .out .now)
-    (stands-empty (a .tree) (a .text .now) (omega arith)) (done-empty (a .out .now))
+    done-as (a .edition) (treeOf (a .tree) (a .text .now)) (some []) (a .out .now) (Written 0) (a .out .now)
+    (stands-empty (a .tree) (a .text .now) (a .edition) (omega arith)) (done-empty (a .out .now))
 
 returns-2 : tie.Need-returns-2
 returns-2 c =
     let a = c .before .before .before .before .args in
-    done-as (treeOf (a .tree) (a .text .now)) none (a .out .now) NoTree (a .out .now)
-    (stands-long (a .tree) (a .text .now) (c .if2 .taken)) (done-none (a .out .now))
+    done-as (a .edition) (treeOf (a .tree) (a .text .now)) none (a .out .now) NoTree (a .out .now)
+    (stands-long (a .tree) (a .text .now) (a .edition) (c .if2 .taken)) (done-none (a .out .now))
 
 slice-aggregate-good-nodes : tie.Need-slice-aggregate-good-nodes
 slice-aggregate-good-nodes c = search needs
@@ -42,8 +42,8 @@ returns-3 : tie.Need-returns-3
 returns-3 c =
     let d = c .before .before .before .before .before .before .before .before .before .before in
     let a = d .before .before .before .before .args in
-    done-as (treeOf (a .tree) (a .text .now)) none (a .out .now) NoTree (a .out .now)
-    (stands-bad (a .tree) (a .text .now) (d .before .if1 .left)
+    done-as (a .edition) (treeOf (a .tree) (a .text .now)) none (a .out .now) NoTree (a .out .now)
+    (stands-bad (a .tree) (a .text .now) (a .edition) (d .before .if1 .left)
     (sym (c .before .good-nodes .ensures) ∙ not-true _ (c .if3 .taken)))
     (done-none (a .out .now))
 

@@ -1,9 +1,10 @@
 -- The writer's answer to the restricted arrays decides: their text is that of the set's restriction. Assumes nothing.
 use mathlib.Core.Path.{sym, _∙_, ap}
 use borrow.Author.Needs.{needs}
+use Rattle.trees.specs.Edition.{folded, keyed}
+use Rattle.trees.proofs.EditionLaws.{valid-folded, arrays-folded}
 use Rattle.mast.proofs.SolutionLaws.{placed-result, restricted-text, not-written, set-written, set-refused, set-output}
 use Rattle.trees.specs.Arrays.{treeOf}
-use Rattle.trees.specs.Tree.{decoded}
 use Rattle.trees.proofs.TokenLaws.{valid-decoded}
 use Rattle.table.specs.Choice.{chosenFrom}
 use Rattle.mast.proofs.finish.solution.Statement.{statement}
@@ -17,16 +18,16 @@ returns c =
     let a = f .before .before .before .args in (
       λ s C k.
           c .without-set .ensures
-          ∙ set-refused s (chosenFrom (a .chosen .now) 0 C) (treeOf (q .restrict-tree .result) (a .text .now)) (a .out .now)
-          (restricted-text s C (a .tree) (a .text .now) (a .order1 .now) (a .m) k _ _
-          (f .kept-leaves .ensures (decoded s) C (valid-decoded s (k .valid)) (k .count) (k .numbered)) _
+          ∙ set-refused (a .edition) s (chosenFrom (a .chosen .now) 0 C) (treeOf (q .restrict-tree .result) (a .text .now)) (a .out .now)
+          (restricted-text (a .edition) s C (a .tree) (a .text .now) (a .order1 .now) (a .m) k _ _
+          (f .kept-leaves .ensures (keyed (a .edition) s) C (valid-decoded (folded (a .edition) s) (valid-folded (a .edition) s (k .valid))) (k .count) (k .numbered)) _
           (q .restrict-tree .ensures .0))
           (λ n e. not-written (p .write-tree .result) (c .before .match .keys2) n (p .write-tree .ensures .0 ∙ e)),
       λ s C k.
           p .write-tree .ensures .1
-          ∙ set-output s (chosenFrom (a .chosen .now) 0 C) (treeOf (q .restrict-tree .result) (a .text .now)) (a .out .now)
-          (restricted-text s C (a .tree) (a .text .now) (a .order1 .now) (a .m) k _ _
-          (f .kept-leaves .ensures (decoded s) C (valid-decoded s (k .valid)) (k .count) (k .numbered)) _
+          ∙ set-output (a .edition) s (chosenFrom (a .chosen .now) 0 C) (treeOf (q .restrict-tree .result) (a .text .now)) (a .out .now)
+          (restricted-text (a .edition) s C (a .tree) (a .text .now) (a .order1 .now) (a .m) k _ _
+          (f .kept-leaves .ensures (keyed (a .edition) s) C (valid-decoded (folded (a .edition) s) (valid-folded (a .edition) s (k .valid))) (k .count) (k .numbered)) _
           (q .restrict-tree .ensures .0)),
     )
 
@@ -40,17 +41,17 @@ returns-2 c =
     let a = f .before .before .before .args in (
       λ s C k.
           placed-result _ _ (chosenFrom (a .chosen .now) 0 C) _
-          (c .set-places .ensures s C (k .valid) (ap (λ t. t .start) (k .arrays-is)) (ap (λ t. t .size) (k .arrays-is)) (k .count) (k .numbered))
-          ∙ set-written s (chosenFrom (a .chosen .now) 0 C) (treeOf (q .restrict-tree .result) (a .text .now)) (a .out .now)
-          (restricted-text s C (a .tree) (a .text .now) (a .order1 .now) (a .m) k _ _
-          (f .kept-leaves .ensures (decoded s) C (valid-decoded s (k .valid)) (k .count) (k .numbered)) _
+          (c .set-places .ensures (folded (a .edition) s) C (valid-folded (a .edition) s (k .valid)) (ap (λ t. t .start) (k .arrays-is ∙ sym (arrays-folded (a .edition) s))) (ap (λ t. t .size) (k .arrays-is ∙ sym (arrays-folded (a .edition) s))) (k .count) (k .numbered))
+          ∙ set-written (a .edition) s (chosenFrom (a .chosen .now) 0 C) (treeOf (q .restrict-tree .result) (a .text .now)) (a .out .now)
+          (restricted-text (a .edition) s C (a .tree) (a .text .now) (a .order1 .now) (a .m) k _ _
+          (f .kept-leaves .ensures (keyed (a .edition) s) C (valid-decoded (folded (a .edition) s) (valid-folded (a .edition) s (k .valid))) (k .count) (k .numbered)) _
           (q .restrict-tree .ensures .0))
           _ (sym (p .write-tree .ensures .0) ∙ at-written .written .given .1),
       λ s C k.
           p .write-tree .ensures .1
-          ∙ set-output s (chosenFrom (a .chosen .now) 0 C) (treeOf (q .restrict-tree .result) (a .text .now)) (a .out .now)
-          (restricted-text s C (a .tree) (a .text .now) (a .order1 .now) (a .m) k _ _
-          (f .kept-leaves .ensures (decoded s) C (valid-decoded s (k .valid)) (k .count) (k .numbered)) _
+          ∙ set-output (a .edition) s (chosenFrom (a .chosen .now) 0 C) (treeOf (q .restrict-tree .result) (a .text .now)) (a .out .now)
+          (restricted-text (a .edition) s C (a .tree) (a .text .now) (a .order1 .now) (a .m) k _ _
+          (f .kept-leaves .ensures (keyed (a .edition) s) C (valid-decoded (folded (a .edition) s) (valid-folded (a .edition) s (k .valid))) (k .count) (k .numbered)) _
           (q .restrict-tree .ensures .0)),
     )
 

@@ -3,6 +3,7 @@ use Prim.Native.Nat.{ℕ, _-_, _+_, _<_, _≤_}
 use mathlib.Core.Path.{_≡_, refl, subst}
 use native.Mathlib.Omega.{arith}
 use borrow.Author.Needs.{needs}
+use Rattle.trees.specs.Edition.{inEdition}
 use Rattle.trees.specs.Tree.{Tree, decoded, Valid}
 use Rattle.mast.specs.Engine.{OwnLeaves}
 use Rattle.mast.specs.Ranks.{Partners, mostCommon, Collected}
@@ -11,13 +12,13 @@ use Rattle.mast.proofs.ranks.common_order.Statement.{statement}
 use Rattle.mast.proofs.ranks.common_order.Tie as tie
 
 abbrev Inv-loop : tie.InvT-loop
-Inv-loop text1 partner order1₀ most left1 start1 size1 m₀ u₀ order1 m u =
-    (m ≤ most) × (u ≤ u₀) × ((s t : Tree) → OwnLeaves s text1 left1 start1 size1 (u₀) → Valid t
+Inv-loop edition text1 partner order1₀ most left1 start1 size1 m₀ u₀ order1 m u =
+    (m ≤ most) × (u ≤ u₀) × ((s t : Tree) → OwnLeaves s (inEdition edition text1) left1 start1 size1 (u₀) → Valid t
     → most ≡ mostCommon (decoded s) (decoded t) → Partners (u₀) (decoded s) (decoded t) partner
     → Collected (decoded s) (decoded t) u order1 m)
 
 abbrev μ-loop : tie.MeasureT-loop
-μ-loop text1 partner order1₀ most left1 start1 size1 m₀ u₀ order1 m u =
+μ-loop edition text1 partner order1₀ most left1 start1 size1 m₀ u₀ order1 m u =
     u
 
 loop-holds : tie.Need-loop-holds Inv-loop μ-loop

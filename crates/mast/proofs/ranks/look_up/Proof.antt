@@ -1,5 +1,6 @@
 -- `ranks::look_up` meets its contract. Assumes nothing.
 use mathlib.Core.Path.{sym, _∙_}
+use Rattle.trees.proofs.FoldLaws.{key-size}
 use Rattle.mast.proofs.RankLaws.{partner-empty, partner-missing, partner-found, empty-list}
 use borrow.Author.Needs.{needs}
 use Rattle.mast.proofs.ranks.look_up.Statement.{statement}
@@ -7,7 +8,7 @@ use Rattle.mast.proofs.ranks.look_up.Tie as tie
 
 returns : tie.Need-returns
 returns c =
-    λ t o. partner-empty o _ 0 (empty-list _ (sym (c .before .spelled-size .ensures) ∙ c .if1 .taken))
+    λ t o. partner-empty o _ 0 (empty-list _ (key-size _ _ ∙ sym (c .before .spelled-size .ensures) ∙ c .if1 .taken))
 
 find-leaf-requires : tie.Need-find-leaf-requires
 find-leaf-requires c κs = search needs

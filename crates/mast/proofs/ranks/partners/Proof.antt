@@ -1,10 +1,12 @@
 -- `ranks::partners` meets its contract. Assumes nothing.
 use Prim.Native.Nat.{ℕ, _-_, _≤_}
-use mathlib.Core.Path.{_≡_, _∙_, ap, subst}
+use mathlib.Core.Path.{_≡_, _∙_, ap, subst, sym}
 use mathlib.Core.List.{List}
 use lib.ListN.{length, length-set, length-replicate}
 use native.Mathlib.Omega.{arith}
 use borrow.Author.Needs.{needs}
+use Rattle.trees.specs.Edition.{inEdition}
+use Rattle.trees.proofs.FoldLaws.{fold-part}
 use Rattle.trees.specs.Label.{Label}
 use Rattle.trees.specs.Token.{spelling}
 use Rattle.trees.specs.Tree.{Tree, decoded}
@@ -15,12 +17,12 @@ use Rattle.mast.proofs.ranks.partners.Statement.{statement}
 use Rattle.mast.proofs.ranks.partners.Tie as tie
 
 abbrev Inv-loop : tie.InvT-loop
-Inv-loop first tree1 second tree2 start1 size1 left2 start2 size2 partner₀ u₀ partner u =
-    (u ≤ tree1 .nodes) × (length partner ≡ 159) × ((s t : Tree) (left1 : List ℕ) → OwnLeaves s first left1 start1 size1 (tree1 .nodes)
-    → OwnLeaves t second left2 start2 size2 (tree2 .nodes) → Partners u (decoded s) (decoded t) partner)
+Inv-loop edition first tree1 second tree2 start1 size1 left2 start2 size2 partner₀ u₀ partner u =
+    (u ≤ tree1 .nodes) × (length partner ≡ 159) × ((s t : Tree) (left1 : List ℕ) → OwnLeaves s (inEdition edition first) left1 start1 size1 (tree1 .nodes)
+    → OwnLeaves t (inEdition edition second) left2 start2 size2 (tree2 .nodes) → Partners u (decoded s) (decoded t) partner)
 
 abbrev μ-loop : tie.MeasureT-loop
-μ-loop first tree1 second tree2 start1 size1 left2 start2 size2 partner₀ u₀ partner u =
+μ-loop edition first tree1 second tree2 start1 size1 left2 start2 size2 partner₀ u₀ partner u =
     tree1 .nodes - u
 
 loop-holds : tie.Need-loop-holds Inv-loop μ-loop
@@ -61,13 +63,14 @@ loop-less c =
 
 loop-again : tie.Need-loop-again Inv-loop μ-loop
 loop-again c =
-    let i = c .before .before .before .before .before .before .before .before .before .loop .inv in (
+    let i = c .before .before .before .before .before .before .before .before .before .loop .inv in
+    let g = c .before .before .before .before .before .before .before .before .before .before .before .before .before .before .before .before .before .args in (
       omega (arith, c .before .before .before .before .before .before .before .if1 .taken),
       length-set {A = ℕ} (c .before .before .before .before .before .before .before .before .before .loop .partner) _ _ ∙ i .1,
       λ s t left1 o q.
           partners-next (c .before .before .before .before .before .before .before .before .before .loop .u) (decoded s) (decoded t) (c .before .before .before .before .before .before .before .before .before .loop .partner) _ (omega (arith, c .before .before .before .before .before .before .before .if1 .taken)) (i .1)
           (λ x e.
-          subst (λ (y : Label). PartnerIs (decoded t) y (c .look-up .result)) (ap spelling (c .before .before .before .before .leaf-label .ensures) ∙ own-part o (c .before .before .before .before .before .before .before .before .before .loop .u) x (own-leaf-at o (c .before .before .before .before .before .before .before .before .before .loop .u) x (c .before .before .before .before .before .before .before .if1 .taken) e))
+          subst (λ (y : Label). PartnerIs (decoded t) y (c .look-up .result)) (ap spelling (ap (inEdition (g .edition)) (c .before .before .before .before .leaf-label .ensures) ∙ sym (fold-part (g .edition) _ _ (g .first .now))) ∙ own-part o (c .before .before .before .before .before .before .before .before .before .loop .u) x (own-leaf-at o (c .before .before .before .before .before .before .before .before .before .loop .u) x (c .before .before .before .before .before .before .before .if1 .taken) e))
           (c .look-up .ensures t q))
           (i .2 s t left1 o q),
     )

@@ -6,6 +6,7 @@ use mathlib.Core.List.{List}
 use lib.ListN.{length}
 use native.Mathlib.Omega.{arith}
 use borrow.Author.Needs.{needs}
+use Rattle.trees.specs.Edition.{inEdition}
 use Rattle.trees.specs.Label.{Label, labelLess}
 use Rattle.trees.specs.Tree.{Tree, decoded}
 use Rattle.trees.specs.Stored.{storedBytes}
@@ -17,12 +18,12 @@ use Rattle.mast.proofs.ranks.place_of.Statement.{statement}
 use Rattle.mast.proofs.ranks.place_of.Tie as tie
 
 abbrev Inv-loop : tie.InvT-loop
-Inv-loop text start size order m label low₀ high₀ low high =
-    (low ≤ high) × (high ≤ m) × ((t : Tree) (left : List ℕ) (nodes : ℕ) (C : List Label) → OwnLeaves t text left start size nodes
+Inv-loop edition text start size order m label low₀ high₀ low high =
+    (low ≤ high) × (high ≤ m) × ((t : Tree) (left : List ℕ) (nodes : ℕ) (C : List Label) → OwnLeaves t (inEdition edition text) left start size nodes
     → increasing C ≡ true → m ≡ length C → Numbered (decoded t) C order → Halved (storedBytes label) C low high)
 
 abbrev μ-loop : tie.MeasureT-loop
-μ-loop text start size order m label low₀ high₀ low high =
+μ-loop edition text start size order m label low₀ high₀ low high =
     high - low
 
 loop-holds : tie.Need-loop-holds Inv-loop μ-loop

@@ -1,11 +1,13 @@
 -- `required::mark_required` meets its contract. Assumes nothing.
 use Prim.Native.Nat.{ℕ, _-_, _<_, _≤_}
-use mathlib.Core.Path.{_≡_, _∙_, ap, subst}
+use mathlib.Core.Path.{_≡_, _∙_, ap, subst, sym}
 use mathlib.Core.Bool.{true, false}
 use mathlib.Core.List.{List, map}
 use lib.ListN.{length, length-map}
 use native.Mathlib.Omega.{arith}
 use borrow.Author.Needs.{needs}
+use Rattle.trees.specs.Edition.{inEdition}
+use Rattle.trees.proofs.FoldLaws.{fold-part}
 use Rattle.trees.specs.Label.{Label, isIn}
 use Rattle.trees.specs.Token.{Token, spelling}
 use Rattle.trees.specs.Tree.{Tree, decoded}
@@ -18,14 +20,14 @@ use Rattle.mast.proofs.required.mark_required.Statement.{statement}
 use Rattle.mast.proofs.required.mark_required.Tie as tie
 
 abbrev Inv-loop : tie.InvT-loop
-Inv-loop text1 order1 m list places number₀ start1 size1 starts sizes k₀ number k =
+Inv-loop edition text1 order1 m list places number₀ start1 size1 starts sizes k₀ number k =
     (k ≤ places .count) × ((s : Tree) (left : List ℕ) (nodes : ℕ) (C : List Label) (K : List Token)
-    → OwnLeaves s text1 left start1 size1 nodes
-    → OwnList K list starts sizes (places .count) → increasing C ≡ true → m ≡ length C → Numbered (decoded s) C order1
+    → OwnLeaves s (inEdition edition text1) left start1 size1 nodes
+    → OwnList K (inEdition edition list) starts sizes (places .count) → increasing C ≡ true → m ≡ length C → Numbered (decoded s) C order1
     → Marks k C (map spelling K) number)
 
 abbrev μ-loop : tie.MeasureT-loop
-μ-loop text1 order1 m list places number₀ start1 size1 starts sizes k₀ number k =
+μ-loop edition text1 order1 m list places number₀ start1 size1 starts sizes k₀ number k =
     places .count - k
 
 loop-holds : tie.Need-loop-holds Inv-loop μ-loop
@@ -40,8 +42,9 @@ returns : tie.Need-returns Inv-loop μ-loop
 returns c = (
   omega arith,
   λ s C K o l i e n.
+      let g = c .before .before .before .before .before .before .before .before .before .before .before .before .before .before .before .args in
       let h : c .before .before .before .before .before .before .before .loop .k < c .before .before .before .before .before .before .before .before .before .before .before .before .before .before .before .args .places .count = c .before .before .before .before .before .if1 .taken in
-      let x = ap spelling (c .before .before .part .ensures) ∙ list-part l (c .before .before .before .before .before .before .before .loop .k) h in
+      let x = ap spelling (ap (inEdition (g .edition)) (c .before .before .part .ensures) ∙ sym (fold-part (g .edition) _ _ (g .list .now))) ∙ list-part l (c .before .before .before .before .before .before .before .loop .k) h in
       record {
         marks = c .before .before .before .before .before .before .before .loop .inv .1 s _ _ C K o l i e n;
         stopped = λ q.
@@ -58,8 +61,9 @@ loop-again : tie.Need-loop-again Inv-loop μ-loop
 loop-again c = (
   omega arith,
   λ s left nodes C K o l i e n.
+      let g = c .before .before .before .before .before .before .before .before .before .before .before .before .before .before .before .before .args in
       let h : c .before .before .before .before .before .before .before .before .loop .k < c .before .before .before .before .before .before .before .before .before .before .before .before .before .before .before .before .args .places .count = c .before .before .before .before .before .before .if1 .taken in
-      let x = ap spelling (c .before .before .before .part .ensures) ∙ list-part l (c .before .before .before .before .before .before .before .before .loop .k) h in
+      let x = ap spelling (ap (inEdition (g .edition)) (c .before .before .before .part .ensures) ∙ sym (fold-part (g .edition) _ _ (g .list .now))) ∙ list-part l (c .before .before .before .before .before .before .before .before .loop .k) h in
       let low : c .before .before .rank-in .result < length C = omega (arith, c .before .before .rank-in .ensures .0, c .before .if2 .left) in
       let f = c .before .before .rank-in .ensures .1 s left nodes C o e n in
       marks-next (c .before .before .before .before .before .before .before .before .loop .k) C (map spelling K) (c .before .before .before .before .before .before .before .before .loop .number) (c .before .before .rank-in .result) _ i (l .different) (omega (arith, c .before .before .before .before .before .before .before .before .before .before .before .before .before .before .before .before .pre .0))

@@ -5,6 +5,8 @@ use mathlib.Core.List.{List, []}
 use lib.ListN.{length, getD}
 use native.Mathlib.Omega.{arith}
 use borrow.Author.Needs.{needs}
+use Rattle.trees.specs.Edition.{inEdition, key}
+use Rattle.trees.proofs.FoldLaws.{fold-part}
 use Rattle.trees.specs.Label.{Label, sameLabel}
 use Rattle.trees.specs.Token.{spelling}
 use Rattle.trees.specs.Tree.{Tree, decoded}
@@ -16,12 +18,12 @@ use Rattle.mast.proofs.required.rank_in.Statement.{statement}
 use Rattle.mast.proofs.required.rank_in.Tie as tie
 
 abbrev Inv-loop : tie.InvT-loop
-Inv-loop text1 start1 size1 order1 m token r₀ r =
-    (r ≤ m) × ((s : Tree) (left : List ℕ) (nodes : ℕ) (C : List Label) → OwnLeaves s text1 left start1 size1 nodes
-    → m ≡ length C → Numbered (decoded s) C order1 → (q : ℕ) → q < r → getD C q [] ≡ spelling token → ⊥)
+Inv-loop edition text1 start1 size1 order1 m token r₀ r =
+    (r ≤ m) × ((s : Tree) (left : List ℕ) (nodes : ℕ) (C : List Label) → OwnLeaves s (inEdition edition text1) left start1 size1 nodes
+    → m ≡ length C → Numbered (decoded s) C order1 → (q : ℕ) → q < r → getD C q [] ≡ key edition token → ⊥)
 
 abbrev μ-loop : tie.MeasureT-loop
-μ-loop text1 start1 size1 order1 m token r₀ r =
+μ-loop edition text1 start1 size1 order1 m token r₀ r =
     m - r
 
 loop-holds : tie.Need-loop-holds Inv-loop μ-loop
@@ -34,8 +36,8 @@ returns c =
       omega arith,
       λ s left nodes C o e n.
           let h : c .before .before .before .before .before .before .before .loop .r < length C = omega (arith, c .before .before .before .before .before .before .loop-test .taken) in
-          rank-here o C (a .order1 .now) n (spelling (a .token .now)) (c .before .before .before .before .before .before .before .loop .r) h
-          (ap (λ (x : Label). sameLabel (spelling x) (spelling (a .token .now))) (sym (c .before .before .leaf-label .ensures)) ∙ sym (c .before .same-label .ensures) ∙ c .if1 .taken),
+          rank-here o C (a .order1 .now) n (key (a .edition) (a .token .now)) (c .before .before .before .before .before .before .before .loop .r) h
+          (ap (λ (x : Label). sameLabel (spelling x) (key (a .edition) (a .token .now))) (fold-part (a .edition) _ _ (a .text1 .now) ∙ ap (inEdition (a .edition)) (sym (c .before .before .leaf-label .ensures))) ∙ sym (c .before .same-label .ensures) ∙ c .if1 .taken),
     )
 
 loop-again : tie.Need-loop-again Inv-loop μ-loop
@@ -44,9 +46,9 @@ loop-again c =
       omega arith,
       λ s left nodes C o e n.
           let h : c .before .before .before .before .before .before .before .loop .r < length C = omega (arith, c .before .before .before .before .before .before .loop-test .taken) in
-          below-next (λ q. getD C q [] ≡ spelling (a .token .now) → ⊥) (c .before .before .before .before .before .before .before .loop .r) (c .before .before .before .before .before .before .before .loop .inv .1 s left nodes C o e n)
-          (not-here o C (a .order1 .now) n (spelling (a .token .now)) (c .before .before .before .before .before .before .before .loop .r) h
-          (ap (λ (x : Label). sameLabel (spelling x) (spelling (a .token .now))) (sym (c .before .before .leaf-label .ensures)) ∙ sym (c .before .same-label .ensures) ∙ c .if1 .left)),
+          below-next (λ q. getD C q [] ≡ key (a .edition) (a .token .now) → ⊥) (c .before .before .before .before .before .before .before .loop .r) (c .before .before .before .before .before .before .before .loop .inv .1 s left nodes C o e n)
+          (not-here o C (a .order1 .now) n (key (a .edition) (a .token .now)) (c .before .before .before .before .before .before .before .loop .r) h
+          (ap (λ (x : Label). sameLabel (spelling x) (key (a .edition) (a .token .now))) (fold-part (a .edition) _ _ (a .text1 .now) ∙ ap (inEdition (a .edition)) (sym (c .before .before .leaf-label .ensures))) ∙ sym (c .before .same-label .ensures) ∙ c .if1 .left)),
     )
 
 returns-2 : tie.Need-returns-2 Inv-loop μ-loop
