@@ -23,7 +23,7 @@ use Rattle.trees.specs.Stored.{byteOf, innerBytes, readAs, formOf}
 use Rattle.trees.proofs.Bools.{bool-cases}
 use Rattle.trees.proofs.LabelLaws.{lengths-differ, bytes-differ, all-same, byte-agrees}
 use Rattle.trees.proofs.LabelLaws.{both-end, first-ends, second-ends, byte-less, byte-greater, byte-same}
-use Rattle.trees.proofs.FoldLaws.{fold-quote, fold-inner, key-size}
+use Rattle.trees.proofs.FoldLaws.{fold-back, fold-quote, fold-inner, key-size}
 use Rattle.trees.proofs.RelabelLaws.{map-at}
 use Rattle.trees.proofs.TokenLaws.{token-quoted, token-plain}
 
@@ -46,6 +46,14 @@ module _ (e : Edition) (q : Bool) (b c : ℕ) (read : c ≡ foldByte e b) where
   pub byte-blank : c ≡ underscoreByte → q ≡ false → blankByte ≡ byteOf e q b
   unfolding byteOf bareByte
   byte-blank h k = rw (k, eq-eqb (foldByte e b) underscoreByte (sym read ∙ h)) refl
+
+-- the same byte, but for an underscore, stands for the same between quotes and elsewhere
+pub byte-alike : (e : Edition) (p q : Bool) (x y : ℕ) → x ≡ y → (x ≡ underscoreByte → ⊥) → byteOf e p x ≡ byteOf e q y
+byte-alike e p q x y h n =
+    sym (byte-plain e p x (foldByte e x) refl told) ∙ byte-plain e q x (foldByte e x) refl told ∙ ap (byteOf e q) h
+  where
+    told : foldByte e x ≡ underscoreByte → ⊥
+    told k = n (fold-back e x underscoreByte (inr (omega arith, omega arith)) k)
 
 -- ---- bytes read as a label
 

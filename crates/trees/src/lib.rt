@@ -4,6 +4,7 @@
 ghost use mathlib.Core.Path.{_≡_};
 ghost use mathlib.Core.Bool.{true, _&&_};
 ghost use Prim.Native.Nat.{_%_, min};
+ghost use lib.Dec.{eqb};
 ghost use lib.ListN.{length, getD, take};
 ghost use Rattle.trees.specs.Bytes.{classTable, kindOfCode};
 ghost use Rattle.trees.specs.Edition.{foldByte, inEdition, key};
@@ -566,6 +567,18 @@ pub fn least(a: usize, b: usize) -> usize
     if a < b { a } else { b }
 }
 
+// Two bytes stand for the same. Most often they are one byte, and then only an underscore has to be decoded.
+fn same_byte(edition: Edition, x: u8, xquoted: bool, y: u8, yquoted: bool) -> bool
+    ensures { λ r. ⌜ r ≡ eqb (byteOf edition xquoted x) (byteOf edition yquoted y) ⌝ }
+{
+    if x == y {
+        if x != UNDERSCORE {
+            return true;
+        }
+    }
+    decode(edition, xquoted, x) == decode(edition, yquoted, y)
+}
+
 // As many bytes, each decoded, are the same.
 fn same_all(edition: Edition, a: &[u8], aquoted: bool, b: &[u8], bquoted: bool) -> bool
     requires { ⌜ length (now a) ≡ length (now b) ⌝ }
@@ -573,7 +586,7 @@ fn same_all(edition: Edition, a: &[u8], aquoted: bool, b: &[u8], bquoted: bool) 
 {
     let mut i: usize = 0;
     while i < a.len() {
-        if decode(edition, aquoted, a[i]) != decode(edition, bquoted, b[i]) {
+        if !same_byte(edition, a[i], aquoted, b[i], bquoted) {
             return false;
         }
         i += 1;

@@ -3,6 +3,7 @@ use Prim.Native.Nat.{_≤_, _-_}
 use mathlib.Core.Path.{refl, sym, _∙_}
 use native.Mathlib.Omega.{arith}
 use lib.ListN.{length}
+use borrow.Author.Tests.{eqb-true, eqb-false, not-true, not-false}
 use borrow.Author.Needs.{needs}
 use Rattle.trees.proofs.DecodeLaws.{SameFrom, read-differ, read-same, read-agrees}
 use Rattle.trees.proofs.same_all.Statement.{statement}
@@ -20,28 +21,23 @@ loop-holds : tie.Need-loop-holds Inv-loop μ-loop
 loop-holds c =
     (omega arith, refl)
 
-shared-slice-read-decode : tie.Need-shared-slice-read-decode Inv-loop μ-loop
-shared-slice-read-decode c =
+shared-slice-read-same-byte : tie.Need-shared-slice-read-same-byte Inv-loop μ-loop
+shared-slice-read-same-byte c =
     omega arith
 
-decode-requires : tie.Need-decode-requires Inv-loop μ-loop
-decode-requires c κs =
-    search needs
-
-shared-slice-read-decode-2 : tie.Need-shared-slice-read-decode-2 Inv-loop μ-loop
-shared-slice-read-decode-2 c =
+shared-slice-read-same-byte-2 : tie.Need-shared-slice-read-same-byte-2 Inv-loop μ-loop
+shared-slice-read-same-byte-2 c =
     omega arith
 
-decode-requires-2 : tie.Need-decode-requires-2 Inv-loop μ-loop
-decode-requires-2 c κs =
+same-byte-requires : tie.Need-same-byte-requires Inv-loop μ-loop
+same-byte-requires c κs =
     search needs
 
 returns : tie.Need-returns Inv-loop μ-loop
 returns c =
-    let a = c .before .before .before .before .before .before .before .before .before .args in
-    let x = c .before .before .before .decode .ensures in
-    let y = c .before .decode2 .ensures in
-    sym (read-differ (a .edition) (a .aquoted) (a .bquoted) (a .a .now) (a .b .now) _ (omega arith) (omega arith) (λ e. c .if1 .taken (x ∙ e ∙ sym y)))
+    let a = c .before .before .before .before .before .before .before .before .args in
+    let told = sym (c .before .same-byte .ensures) ∙ not-true _ (c .if1 .taken) in
+    sym (read-differ (a .edition) (a .aquoted) (a .bquoted) (a .a .now) (a .b .now) _ (omega arith) (omega arith) (eqb-false _ _ told))
 
 add-i : tie.Need-add-i Inv-loop μ-loop
 add-i c =
@@ -53,11 +49,10 @@ loop-less c =
 
 loop-again : tie.Need-loop-again Inv-loop μ-loop
 loop-again c =
-    let a = c .before .before .before .before .before .before .before .before .before .args in
-    let l = c .before .before .before .before .before .before .loop in
-    let x = c .before .before .before .decode .ensures in
-    let y = c .before .decode2 .ensures in
-    (omega arith, read-agrees (a .edition) (a .aquoted) (a .bquoted) (a .a .now) (a .b .now) (l .i) (l .inv .1) (omega arith) (omega arith) (omega arith))
+    let a = c .before .before .before .before .before .before .before .before .args in
+    let l = c .before .before .before .before .before .loop in
+    let told = sym (c .before .same-byte .ensures) ∙ not-false _ (c .if1 .left) in
+    (omega arith, read-agrees (a .edition) (a .aquoted) (a .bquoted) (a .a .now) (a .b .now) (l .i) (l .inv .1) (omega arith) (omega arith) (eqb-true _ _ told))
 
 returns-2 : tie.Need-returns-2 Inv-loop μ-loop
 returns-2 c =
@@ -72,10 +67,9 @@ same-all-spec =
     Inv-loop
     μ-loop
     loop-holds
-    shared-slice-read-decode
-    decode-requires
-    shared-slice-read-decode-2
-    decode-requires-2
+    shared-slice-read-same-byte
+    shared-slice-read-same-byte-2
+    same-byte-requires
     returns
     add-i
     loop-less
