@@ -1,5 +1,5 @@
 /* Calls the engine from C, through each entry: an answer, each refusal that it can give, an output that is too short, empty inputs,
- * options. Prints one line for each call, which .ci/run compares with examples/host.out. Each call is made in a thread whose stack has just
+ * options, claims. Prints one line for each call, which .ci/run compares with examples/host.out. Each call is made in a thread whose stack has just
  * the bytes that agree.h tells, and what the C library itself keeps there:
  *
  *     gcc -pthread -Iinclude -o host examples/host.c target/staticlib/libcabi.a
@@ -17,8 +17,8 @@ static int failed;
 
 /* The bytes of one call; `output` is lent with `room` bytes and lies in a larger area, of which bytes that must not change are checked. */
 struct call {
-    const uint8_t *first, *second, *required, *job;
-    size_t options, first_length, second_length, required_length, job_length, room;
+    const uint8_t *first, *second, *required, *claim, *job;
+    size_t options, first_length, second_length, required_length, claim_length, job_length, room;
     uint8_t output[2 * AGREE_LINES_ROOM];
     struct agree_result result;
 };
@@ -36,6 +36,13 @@ static void *run_largest_with(void *unused)
 {
     call.result = agree_largest_with(call.options, call.first, call.first_length, call.second, call.second_length, call.required,
                                      call.required_length, call.output, call.room);
+    return unused;
+}
+
+static void *run_claim(void *unused)
+{
+    call.result = agree_claim(call.options, call.first, call.first_length, call.second, call.second_length, call.required,
+                              call.required_length, call.claim, call.claim_length);
     return unused;
 }
 
@@ -59,7 +66,10 @@ static struct agree_result in_thread(void *(*work)(void *))
     for (size_t i = r.length; i < sizeof call.output; i++)
         if (call.output[i] != 0x5a)
             failed = 1;
-    if ((r.number != 0 && (r.size != 0 || r.length != 0)) || (r.number != 8 && (r.first != 0 || r.second != 0 || r.third != 0)))
+    int named = r.number == 8 || r.number == 14;
+    if (r.number != 0 ? r.size != 0 || r.length != 0 : r.letter != 0 || r.place != 0)
+        failed = 1;
+    if (!named && (r.first != 0 || r.second != 0 || r.third != 0))
         failed = 1;
     return r;
 }
@@ -76,8 +86,8 @@ static void show(struct agree_result r)
 {
     if (r.number == 0)
         printf("size %zu length %zu tree %.*s\n", r.size, r.length, (int)r.length, (const char *)call.output);
-    else if (r.number == 8)
-        printf("refused 8 %c %zu labels at %zu %zu %zu\n", (int)r.letter, r.place, r.first, r.second, r.third);
+    else if (r.number == 8 || r.number == 14)
+        printf("refused %zu %c %zu labels at %zu %zu %zu\n", r.number, (int)r.letter, r.place, r.first, r.second, r.third);
     else
         printf("refused %zu %c %zu\n", r.number, (int)r.letter, r.place);
 }
@@ -97,10 +107,33 @@ static void largest_with(size_t options, const char *first, const char *second, 
     show(in_thread(run_largest_with));
 }
 
-/* The bytes of a label of the list from its place on: to its closing quote, or to a comma or the end. */
-static int label_length(const char *label)
+/* The verdict on a claim. */
+static void claim(size_t options, const char *first, const char *second, const char *required, const char *claimed)
 {
-    return (int)(*label == '\'' ? strcspn(label + 1, "'") + 2 : strcspn(label, ","));
+    lend(first, second, required, 0);
+    call.options = options;
+    call.claim = (const uint8_t *)claimed, call.claim_length = strlen(claimed);
+    printf("claim, options %zu: ", options);
+    struct agree_result r = in_thread(run_claim);
+    if (r.number == 0)
+        printf("size %zu length %zu\n", r.size, r.length);
+    else
+        show(r);
+}
+
+/* The bytes of a label of the job from its place on: to its closing quote, or to a comma or the end of its body. */
+static int label_length(const char *label, const char *end)
+{
+    size_t length = *label == '\'' ? strcspn(label + 1, "'") + 2 : strcspn(label, ",");
+    return (int)(length < (size_t)(end - label) ? length : (size_t)(end - label));
+}
+
+/* Where a body of the job ends: the claim ends with the job, the list as many bytes before as the contents say of a claim. */
+static const char *end_of(const char *bytes, size_t letter)
+{
+    const char *line = strstr(bytes, "\nC ");
+    int claimed = line != NULL && line < strstr(bytes, "\n\n");
+    return bytes + strlen(bytes) - (letter == 'K' && claimed ? strtoul(line + 3, NULL, 10) : 0);
 }
 
 /* The same for a whole job. */
@@ -109,13 +142,15 @@ static void job(const char *bytes, size_t room)
     call.job = (const uint8_t *)bytes, call.job_length = strlen(bytes);
     call.room = room;
     struct agree_result r = in_thread(run_job);
+    const size_t places[] = {r.first, r.second, r.third};
     if (r.number == 0)
         printf("job: %zu bytes\n%.*s", r.length, (int)r.length, (const char *)call.output);
-    else if (r.number == 8)
-        printf("job: refused 8 %c %zu labels %.*s %.*s %.*s\n", (int)r.letter, r.place, label_length(bytes + r.first), bytes + r.first,
-               label_length(bytes + r.second), bytes + r.second, label_length(bytes + r.third), bytes + r.third);
     else
-        printf("job: refused %zu %c %zu\n", r.number, (int)r.letter, r.place);
+        printf("job: refused %zu %c %zu", r.number, (int)r.letter, r.place);
+    for (int i = 0; (r.number == 8 || r.number == 14) && i < 3; i++)
+        printf("%s %.*s", i == 0 ? " labels" : "", label_length(bytes + places[i], end_of(bytes, r.letter)), bytes + places[i]);
+    if (r.number != 0)
+        putchar('\n');
 }
 
 /* A caterpillar of 80 leaves, its labels these with a number: no answer is deeper than it is against itself. */
@@ -150,17 +185,46 @@ static const char *longest(void)
     return caterpillar_of(text, LONGEST_LABEL);
 }
 
-/* The job of this tree twice, and of a list of all its labels, with lines before their lengths: no answer is longer. */
-static const char *longest_job(const char *lines)
+/* All its labels. */
+static const char *longest_list(void)
 {
-    static char text[3 * AGREE_TREE_ROOM], list[AGREE_TREE_ROOM];
+    static char list[AGREE_TREE_ROOM];
     size_t n = 0;
     for (int i = 0; i < 80; i++) {
         if (i > 0)
             list[n++] = ',';
         n += (size_t)sprintf(list + n, LONGEST_LABEL, i);
     }
-    sprintf(text, "%sS %zu\nT %zu\nK %zu\n\n%s%s%s", lines, strlen(longest()), strlen(longest()), n, longest(), longest(), list);
+    return list;
+}
+
+/* The job of this tree twice, and of a list of all its labels, with lines before their lengths: no answer is longer. */
+static const char *longest_job(const char *lines)
+{
+    static char text[3 * AGREE_TREE_ROOM];
+    const char *tree = longest(), *list = longest_list();
+    sprintf(text, "%sS %zu\nT %zu\nK %zu\n\n%s%s%s", lines, strlen(tree), strlen(tree), strlen(list), tree, tree, list);
+    return text;
+}
+
+/* The same with all labels claimed: no job whose claim passes is longer, but for such lines. */
+static const char *longest_claim(const char *lines)
+{
+    static char text[4 * AGREE_TREE_ROOM];
+    const char *tree = longest(), *list = longest_list();
+    size_t n = strlen(tree), m = strlen(list);
+    sprintf(text, "%sS %zu\nT %zu\nK %zu\nC %zu\n\n%s%s%s%s", lines, n, n, m, m, tree, tree, list, list);
+    return text;
+}
+
+/* The labels of the first of these trees in a list, and what may follow. */
+static const char *eighty_and(const char *rest)
+{
+    static char text[80 * 4 + 16];
+    size_t n = 0;
+    for (int i = 0; i < 80; i++)
+        n += (size_t)sprintf(text + n, "%st%02d", i > 0 ? "," : "", i);
+    strcpy(text + n, rest);
     return text;
 }
 
@@ -211,6 +275,92 @@ static void edition_jobs(void)
     job("E 3\nS 10\nT 8\nK 1\n\n('a b',c);(C,A_B);C", AGREE_LINES_ROOM);
     job(longest_job("strict\nE 2\n"), AGREE_LINES_ROOM);
     job(longest_job("strict\nE 2\n"), AGREE_LINES_ROOM - 1);
+}
+
+#define P "((((a,b),c),d),e);"
+#define Q "((((a,c),b),d),e);"
+#define R "((((a,b),c),e),d);"
+
+static void claims(void)
+{
+    /* the largest sets pass, tied ones too, in any order and spelling */
+    claim(0, "((a,b),(c,d));", "((a,c),(b,d));", "a", "a,b");
+    claim(0, "((a,b),(c,d));", "((a,c),(b,d));", "a", "d,a");
+    claim(0, P, Q, "c", "e,d,c,b");
+    claim(0, P, R, "d,e", "e,d");
+    claim(0, "((a_b,c),'d_e');", "(('a b','c'),'d_e');", "'c'", "'d_e',c,'a b'");
+    claim(0, "(a,b);", "(c,d);", "", "");
+    /* 15, also where no leaf can be added */
+    claim(0, P, Q, "c", "e,d,c");
+    claim(0, P, R, "", "e,d");
+    claim(0, "a;", "a;", "", "");
+    /* 14, with the places of the three labels in the claim; 8, with their places in the list */
+    claim(0, P, R, "", "e,b,d,c,a");
+    claim(0, P, R, "d,e", "e,d,a");
+    claim(0, P, R, "a,d,e", "a,b,c,d");
+    claim(0, "((a_b,'c_d'),e);", "(('a b',e),'c_d');", "e", "'c_d',e,'a b'");
+    /* 13, in the order of the list; before 14 and 15 */
+    claim(0, P, Q, "e,d,b", "e,a,b");
+    claim(0, P, Q, "b,d,e", "e");
+    claim(0, P, Q, "a,e", "a,b,c");
+    claim(0, "a;", "a;", "a", "");
+    /* 6 and 7 of the claim, in its order; before 13, after 6, 7 and 8 of the list */
+    claim(0, "((a,b),x);", "((y,b),a);", "a", "b,y,x");
+    claim(0, "((a,b),x);", "((y,b),a);", "a", "b,a,x,y");
+    claim(0, "((a,b),x);", "((y,b),a);", "a,x", "a,y");
+    claim(0, "((a,b),x);", "((y,b),a);", "y", "x");
+    claim(0, "((a,b),c);", "((a,c),b);", "b,c,a", "z");
+    /* a claim that cannot be read; before 6 and 8 of the list, after a list that cannot be read */
+    claim(0, "(a,b);", "(b,a);", "z", "b,a b");
+    claim(0, "((a,b),c);", "((a,c),b);", "b,c,a", "a,b,");
+    claim(0, "(a,b);", "(b,a);", "z", "a,'aaaaaaaaaaaaaaaaaaaaaaaaaaaaaaaaa'");
+    claim(0, "(a,b);", "(b,a);", "z", "b,a,'b'");
+    claim(0, "(a,b);", "(b,a);", "z,", "b,");
+    claim(0, "(a,b);", "(b,a)", "z,", "b,");
+    claim(0, "(a b);", "(b,a)", "z,", "b,");
+    /* options: each flag, both, and such that mean nothing */
+    claim(AGREE_STRICT, "((a,b),c);", "((a,c),b);", "c", "b,c");
+    claim(AGREE_STRICT, "((a,b),x);", "(b,a);", "z,", "b,");
+    claim(AGREE_STRICT, "(b,a);", "(y,(a,b));", "b", "a,b");
+    claim(0, "(b,a);", "(y,(a,b));", "b", "a,b");
+    claim(AGREE_EDITION_2, "((Ab,c),D);", "((aB,C),d);", "AB", "d,C,aB");
+    claim(0, "((Ab,c),D);", "((aB,C),d);", "", "d,C,aB");
+    claim(AGREE_EDITION_2, "((A,b),C);", "((a,c),B);", "b", "c,B,a");
+    claim(AGREE_EDITION_2, "(a,b);", "(b,a);", "a", "b,a,B");
+    claim(AGREE_STRICT + AGREE_EDITION_2, "('a b',c);", "(C,A_B);", "C", "c,A_b");
+    claim(AGREE_STRICT + AGREE_EDITION_2, "('a b',c);", "(C,'A_B');", "C", "c");
+    claim(4, "(a,b);", "(b,a);", "a", "b,a");
+    claim(AGREE_STRICT + 4, "(a b);", "a;", "a,", ",");
+    claim(SIZE_MAX, "(a,b);", "(b,a);", "a", "b,a");
+    /* as many labels as may be, and one more */
+    claim(AGREE_STRICT, longest(), longest(), longest_list(), longest_list());
+    claim(0, caterpillar(), caterpillar(), "t79,t00", eighty_and(""));
+    claim(0, caterpillar(), caterpillar(), "t79,t00", eighty_and(",'t80'"));
+    struct agree_result r = agree_claim(0, NULL, 0, NULL, 0, NULL, 0, NULL, 0);
+    printf("nothing claimed: refused %zu %c %zu\n", r.number, (int)r.letter, r.place);
+}
+
+static void claim_jobs(void)
+{
+    job("S 14\nT 14\nK 1\nC 3\n\n((a,b),(c,d));((a,c),(b,d));ad,a", AGREE_LINES_ROOM);
+    job("S 14\nT 14\nK 1\nC 3\n\n((a,b),(c,d));((a,c),(b,d));ad,a", 11);
+    job("S 14\nT 14\nK 1\nC 3\n\n((a,b),(c,d));((a,c),(b,d));ad,a", 10);
+    job("S 2\nT 2\nK 0\nC 0\n\na;b;", AGREE_LINES_ROOM);
+    job("S 2\nT 2\nK 0\n\na;b;", AGREE_LINES_ROOM);
+    job("S 2\nT 2\nK 1\nC 0\n\na;a;a", AGREE_LINES_ROOM);
+    job("S 18\nT 18\nK 5\nC 5\n\n" P Q "e,d,b" "e,a,b", AGREE_LINES_ROOM);
+    job("S 18\nT 18\nK 0\nC 3\n\n" P R "e,d", AGREE_LINES_ROOM);
+    job("S 18\nT 18\nK 1\nC 9\n\n" P R "b" "e,b,d,c,a", AGREE_LINES_ROOM);
+    job("S 18\nT 18\nK 5\nC 7\n\n" P R "a,e,d" "a,b,c,d", 0);
+    job("S 18\nT 18\nK 5\nC 0\n\n" P R "a,e,d", 0);
+    job("S 10\nT 10\nK 1\nC 5\n\n((a,b),x);((y,b),a);ab,x,y", AGREE_LINES_ROOM);
+    job("S 10\nT 10\nK 1\nC 5\n\n((a,b),x);((y,b),a);ab,y,x", AGREE_LINES_ROOM);
+    job("S 6\nT 6\nK 1\nC 2\n\n(a,b);(b,a);zb,", AGREE_LINES_ROOM);
+    job("E 2\nS 10\nT 10\nK 1\nC 5\n\n((A,b),C);((a,c),B);bc,B,a", AGREE_LINES_ROOM);
+    job("strict\nE 2\nS 10\nT 8\nK 1\nC 5\n\n('a b',c);(C,A_B);Cc,A_b", AGREE_LINES_ROOM);
+    job("S 2\nT 2\nC 1\nK 1\n\na;a;aa", AGREE_LINES_ROOM);
+    job("S 16\nT 18\nK 13\nC 3\n\n((a_b,'c_d'),e);(('a b',e),'c_d');'a b','c_d',e" "a_b", AGREE_LINES_ROOM);
+    job(longest_claim("strict\nE 2\n"), AGREE_LINES_ROOM);
 }
 
 int main(void)
@@ -305,6 +455,8 @@ int main(void)
     edition_jobs();
     job(blanks(16384), AGREE_LINES_ROOM);
     job(blanks(16385), AGREE_LINES_ROOM);
+    claims();
+    claim_jobs();
     if (failed)
         puts("a byte that had to stay was changed, or a number that had to be 0 was another");
     return failed;

@@ -26,21 +26,35 @@ static const char *after(const char *line, const char *text)
     return text + (strncmp(text, line, length) == 0 ? length : 0);
 }
 
-/* The three bodies of the job, where its contents can be read; what is asked beside them is left aside. */
-static const char *body[3];
-static size_t body_length[3];
+/* The bodies of the job, where its contents can be read; what is asked beside them is left aside. A job without a claim has its list in
+ * place of one. */
+static const char *body[4];
+static size_t body_length[4];
+static int claimed;
 
 static int split(void)
 {
-    int head = 0;
+    int head = 0, more = 0;
     job[job_length] = 0;
     const char *lengths = after("E 1\n", after("E 2\n", after("strict\n", job)));
     if (sscanf(lengths, "S %zu\nT %zu\nK %zu%n", &body_length[0], &body_length[1], &body_length[2], &head) != 3)
         return 0;
-    body[0] = lengths + head + 2;
-    body[1] = body[0] + body_length[0];
-    body[2] = body[1] + body_length[1];
-    return body[2] + body_length[2] == job + job_length;
+    claimed = sscanf(lengths + head, "\nC %zu%n", &body_length[3], &more) == 1;
+    if (!claimed)
+        body_length[3] = 0;
+    body[0] = lengths + head + more + 2;
+    for (int i = 0; i < 4; i++)
+        if (body_length[i] > job_length)
+            return 0;
+    for (int i = 1; i < 4; i++)
+        body[i] = body[i - 1] + body_length[i - 1];
+    if (body[3] + body_length[3] != job + job_length)
+        return 0;
+    if (!claimed) {
+        body[3] = body[2];
+        body_length[3] = body_length[2];
+    }
+    return 1;
 }
 
 static void *nothing(void *unused) { return unused; }
@@ -62,6 +76,13 @@ static void *run_with(void *unused)
 {
     agree_largest_with(options, (const uint8_t *)body[0], body_length[0], (const uint8_t *)body[1], body_length[1],
                        (const uint8_t *)body[2], body_length[2], out, room);
+    return unused;
+}
+
+static void *run_claim(void *unused)
+{
+    agree_claim(options, (const uint8_t *)body[0], body_length[0], (const uint8_t *)body[1], body_length[1], (const uint8_t *)body[2],
+                body_length[2], (const uint8_t *)body[3], body_length[3]);
     return unused;
 }
 
@@ -88,11 +109,12 @@ struct worst {
     size_t options, bytes, at;
 };
 
-/* One call with an output that suffices and one with none. */
+/* One call with an output that suffices and one with none; a claim takes no output. */
 static void measure(struct worst *worst, size_t at)
 {
+    const size_t most = worst->work == run_claim ? 0 : sizeof out;
     options = worst->options;
-    for (room = 0; room <= sizeof out; room += sizeof out) {
+    for (room = 0; room <= most; room += sizeof out) {
         size_t bytes = used(worst->work);
         if (bytes > worst->bytes) {
             worst->bytes = bytes;
@@ -104,10 +126,15 @@ static void measure(struct worst *worst, size_t at)
 int main(void)
 {
     struct worst entries[] = {{"agree_job", run_job, 0, 0, 0},
+                              {"agree_job, with a claim", run_job, 0, 0, 0},
                               {"agree_largest", run_largest, 0, 0, 0},
                               {"agree_largest_with, strict", run_with, AGREE_STRICT, 0, 0},
                               {"agree_largest_with, edition 2", run_with, AGREE_EDITION_2, 0, 0},
-                              {"agree_largest_with, strict, edition 2", run_with, AGREE_STRICT + AGREE_EDITION_2, 0, 0}};
+                              {"agree_largest_with, strict, edition 2", run_with, AGREE_STRICT + AGREE_EDITION_2, 0, 0},
+                              {"agree_claim", run_claim, 0, 0, 0},
+                              {"agree_claim, strict", run_claim, AGREE_STRICT, 0, 0},
+                              {"agree_claim, edition 2", run_claim, AGREE_EDITION_2, 0, 0},
+                              {"agree_claim, strict, edition 2", run_claim, AGREE_STRICT + AGREE_EDITION_2, 0, 0}};
     const size_t all = sizeof entries / sizeof entries[0];
     uint8_t length[2];
     size_t count = 0, failed = 0;
@@ -117,7 +144,9 @@ int main(void)
         job_length = (size_t)length[0] << 8 | length[1];
         if (fread(job, 1, job_length, stdin) != job_length)
             abort();
-        for (size_t i = 0, end = split() ? all : 1; i < end; i++)
+        int whole = split();
+        measure(&entries[whole && claimed], count);
+        for (size_t i = 2; whole && i < all; i++)
             measure(&entries[i], count);
         count++;
     }

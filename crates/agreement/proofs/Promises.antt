@@ -1,5 +1,5 @@
 -- What the definitions of this crate promise, in the scope paper's order; each theorem cites one name. Assumes nothing.
-use Prim.Native.Nat.{ℕ, _/_, _%_, _≤_, _<_}
+use Prim.Native.Nat.{ℕ, _+_, _/_, _%_, _≤_, _<_}
 use mathlib.Core.Path.{_≡_}
 use mathlib.Core.Bool.{Bool, true, false}
 use mathlib.Core.Logic.{_↔_}
@@ -150,6 +150,11 @@ module _ (s t : Tree) (K : List Label) (proper : Proper s) (different : distinct
   module _ (M : ℕ) (held : Common s t (setOf K)) (great : Greatest (telling leafLimit (sorted K) (common s t)) s t M) where
     pub weight-tells-set : M / whole / forcedUnit ≡ length K → answer s t K ≡ largest (decode leafLimit (common s t) (M % whole))
     weight-tells-set = Tells.told-set s t K proper different held M great
+
+    -- and its units are the size
+    pub weight-tells-size : M / whole / forcedUnit ≡ length K
+        → length (decode leafLimit (common s t) (M % whole)) ≡ M / whole / forcedUnit + M / whole % forcedUnit
+    weight-tells-size = Tells.told-size s t K proper different held M great
 
     pub weight-tells-eight : (M / whole / forcedUnit ≡ length K → ⊥)
         → (a : Label) × (b : Label) × (c : Label) × (answer s t K ≡ disagree a b c)

@@ -120,6 +120,16 @@ module _ (n : ℕ) (full : power n ≡ whole) (s t : Tree) (ds : distinct (leave
         same x l (inl m) = f .smallest x m l
         same x l (inr m) = outside (great .set) (great .commonLeaves) x m ∙ sym (outside (setOf Y) c x m)
 
+    -- where all required labels are held, the units of the greatest weight are the size
+    reached : M / whole / forcedUnit ≡ length K
+        → Allowed s t F X × (length X ≡ M / whole / forcedUnit + M / whole % forcedUnit)
+    unfolding g units-greatest
+    reached e = forced-reached s t F (M / whole) ds few F-inc F-held g (e ∙ sym (length-sorted K))
+
+    pub tells-size : M / whole / forcedUnit ≡ length K
+        → length (decode n C (M % whole)) ≡ M / whole / forcedUnit + M / whole % forcedUnit
+    tells-size e = ap (length {A = Label}) (set-decoded F M great) ∙ reached e .1
+
     pub tells-answer : M / whole / forcedUnit ≡ length K → IsAnswer s t K (decode n C (M % whole))
     unfolding g units-greatest
     tells-answer e = subst (IsAnswer s t K) (sym (set-decoded F M great)) is
@@ -127,22 +137,19 @@ module _ (n : ℕ) (full : power n ≡ whole) (s t : Tree) (ds : distinct (leave
         counted : M / whole / forcedUnit ≡ length F
         counted = e ∙ sym (length-sorted K)
 
-        reached : Allowed s t F X × (length X ≡ M / whole / forcedUnit + M / whole % forcedUnit)
-        reached = forced-reached s t F (M / whole) ds few F-inc F-held g counted
-
         forF : (Y : List Label) → Allowed s t K Y → Allowed s t F Y
         forF Y p = allowed-fewer s t F K Y (sorted-within K) p
 
         bound : (Y : List Label) → Allowed s t K Y → length Y ≤ length X
-        bound Y p = omega (arith, forced-bound s t F (M / whole) ds few F-inc F-held g Y (forF Y p), reached .1)
+        bound Y p = omega (arith, forced-bound s t F (M / whole) ds few F-inc F-held g Y (forF Y p), reached e .1)
 
         weighs : (Y : List Label) → Allowed s t K Y → length Y ≡ length X → weightIn (forcing F) s (setOf Y) ≡ M / whole
         weighs Y p l =
-            omega (arith, list-weight s t F (M / whole) ds few F-inc F-held g Y (forF Y p), reached .1, counted)
+            omega (arith, list-weight s t F (M / whole) ds few F-inc F-held g Y (forF Y p), reached e .1, counted)
 
         is : IsAnswer s t K X
         is = record {
-          allowedSet = allowed-fewer s t K F X (within-sorted K) (reached .0);
+          allowedSet = allowed-fewer s t K F X (within-sorted K) (reached e .0);
           largestSize = bound;
           firstOfSize = λ Y p l. order Y (p .ordered) (p .commonLeaves)
               (set-first F M great (setOf Y) (p .commonLeaves) (p .agreed) (weighs Y p l));
@@ -183,3 +190,7 @@ module _ (s t : Tree) (K : List Label) (proper : Proper s) (dk : distinct K ≡ 
 
   pub told-eight : (M / whole / forcedUnit ≡ length K → ⊥) → (a : Label) × (b : Label) × (c : Label) × (answer s t K ≡ disagree a b c)
   told-eight = tells-eight leafLimit full-places s t (proper .different) (common-few s t proper) K (proper .few) dk held M great
+
+  pub told-size : M / whole / forcedUnit ≡ length K
+      → length (decode leafLimit (common s t) (M % whole)) ≡ M / whole / forcedUnit + M / whole % forcedUnit
+  told-size = tells-size leafLimit full-places s t (proper .different) (common-few s t proper) K (proper .few) dk held M great

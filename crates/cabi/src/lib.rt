@@ -5,12 +5,16 @@
 ghost use mathlib.Core.Path.{_≡_};
 ghost use mathlib.Core.Option.{some};
 ghost use Prim.Native.Nat.{_≤_};
+ghost use lib.Dec.{leb};
 ghost use lib.ListN.{length};
 ghost use Rattle.mast.specs.Largest.{task, plain, solve, outputOf};
 ghost use Rattle.job.specs.Printed.{solveJob};
 ghost use Rattle.job.specs.Answered.{answerTo, jobOutput};
-ghost use Rattle.cabi.specs.Numbers.{succeeded, disagreed, refusedWith, numbersOf, optionsOf, solveWith, jobNumbers};
+ghost use Rattle.cabi.specs.Numbers.{succeeded, disagreed, refusedWith, numbersOf, optionsOf, unknownFlags, solveWith};
+ghost use Rattle.cabi.specs.Numbers.{claimNumbers, judgeWith, namedIn, jobNumbers};
+use claims::ClaimAnswer;
 use job::JobAnswer;
+use job::Named;
 use mast::LargestAnswer;
 use mast::Options;
 use trees::Body;
@@ -24,8 +28,9 @@ const STRICT: usize = 1;
 // The flag for the second edition of the naming code; no greater flag is known.
 const EDITION_2: usize = 2;
 
-// The refusal's number (0 on success), its letter and place; on success the length of the text in the output and, of
-// `agree_largest`, the size of the set; for number 8 where the three labels stand, in the list or, of `agree_job`, in the job.
+// The refusal's number (0 on success), its letter and place; on success the length of the text in the output and, of `agree_largest` and
+// `agree_claim`, the size of the set; for numbers 8 and 14 where the three labels stand, in the list, in the claim or, of `agree_job`, in
+// the job.
 #[repr(C)]
 pub struct AgreeResult {
     pub number: usize,
@@ -54,13 +59,15 @@ fn succeeded(size: usize, length: usize) -> AgreeResult
     }
 }
 
-// Number 8 with the places of its three labels.
-fn disagreed(a: usize, b: usize, c: usize) -> AgreeResult
-    ensures { λ r. ⌜ r ≡ disagreed a b c ⌝ }
+// Number 8 of the list, or 14 of the claim, with the places of its three labels.
+fn disagreed(reason: Reason, body: Body, a: usize, b: usize, c: usize) -> AgreeResult
+    ensures { λ r. ⌜ r ≡ disagreed reason body a b c ⌝ }
 {
+    let number = trees::number(reason) as usize;
+    let letter = trees::letter(body) as usize;
     AgreeResult {
-        number: 8,
-        letter: 75,
+        number,
+        letter,
         place: 0,
         size: 0,
         length: 0,
@@ -110,7 +117,7 @@ fn answered(
     let answer = result.answer;
     match answer {
         LargestAnswer::Found(size, length) => succeeded(size, length),
-        LargestAnswer::Disagree(a, b, c) => disagreed(a, b, c),
+        LargestAnswer::Disagree(a, b, c) => disagreed(Reason::Disagree, Body::K, a, b, c),
         LargestAnswer::Refused(refusal) => refused_with(refusal),
     }
 }
@@ -155,6 +162,24 @@ fn options_of(flags: usize) -> Options
     }
 }
 
+// Whether the flags are known.
+fn is_known(flags: usize) -> bool
+    ensures { λ r. ⌜ r ≡ leb flags 3 ⌝ }
+{
+    flags <= STRICT + EDITION_2
+}
+
+// The refusal of flags that are not known.
+fn unknown_flags() -> Refusal
+    ensures { λ r. ⌜ r ≡ unknownFlags ⌝ }
+{
+    Refusal {
+        reason: Reason::Contents,
+        body: Body::J,
+        place: 0,
+    }
+}
+
 // The same with flags: 1 asks for `strict`, 2 for the second edition, 3 for both. Flags that are not known are refused with
 // 10, J, 0, before anything is read.
 #[no_mangle]
@@ -173,18 +198,52 @@ pub extern "C" fn agree_largest_with(
         (solveWith flags (now (first .entry)) (now (second .entry)) (now (required .entry)) (length (now (out .entry))))
         (now (out .entry)) ⌝ }
 {
-    if STRICT + EDITION_2 < flags {
-        return refused_with(Refusal {
-            reason: Reason::Contents,
-            body: Body::J,
-            place: 0,
-        });
+    if !is_known(flags) {
+        return refused_with(unknown_flags());
     }
     let options = options_of(flags);
     answered(options, first, second, required, out)
 }
 
-// The answer to a job; its lines go into `out`. The size is told by the first of them.
+// Whether a claimed set holds every required label, the trees agree on it and no larger such set exists: its size, or the first row that
+// turns it away. Flags as above.
+#[no_mangle]
+pub extern "C" fn agree_claim(
+    flags: usize,
+    first: &[u8],
+    second: &[u8],
+    required: &[u8],
+    claim: &[u8],
+) -> AgreeResult
+    ensures { λ r.
+        ⌜ r ≡ claimNumbers
+        (judgeWith flags (now (first .entry)) (now (second .entry)) (now (required .entry)) (now (claim .entry))) ⌝ }
+{
+    if !is_known(flags) {
+        return refused_with(unknown_flags());
+    }
+    let options = options_of(flags);
+    let result = claims::judge(options, first, second, required, claim);
+    let answer = result.answer;
+    match answer {
+        ClaimAnswer::Passed(size) => succeeded(size, 0),
+        ClaimAnswer::Disagree(a, b, c) => disagreed(Reason::Disagree, Body::K, a, b, c),
+        ClaimAnswer::Apart(a, b, c) => disagreed(Reason::ClaimDisagrees, Body::C, a, b, c),
+        ClaimAnswer::Refused(refusal) => refused_with(refusal),
+    }
+}
+
+// Three labels of a job that disagree, by their places in it.
+fn named_in(reason: Reason, body: Body, named: Named) -> AgreeResult
+    ensures { λ r. ⌜ r ≡ namedIn reason body named ⌝ }
+{
+    let one = named.first;
+    let two = named.second;
+    let three = named.third;
+    disagreed(reason, body, one.place, two.place, three.place)
+}
+
+// The answer to a job; its lines go into `out`. The size is told by the first of them, or by the only one of a job with a claim.
 #[no_mangle]
 pub extern "C" fn agree_job(bytes: &[u8], out: &mut [u8]) -> AgreeResult
     ensures numbers { λ r. ⌜ r ≡ jobNumbers (answerTo (now (bytes .entry)) (length (now (out .entry)))) ⌝ }
@@ -193,12 +252,8 @@ pub extern "C" fn agree_job(bytes: &[u8], out: &mut [u8]) -> AgreeResult
     let answer = job::answer_job(bytes, out);
     match answer {
         JobAnswer::Written(length) => succeeded(0, length),
-        JobAnswer::Disagree(named) => {
-            let one = named.first;
-            let two = named.second;
-            let three = named.third;
-            disagreed(one.place, two.place, three.place)
-        }
+        JobAnswer::Disagree(named) => named_in(Reason::Disagree, Body::K, named),
+        JobAnswer::Apart(named) => named_in(Reason::ClaimDisagrees, Body::C, named),
         JobAnswer::Refused(refusal) => refused_with(refusal),
     }
 }

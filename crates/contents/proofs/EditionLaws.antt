@@ -8,7 +8,7 @@ use mathlib.Core.Option.{some, none}
 use native.Mathlib.Omega.{arith}
 use lib.ListN.{length}
 use Rattle.trees.specs.declared.Body.{Body}
-use Rattle.trees.specs.declared.Body.the-variants.{S, T, K}
+use Rattle.trees.specs.declared.Body.the-variants.{S, T, K, C}
 use Rattle.trees.specs.declared.Edition.the-variants as edition
 use Rattle.trees.specs.Words.{bytesOf}
 use Rattle.trees.specs.Refusals.{letterOf}
@@ -19,17 +19,17 @@ use Rattle.contents.specs.declared.Stated.{Stated}
 use Rattle.contents.specs.declared.Stated.the-variants as states
 use Rattle.contents.specs.declared.Table.{Table}
 use Rattle.contents.specs.Contents.{Bodies, digitLimit, editionOf, line, entryLine, strictText, editionText, tableText, lengthsOf, jobOf}
-use Rattle.contents.specs.Contents.{headed, _andThen_, byteOf, byte, lengthStep, entry, emptyLine, begins, withLength, tableLines, begun, laidOut, layoutOf, bodiesOf}
+use Rattle.contents.specs.Contents.{headed, _andThen_, byteOf, byte, lengthStep, entry, optionalEntry, emptyLine, begins, withLength, tableLines, begun, laidOut, layoutOf, bodiesOf}
 use Rattle.contents.proofs.OptionalLaws.{begins-own, begins-both}
 use Rattle.contents.proofs.HeadLaws.{carrying, NoneNext, entry-next, head-read}
 use Rattle.contents.proofs.StepLaws.{then-none, then-some}
-use Rattle.contents.proofs.ContentsLaws.{strict-parts, table-text, entry-written, contents-read, contents-written}
+use Rattle.contents.proofs.ContentsLaws.{bytesFrom, strict-parts, table-text, entry-written, contents-read, contents-written}
 
 -- ---- the line stands after `strict`, and all else is the same without it
 
 edition-parts : (b : Bodies) (stated : Stated) → jobOf (headed false stated b) ≡ editionText stated ++ jobOf (headed false states.Nothing b)
 unfolding jobOf lengthsOf tableText strictText editionText
-edition-parts b stated = append-assoc (editionText stated) (tableText (lengthsOf (headed false states.Nothing b))) (b .first ++ (b .second ++ b .list))
+edition-parts b stated = append-assoc (editionText stated) (tableText (lengthsOf (headed false states.Nothing b))) (bytesFrom b)
 
 pub edition-line : (b : Bodies) → jobOf b ≡ strictText (b .strict) ++ (editionText (b .stated) ++ jobOf (headed false states.Nothing b))
 edition-line b = strict-parts b ∙ ap (λ (l : List ℕ). strictText (b .strict) ++ l) (edition-parts b (b .stated))
@@ -40,15 +40,17 @@ unfolding lengthsOf
 edition-exchanged job b e stated =
     let s = contents-read job b e .1 in
     ap bodiesOf (sym (edition-line (headed (b .strict) stated b)))
-    ∙ contents-written (headed (b .strict) stated b) (record { one = s .one; two = s .two; three = s .three })
+    ∙ contents-written (headed (b .strict) stated b) (record { one = s .one; two = s .two; three = s .three; four = s .four })
 
 -- a job with neither line: those of the base are all that is read of it
 pub base-job : (job : List ℕ) → begins (line (bytesOf "strict")) job ≡ false → begins (line (bytesOf "E 1")) job ≡ false
     → begins (line (bytesOf "E 2")) job ≡ false
-    → layoutOf job ≡ laidOut job ((entry S andThen entry T andThen entry K andThen emptyLine) (begun job))
-unfolding layoutOf strictText editionText
+    → layoutOf job ≡ laidOut job ((entry S andThen entry T andThen entry K andThen optionalEntry C andThen emptyLine) (begun job))
+unfolding layoutOf tableLines strictText editionText
 base-job job a b c =
-    ap (laidOut job) (head-read false states.Nothing job (λ (e : states.Nothing ≡ states.Nothing). record { strict = a; one = b; two = c }))
+    ap (laidOut job)
+    (head-read false states.Nothing job (λ (e : states.Nothing ≡ states.Nothing). record { strict = a; one = b; two = c })
+    (entry S andThen entry T andThen entry K andThen optionalEntry C andThen emptyLine))
 
 -- ---- which edition a job has
 
@@ -65,7 +67,7 @@ two-exactly states.Two rest e = (λ h. begins-own (line (bytesOf "E 2")) rest, �
 bare-begins : (b : Bodies) → begins (line (bytesOf "E 2")) (jobOf (headed false states.Nothing b)) ≡ false
 unfolding jobOf strictText editionText
 bare-begins b =
-    ap (begins (line (bytesOf "E 2"))) (table-text (lengthsOf (headed false states.Nothing b)) (b .first ++ (b .second ++ b .list)))
+    ap (begins (line (bytesOf "E 2"))) (table-text (lengthsOf (headed false states.Nothing b)) (bytesFrom b))
     ∙ entry-next (length (b .first)) _ .two
 
 pub edition-exactly : (job : List ℕ) (b : Bodies) → bodiesOf job ≡ some b
@@ -79,17 +81,17 @@ edition-exactly job b e =
 
 -- ---- a line where it may not stand
 
-byte-other : (b x : ℕ) (t : Table) (rest : List ℕ) → (x ≡ b → ⊥) → byte b (record { table = t; rest = x ∷ rest }) ≡ none
+pub byte-other : (b x : ℕ) (t : Table) (rest : List ℕ) → (x ≡ b → ⊥) → byte b (record { table = t; rest = x ∷ rest }) ≡ none
 unfolding byte byteOf
 byte-other b x t rest h = rw (ne-eqb x b h) refl
 
-entry-other : (body : Body) (x : ℕ) (t : Table) (rest : List ℕ) → (x ≡ letterOf body → ⊥) → entry body (record { table = t; rest = x ∷ rest }) ≡ none
+pub entry-other : (body : Body) (x : ℕ) (t : Table) (rest : List ℕ) → (x ≡ letterOf body → ⊥) → entry body (record { table = t; rest = x ∷ rest }) ≡ none
 unfolding entry
 entry-other body x t rest h =
     then-none (byte (letterOf body)) (byte 32 andThen lengthStep body andThen byte 10) (record { table = t; rest = x ∷ rest })
     (byte-other (letterOf body) x t rest h)
 
-none-laid : (job : List ℕ) → tableLines (begun job) ≡ none → layoutOf job ≡ layout.Broken
+pub none-laid : (job : List ℕ) → tableLines (begun job) ≡ none → layoutOf job ≡ layout.Broken
 unfolding layoutOf laidOut
 none-laid job e = ap (laidOut job) e
 
@@ -97,10 +99,11 @@ module _ (strict : Bool) (stated : Stated) where
   -- after these lines the letter `S` is due
   letter-due : (x : ℕ) (rest : List ℕ) → (x ≡ letterOf S → ⊥) → (stated ≡ states.Nothing → NoneNext (x ∷ rest))
       → layoutOf (strictText strict ++ (editionText stated ++ (x ∷ rest))) ≡ layout.Broken
+  unfolding tableLines
   letter-due x rest h past =
       none-laid (strictText strict ++ (editionText stated ++ (x ∷ rest)))
-      (head-read strict stated (x ∷ rest) past
-      ∙ then-none (entry S) (entry T andThen entry K andThen emptyLine) (record { table = carrying strict stated; rest = x ∷ rest })
+      (head-read strict stated (x ∷ rest) past (entry S andThen entry T andThen entry K andThen optionalEntry C andThen emptyLine)
+      ∙ then-none (entry S) (entry T andThen entry K andThen optionalEntry C andThen emptyLine) (record { table = carrying strict stated; rest = x ∷ rest })
       (entry-other S x (carrying strict stated) rest h))
 
   pub second-edition : (stated ≡ states.Nothing → ⊥) → (rest : List ℕ)
@@ -110,15 +113,16 @@ module _ (strict : Bool) (stated : Stated) where
 
   pub late-edition : (n : ℕ) → n < 10 ^ digitLimit → (rest : List ℕ)
       → layoutOf (strictText strict ++ (editionText stated ++ (entryLine S n ++ (bytesOf "E" ++ rest)))) ≡ layout.Broken
-  unfolding bytesOf letterOf
+  unfolding tableLines bytesOf letterOf
   late-edition n small rest =
       let late : List ℕ = 69 ∷ rest in
       let t : Table = carrying strict stated in
       none-laid (strictText strict ++ (editionText stated ++ (entryLine S n ++ late)))
       (head-read strict stated (entryLine S n ++ late) (λ (e : stated ≡ states.Nothing). entry-next n late)
-      ∙ then-some (entry S) (entry T andThen entry K andThen emptyLine)
+      (entry S andThen entry T andThen entry K andThen optionalEntry C andThen emptyLine)
+      ∙ then-some (entry S) (entry T andThen entry K andThen optionalEntry C andThen emptyLine)
       (record { table = t; rest = entryLine S n ++ late }) (record { table = withLength S n t; rest = late }) (entry-written S n small t late)
-      ∙ then-none (entry T) (entry K andThen emptyLine) (record { table = withLength S n t; rest = late })
+      ∙ then-none (entry T) (entry K andThen optionalEntry C andThen emptyLine) (record { table = withLength S n t; rest = late })
       (entry-other T 69 (withLength S n t) rest (λ h. omega arith)))
 
 pub other-edition : (strict : Bool) (rest : List ℕ) → begins (line (bytesOf "E 1")) (bytesOf "E" ++ rest) ≡ false

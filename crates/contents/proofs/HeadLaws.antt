@@ -6,15 +6,16 @@ use mathlib.Core.Logic.{_⊎_, inl, inr}
 use mathlib.Core.List.{List, _++_}
 use mathlib.Core.Option.{some}
 use lib.ListN.{length, drop}
-use Rattle.trees.specs.declared.Body.the-variants.{S, T, K}
+use Rattle.trees.specs.declared.Body.the-variants.{S}
 use Rattle.trees.specs.Refusals.{letterOf}
 use Rattle.trees.specs.Words.{bytesOf}
 use Rattle.contents.specs.declared.Reading.the-variants as reading
+use Rattle.contents.specs.declared.Claim.the-variants as claims
 use Rattle.contents.specs.declared.Stated.{Stated}
 use Rattle.contents.specs.declared.Stated.the-variants as states
 use Rattle.contents.specs.declared.Table.{Table}
 use Rattle.contents.specs.Contents.{Progress, Step, onward, _andThen_, line, entryLine, strictText, editionText, begins, stay, optional}
-use Rattle.contents.specs.Contents.{withStrict, strictLine, withStated, editionLine, entry, emptyLine, tableLines, begun}
+use Rattle.contents.specs.Contents.{withStrict, strictLine, withStated, editionLine, begun}
 use Rattle.contents.specs.Steps.{told}
 use Rattle.contents.proofs.OptionalLaws.{line-stood, line-passed, line-absent, line-written, line-unwritten}
 use Rattle.contents.proofs.OptionalLaws.{Taken, line-took, Carried, carried-line, carried-none}
@@ -51,7 +52,7 @@ module _ (job : List ℕ) (at : ℕ) (t : Table) where
 
 -- the table before the lines with lengths
 abbrev pub carrying : Bool → Stated → Table
-carrying strict stated = record { strict = strict; stated = stated; first = 0; second = 0; required = 0 }
+carrying strict stated = record { strict = strict; stated = stated; first = 0; second = 0; required = 0; claim = claims.Absent }
 
 -- none of these lines stands next
 pub record NoneNext (rest : List ℕ) : Type 0 where
@@ -95,18 +96,15 @@ edition-written strict states.Two rest past =
     line-unwritten (bytesOf "E 1") (withStated states.One) orTwo (carrying strict states.Nothing) (line (bytesOf "E 2") ++ rest) (two-not-one rest)
     ∙ line-written (bytesOf "E 2") (withStated states.Two) stay (carrying strict states.Nothing) rest
 
--- both are read, and the lines with lengths are left
-pub head-read : (strict : Bool) (stated : Stated) (rest : List ℕ) → (stated ≡ states.Nothing → NoneNext rest)
-    → tableLines (begun (strictText strict ++ (editionText stated ++ rest)))
-    ≡ (entry S andThen entry T andThen entry K andThen emptyLine) (record { table = carrying strict stated; rest = rest })
-unfolding tableLines
-head-read strict stated rest past =
+-- both are read, and the steps after them are left
+pub head-read : (strict : Bool) (stated : Stated) (rest : List ℕ) → (stated ≡ states.Nothing → NoneNext rest) → (g : Step)
+    → (strictLine andThen editionLine andThen g) (begun (strictText strict ++ (editionText stated ++ rest)))
+    ≡ g (record { table = carrying strict stated; rest = rest })
+head-read strict stated rest past g =
     let text : List ℕ = editionText stated ++ rest in
     let mid : Progress = record { table = carrying strict states.Nothing; rest = text } in
-    then-some strictLine (editionLine andThen entry S andThen entry T andThen entry K andThen emptyLine)
-    (begun (strictText strict ++ text)) mid (strict-written strict text (not-strict stated rest past))
-    ∙ then-some editionLine (entry S andThen entry T andThen entry K andThen emptyLine)
-    mid (record { table = carrying strict stated; rest = rest }) (edition-written strict stated rest past)
+    then-some strictLine (editionLine andThen g) (begun (strictText strict ++ text)) mid (strict-written strict text (not-strict stated rest past))
+    ∙ then-some editionLine g mid (record { table = carrying strict stated; rest = rest }) (edition-written strict stated rest past)
 
 -- ---- what is read is written
 

@@ -1,3 +1,4 @@
+pub mod ClaimLaws
 pub mod ContentsLaws
 pub mod EditionLaws
 pub mod HeadLaws

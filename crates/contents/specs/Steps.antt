@@ -3,7 +3,7 @@
 use Prim.Native.Nat.{ℕ, _+_, _≤_, _<_}
 use mathlib.Core.Path.{_≡_}
 use mathlib.Core.Bool.{Bool, true, cond}
-use mathlib.Core.List.{List}
+use mathlib.Core.List.{List, [], _∷_}
 use mathlib.Core.Option.{Option, some, none}
 use lib.ListN.{length, drop, getD}
 use Rattle.contents.specs.declared.Table.{Table}
@@ -11,7 +11,7 @@ use Rattle.contents.specs.declared.Reading.{Reading}
 use Rattle.contents.specs.declared.Reading.the-variants as reading
 use Rattle.contents.specs.declared.decimal.Digits.{Digits}
 use Rattle.contents.specs.declared.decimal.Digits.the-variants as digits
-use Rattle.contents.specs.Contents.{Number, Progress, byteOf}
+use Rattle.contents.specs.Contents.{Number, Progress, byteOf, begins, claimSize}
 
 -- what a length that was read stays below, far from where sums of lengths would wrap
 abbrev pub lengthBound : ℕ
@@ -20,6 +20,7 @@ lengthBound = 1000000000000000
 -- whether byte b stands at a place
 pub record Stands (b : ℕ) (job : List ℕ) (at : ℕ) (r : Bool) : Type 0 where
   pub next : (t : Table) → byteOf b t (drop at job) ≡ cond r (some (record { table = t; rest = drop (at + 1) job })) none
+  pub next-is : begins (b ∷ []) (drop at job) ≡ r
   pub inside : r ≡ true → at < length job
 
 -- the number and what follows it
@@ -41,6 +42,7 @@ pub record SmallTable (t : Table) : Type 0 where
   pub one : t .first < lengthBound
   pub two : t .second < lengthBound
   pub three : t .required < lengthBound
+  pub four : claimSize (t .claim) < lengthBound
 
 -- the lengths are small, and the place is in the job
 abbrev pub Small : List ℕ → Reading → Type 0

@@ -1,5 +1,5 @@
 // The table of contents of a job: the line `strict` and a line of the edition where the job carries them, a line with the length of
-// each body, an empty line, then the bodies.
+// each body, the claimed set's only where the job has one, an empty line, then the bodies.
 //
 // No public function has a `requires`. Each line is a step from one state of reading to the next, so a further line is a further step.
 use crate::decimal::Digits;
@@ -8,7 +8,7 @@ use trees::Edition;
 ghost use mathlib.Core.Path.{_≡_};
 ghost use lib.ListN.{drop};
 ghost use Rattle.contents.specs.Contents.{onward, byte, lengthStep, entry, withLength, laidOut, layoutOf};
-ghost use Rattle.contents.specs.Contents.{begins, strictLine, withStated, editionLine, editionOf};
+ghost use Rattle.contents.specs.Contents.{begins, strictLine, withStated, editionLine, editionOf, claimSize, optionalEntry};
 ghost use Rattle.contents.specs.Steps.{Stands, told, Small};
 
 mod decimal;
@@ -20,6 +20,12 @@ pub enum Stated {
     Two,
 }
 
+// What a job lists of a claimed set: no body, or its length in bytes.
+pub enum Claim {
+    Absent,
+    Bytes(usize),
+}
+
 // Whether the job carries the line `strict`, what it states of its edition, and the lengths of the bodies, in bytes.
 pub struct Table {
     pub strict: bool,
@@ -27,6 +33,7 @@ pub struct Table {
     pub first: usize,
     pub second: usize,
     pub required: usize,
+    pub claim: Claim,
 }
 
 // Where the bodies begin in the job, and their lengths; or that the contents break their rules.
@@ -96,12 +103,14 @@ fn strict_after(job: &[u8], state: Reading) -> Reading
         return state;
     }
     let stated = table.stated;
+    let claim = table.claim;
     let strict = Table {
         strict: true,
         stated: stated,
         first: table.first,
         second: table.second,
         required: table.required,
+        claim: claim,
     };
     Reading::At(strict, at + line.len())
 }
@@ -110,12 +119,14 @@ fn strict_after(job: &[u8], state: Reading) -> Reading
 fn with_stated(table: Table, stated: Stated) -> Table
     ensures { λ r. ⌜ r ≡ withStated stated table ⌝ }
 {
+    let claim = table.claim;
     Table {
         strict: table.strict,
         stated: stated,
         first: table.first,
         second: table.second,
         required: table.required,
+        claim: claim,
     }
 }
 
@@ -144,6 +155,7 @@ fn with_length(table: Table, body: Body, n: usize) -> Table
     ensures { λ r. ⌜ r ≡ withLength body n table ⌝ }
 {
     let stated = table.stated;
+    let claim = table.claim;
     match body {
         Body::S => Table {
             strict: table.strict,
@@ -151,6 +163,7 @@ fn with_length(table: Table, body: Body, n: usize) -> Table
             first: n,
             second: table.second,
             required: table.required,
+            claim: claim,
         },
         Body::T => Table {
             strict: table.strict,
@@ -158,6 +171,7 @@ fn with_length(table: Table, body: Body, n: usize) -> Table
             first: table.first,
             second: n,
             required: table.required,
+            claim: claim,
         },
         Body::K => Table {
             strict: table.strict,
@@ -165,6 +179,15 @@ fn with_length(table: Table, body: Body, n: usize) -> Table
             first: table.first,
             second: table.second,
             required: n,
+            claim: claim,
+        },
+        Body::C => Table {
+            strict: table.strict,
+            stated: stated,
+            first: table.first,
+            second: table.second,
+            required: table.required,
+            claim: Claim::Bytes(n),
         },
         Body::J => table,
         Body::O => table,
@@ -199,6 +222,31 @@ fn entry_after(job: &[u8], state: Reading, body: Body) -> Reading
     byte_after(job, number, b'\n')
 }
 
+// The step over the line of a body that a job may leave out: it is taken where the body's letter stands next.
+fn optional_entry_after(job: &[u8], state: Reading, body: Body) -> Reading
+    requires { ⌜ Small (now job) state ⌝ }
+    ensures step { λ r. ⌜ told (now (job .entry)) r ≡ onward (told (now (job .entry)) state) (optionalEntry body) ⌝ }
+    ensures small { λ r. ⌜ Small (now (job .entry)) r ⌝ }
+{
+    let Reading::At(_, at) = state else {
+        return Reading::Broken;
+    };
+    if !stands_at(job, at, trees::letter(body)) {
+        return state;
+    }
+    entry_after(job, state, body)
+}
+
+// How many bytes of the job are the claimed set's.
+fn claim_size(claim: Claim) -> usize
+    ensures { λ r. ⌜ r ≡ claimSize claim ⌝ }
+{
+    match claim {
+        Claim::Absent => 0,
+        Claim::Bytes(n) => n,
+    }
+}
+
 // The lengths must add up to exactly what follows the empty line.
 fn laid_out(job: &[u8], end: Reading) -> Layout
     requires { ⌜ Small (now job) end ⌝ }
@@ -207,7 +255,9 @@ fn laid_out(job: &[u8], end: Reading) -> Layout
     let Reading::At(table, at) = end else {
         return Layout::Broken;
     };
-    if table.first + table.second + table.required == job.len() - at {
+    let claim = table.claim;
+    let claimed = claim_size(claim);
+    if table.first + table.second + table.required + claimed == job.len() - at {
         Layout::Bodies(at, table)
     } else {
         Layout::Broken
@@ -224,6 +274,7 @@ pub fn contents(job: &[u8]) -> Layout
         first: 0,
         second: 0,
         required: 0,
+        claim: Claim::Absent,
     };
     let start = Reading::At(nothing, 0);
     let strict = strict_after(job, start);
@@ -231,7 +282,8 @@ pub fn contents(job: &[u8]) -> Layout
     let first = entry_after(job, edition, Body::S);
     let second = entry_after(job, first, Body::T);
     let required = entry_after(job, second, Body::K);
-    let end = byte_after(job, required, b'\n');
+    let claim = optional_entry_after(job, required, Body::C);
+    let end = byte_after(job, claim, b'\n');
     laid_out(job, end)
 }
 

@@ -1,8 +1,8 @@
 -- What the engine's answer says of the job's: a set and its lines, number 8 and its parts, or a refusal. Assumes nothing.
 use Prim.Native.Nat.{ℕ, _+_, _-_, _≤_, _<_}
-use mathlib.Core.Path.{_≡_, refl, sym, _∙_, ap}
+use mathlib.Core.Path.{_≡_, refl, sym, _∙_, ap, subst}
 use mathlib.Core.Bool.{true}
-use mathlib.Core.List.{List, _++_, map}
+use mathlib.Core.List.{List, [], _∷_, _++_, map}
 use mathlib.Core.Option.{Option, none}
 use native.Mathlib.Omega.{arith}
 use lib.ListN.{length, getD, take, drop, replicate, length-append, length-replicate}
@@ -25,50 +25,77 @@ use Rattle.agreement.specs.Places.{placeIn, tokenIn, placeOfLabel, spelledIn, n
 use Rattle.agreement.proofs.EditionText.{spelled-size}
 use Rattle.mast.specs.declared.LargestAnswer.the-variants.{Found, Disagree, Refused}
 use Rattle.mast.specs.declared.LargestResult.{LargestResult}
-use Rattle.mast.specs.Largest.{Solution, solved, clashed, turned, Task, task, solve, setPlaces, disagreeAt, largestOf, outputOf}
+use Rattle.mast.specs.Largest.{Solution, Task, task, solve, setPlaces, disagreeAt, largestOf, outputOf}
+use Rattle.mast.specs.Largest as mast
+use Rattle.claims.specs.declared.ClaimAnswer.{ClaimAnswer}
+use Rattle.claims.specs.declared.ClaimAnswer.the-variants as said
+use Rattle.claims.specs.declared.ClaimResult.{ClaimResult}
+use Rattle.claims.specs.Judge.{Judgement, passes, disagrees, declined, judge, claimResult}
+use Rattle.claims.specs.Judge as judge
 use Rattle.job.specs.declared.JobAnswer.the-variants as job-answer
+use Rattle.job.specs.declared.Named.{Named}
 use Rattle.job.specs.declared.NamedLabel.{NamedLabel}
 use Rattle.contents.specs.declared.Table.{Table}
 use Rattle.contents.specs.declared.Layout.{Layout}
 use Rattle.contents.specs.declared.Layout.the-variants as layout
-use Rattle.contents.specs.Contents.{Bodies, editionOf, layoutOf, bodiesIn, bodiesOf, firstPlace, listPlace}
+use Rattle.contents.specs.declared.Claim.{Claim}
+use Rattle.contents.specs.declared.Claim.the-variants.{Absent, Bytes}
+use Rattle.contents.specs.Contents.{Bodies, editionOf, claimSize, claimAt, layoutOf, bodiesIn, bodiesOf, firstPlace, listPlace, claimPlace}
 use Rattle.contents.proofs.ContentsLaws.{laid-job}
-use Rattle.job.specs.Printed.{recordLines, solveBodies, solveJob, jobLimit}
-use Rattle.job.specs.Answered.{lineOutput, recordAnswer, Begin, beginIn, namedLabel, answered, jobOutput}
-use Rattle.job.specs.Areas.{labelsIn}
+use Rattle.job.specs.Printed.{JobSolution, solved, passed, clashed, apart, turned, ofSolution, ofJudgement, recordLines, claimLine, solveTask, solveBodies, solveJob, jobLimit}
+use Rattle.job.specs.declared.Begin.{Begin}
+use Rattle.job.specs.Answered.{lineOutput, recordAnswer, beginIn, namedLabel, namedThree, answered, jobOutput}
+use Rattle.job.specs.Areas.{labelsIn, namedAt, Near}
 use Rattle.job.proofs.ShownLaws.{labels-are}
-use Rattle.job.proofs.SolvedLaws.{ClashedBy, From, solution-from, set-few, set-shown, in-tree, eight, label-listed, eight-shown}
+use Rattle.job.proofs.SolvedLaws.{ClashedBy, From, solution-from, Judged, judged-from, set-few, set-shown, in-tree, three-in, label-listed, three-shown}
 
 -- ---- one kind of answer each
 
-pub answered-turned : (at : Begin) (room : ℕ) (x : Solution) (q : Refusal) → x ≡ turned q → job-answer.Refused q ≡ answered at room x
-unfolding answered
-answered-turned at room x q e = rw e refl
+module _ (at : Begin) (room : ℕ) (x : JobSolution) where
+  pub answered-turned : (q : Refusal) → x ≡ turned q → job-answer.Refused q ≡ answered at room x
+  unfolding answered
+  answered-turned q d = ap (answered at room) (sym d)
 
-pub output-turned : (x : Solution) (q : Refusal) (out : List ℕ) → x ≡ turned q → out ≡ jobOutput x out
-unfolding jobOutput
-output-turned x q out e = rw e refl
+  pub answered-solved : (e : Edition) (s : Tree) (X : List Label) (text : List ℕ) → x ≡ solved e s X text
+      → recordAnswer (recordLines (map (nameIn e s) X) text) room ≡ answered at room x
+  unfolding answered
+  answered-solved e s X text d = ap (answered at room) (sym d)
 
-pub answered-solved : (at : Begin) (room : ℕ) (x : Solution) (e : Edition) (s : Tree) (X : List Label) (text : List ℕ) → x ≡ solved e s X text
-    → recordAnswer (recordLines (map (nameIn e s) X) text) room ≡ answered at room x
-unfolding answered
-answered-solved at room x e s X text d = ap (answered at room) (sym d)
+  pub answered-clashed : (e : Edition) (s : Tree) (xs : List Token) (a b c : Label) → x ≡ clashed e s xs a b c
+      → job-answer.Disagree (namedThree (at .tree) (at .list) e s xs a b c) ≡ answered at room x
+  unfolding answered
+  answered-clashed e s xs a b c d = ap (answered at room) (sym d)
 
-pub output-solved : (x : Solution) (e : Edition) (s : Tree) (X : List Label) (text out : List ℕ) → x ≡ solved e s X text
-    → lineOutput (recordLines (map (nameIn e s) X) text) out ≡ jobOutput x out
-unfolding jobOutput
-output-solved x e s X text out d = ap (λ (y : Solution). jobOutput y out) (sym d)
+  pub answered-passed : (n : ℕ) → x ≡ passed n → recordAnswer (claimLine n) room ≡ answered at room x
+  unfolding answered
+  answered-passed n d = ap (answered at room) (sym d)
 
-pub answered-clashed : (at : Begin) (room : ℕ) (x : Solution) (e : Edition) (s : Tree) (xs : List Token) (a b c : Label) → x ≡ clashed e s xs a b c
-    → job-answer.Disagree (record { first = namedLabel at e s xs a; second = namedLabel at e s xs b; third = namedLabel at e s xs c })
-    ≡ answered at room x
-unfolding answered
-answered-clashed at room x e s xs a b c d = ap (answered at room) (sym d)
+  pub answered-apart : (e : Edition) (s : Tree) (ys : List Token) (a b c : Label) → x ≡ apart e s ys a b c
+      → job-answer.Apart (namedThree (at .tree) (at .claim) e s ys a b c) ≡ answered at room x
+  unfolding answered
+  answered-apart e s ys a b c d = ap (answered at room) (sym d)
 
-pub output-clashed : (x : Solution) (e : Edition) (s : Tree) (xs : List Token) (a b c : Label) (out : List ℕ) → x ≡ clashed e s xs a b c
-    → out ≡ jobOutput x out
-unfolding jobOutput
-output-clashed x e s xs a b c out d = ap (λ (y : Solution). jobOutput y out) (sym d)
+module _ (x : JobSolution) (out : List ℕ) where
+  pub output-turned : (q : Refusal) → x ≡ turned q → out ≡ jobOutput x out
+  unfolding jobOutput
+  output-turned q d = ap (λ (y : JobSolution). jobOutput y out) (sym d)
+
+  pub output-solved : (e : Edition) (s : Tree) (X : List Label) (text : List ℕ) → x ≡ solved e s X text
+      → lineOutput (recordLines (map (nameIn e s) X) text) out ≡ jobOutput x out
+  unfolding jobOutput
+  output-solved e s X text d = ap (λ (y : JobSolution). jobOutput y out) (sym d)
+
+  pub output-clashed : (e : Edition) (s : Tree) (xs : List Token) (a b c : Label) → x ≡ clashed e s xs a b c → out ≡ jobOutput x out
+  unfolding jobOutput
+  output-clashed e s xs a b c d = ap (λ (y : JobSolution). jobOutput y out) (sym d)
+
+  pub output-passed : (n : ℕ) → x ≡ passed n → lineOutput (claimLine n) out ≡ jobOutput x out
+  unfolding jobOutput
+  output-passed n d = ap (λ (y : JobSolution). jobOutput y out) (sym d)
+
+  pub output-apart : (e : Edition) (s : Tree) (ys : List Token) (a b c : Label) → x ≡ apart e s ys a b c → out ≡ jobOutput x out
+  unfolding jobOutput
+  output-apart e s ys a b c d = ap (λ (y : JobSolution). jobOutput y out) (sym d)
 
 -- ---- what the engine found
 
@@ -78,7 +105,7 @@ pub record SetFound (q : Task) (area : List ℕ) (places : LabelPlaces) (k : ℕ
   pub s : Tree
   pub X : List Label
   pub text : List ℕ
-  pub solution : solve q treeRoom ≡ solved e s X text
+  pub solution : ofSolution (solve q treeRoom) ≡ solved e s X text
   pub short : length text ≤ treeRoom
   pub front : take k area ≡ text
   pub inside : k ≤ length area
@@ -86,52 +113,99 @@ pub record SetFound (q : Task) (area : List ℕ) (places : LabelPlaces) (k : ℕ
   pub labels : labelsIn (q .first) (places .start) (places .size) (places .count) ≡ map (nameIn e s) X
 
 -- a label of the list at place i, which the first tree spells by the n bytes at p
-pub record Clasher (q : Task) (e : Edition) (s : Tree) (xs : List Token) (x : Label) (i p n : ℕ) : Type 0 where
-  pub inside : i ≤ length (q .required)
-  pub within : p ≤ length (q .first)
-  pub label : (at : Begin) → _≡_ {A = NamedLabel} (record { place = at .list + i; start = at .tree + p; size = n }) (namedLabel at e s xs x)
+pub record Clasher (first list : List ℕ) (e : Edition) (s : Tree) (xs : List Token) (x : Label) (i p n : ℕ) : Type 0 where
+  pub inside : i ≤ length list
+  pub within : p ≤ length first
+  pub label : (origin base : ℕ) → _≡_ {A = NamedLabel} (record { place = base + i; start = origin + p; size = n }) (namedLabel origin base e s xs x)
 
-pub record EightFound (q : Task) (places : LabelPlaces) (i j k : ℕ) : Type 0 where
+-- three labels of a list, of which the solution is made
+pub record ThreeFound (first list : List ℕ) (made : Edition → Tree → List Token → Label → Label → Label → JobSolution) (x : JobSolution)
+    (places : LabelPlaces) (i j k : ℕ) : Type 0 where
   pub e : Edition
   pub s : Tree
   pub xs : List Token
   pub a : Label
   pub b : Label
   pub c : Label
-  pub solution : solve q treeRoom ≡ clashed e s xs a b c
-  pub one : Clasher q e s xs a i (getD (places .start) 0 0) (getD (places .size) 0 0)
-  pub two : Clasher q e s xs b j (getD (places .start) 1 0) (getD (places .size) 1 0)
-  pub three : Clasher q e s xs c k (getD (places .start) 2 0) (getD (places .size) 2 0)
+  pub solution : x ≡ made e s xs a b c
+  pub one : Clasher first list e s xs a i (getD (places .start) 0 0) (getD (places .size) 0 0)
+  pub two : Clasher first list e s xs b j (getD (places .start) 1 0) (getD (places .size) 1 0)
+  pub three : Clasher first list e s xs c k (getD (places .start) 2 0) (getD (places .size) 2 0)
 
 within-inside : {text x : List ℕ} {p : ℕ} → Within text p x → p ≤ length text
 within-inside {text} {x} w = omega (arith, w .place, ap (length {A = ℕ}) (w .is), length-append (w .before) (x ++ w .after))
 
-module _ (q : Task) (e : Edition) (s : Tree) (xs : List Token) (a b c : Label) (w : ClashedBy q e s xs a b c) where
+module _ (first list : List ℕ) (e : Edition) (s : Tree) (xs : List Token) (a b c : Label) (w : ClashedBy first list e s xs a b c) where
   clasher : (x : Label) → isIn x (keysOf e xs) ≡ true → (i p n : ℕ) → i ≡ placeOfLabel (foldedList e xs) 0 x → p ≡ placeIn (folded e s) 0 x
-      → n ≡ length (tokenIn (folded e s) x) → Clasher q e s xs x i p n
+      → n ≡ length (tokenIn (folded e s) x) → Clasher first list e s xs x i p n
   unfolding namedLabel
   clasher x h i p n d f g =
-      let l = label-listed q e s xs a b c w x h in
+      let l = label-listed first list e s xs a b c w x h in
       record {
-        inside = omega (arith, d, within-inside (l .shown), fold-size e (q .required));
-        within = omega (arith, f, within-inside (eight-shown q e s xs a b c w x h .at));
-        label = λ at. rw (d, f, g) refl;
+        inside = omega (arith, d, within-inside (l .shown), fold-size e list);
+        within = omega (arith, f, within-inside (three-shown first list e s xs a b c w x h .at));
+        label = λ origin base. rw (d, f, g) refl;
+      }
+
+  pub three-found : (made : Edition → Tree → List Token → Label → Label → Label → JobSolution) (x : JobSolution) → x ≡ made e s xs a b c
+      → (places : LabelPlaces) → places ≡ setPlaces (folded e s) (a ∷ b ∷ c ∷ []) → (i j k : ℕ) → i ≡ placeOfLabel (foldedList e xs) 0 a
+      → j ≡ placeOfLabel (foldedList e xs) 0 b → k ≡ placeOfLabel (foldedList e xs) 0 c → ThreeFound first list made x places i j k
+  unfolding setPlaces
+  three-found made x is places t i j k u v m =
+      let l = three-in first list e s xs a b c w in
+      let starts = ap (λ (z : LabelPlaces). z .start) t in
+      let sizes = ap (λ (z : LabelPlaces). z .size) t in
+      record {
+        e = e;
+        s = s;
+        xs = xs;
+        a = a;
+        b = b;
+        c = c;
+        solution = is;
+        one = clasher a (l .0) i _ _ u (ap (λ (y : List ℕ). getD y 0 0) starts) (ap (λ (y : List ℕ). getD y 0 0) sizes);
+        two = clasher b (l .1) j _ _ v (ap (λ (y : List ℕ). getD y 1 0) starts) (ap (λ (y : List ℕ). getD y 1 0) sizes);
+        three = clasher c (l .2) k _ _ m (ap (λ (y : List ℕ). getD y 2 0) starts) (ap (λ (y : List ℕ). getD y 2 0) sizes);
+      }
+
+pub named-eq : {p q r u v w : NamedLabel} → p ≡ u → q ≡ v → r ≡ w
+    → _≡_ {A = Named} (record { first = p; second = q; third = r }) (record { first = u; second = v; third = w })
+named-eq d g h = rw (d, g, h) refl
+
+-- the labels at these places are named
+module _ {first list : List ℕ} {made : Edition → Tree → List Token → Label → Label → Label → JobSolution} {x : JobSolution}
+    {places : LabelPlaces} {i j k : ℕ} (f : ThreeFound first list made x places i j k) (origin base : ℕ) where
+  pub found-named : namedAt origin base (places .start) (places .size) i j k
+      ≡ namedThree origin base (f .e) (f .s) (f .xs) (f .a) (f .b) (f .c)
+  unfolding namedThree namedAt
+  found-named = named-eq (f .one .label origin base) (f .two .label origin base) (f .three .label origin base)
+
+  pub found-near : (limit : ℕ) → base + length list ≤ limit → origin + length first ≤ limit
+      → Near limit origin base (places .start) i j k
+  found-near limit l m =
+      record {
+        one = omega (arith, f .one .inside);
+        two = omega (arith, f .two .inside);
+        three = omega (arith, f .three .inside);
+        first = omega (arith, f .one .within);
+        second = omega (arith, f .two .within);
+        third = omega (arith, f .three .within);
       }
 
 module _ (q : Task) (blank area : List ℕ) (r : LargestResult) (roomy : length blank ≡ treeRoom)
     (told : r ≡ largestOf (solve q (length blank)))
     (kept : area ≡ outputOf (solve q (length blank)) blank) where
-  in-room : (x : Solution) → solve q (length blank) ≡ x → solve q treeRoom ≡ x
-  in-room x e = ap (solve q) (sym roomy) ∙ e
+  in-room : (x : Solution) → solve q (length blank) ≡ x → ofSolution (solve q treeRoom) ≡ ofSolution x
+  in-room x e = ap ofSolution (ap (solve q) (sym roomy) ∙ e)
 
   pub found-set : (n k : ℕ) → r .answer ≡ Found n k → SetFound q area (r .set) k
-  unfolding largestOf outputOf setPlaces
+  unfolding largestOf outputOf setPlaces ofSolution
   found-set n k e =
       go (solve q (length blank)) refl (solution-from q (length blank)) told kept
     where
       go : (x : Solution) → solve q (length blank) ≡ x → From q (length blank) x → r ≡ largestOf x
           → area ≡ outputOf x blank → SetFound q area (r .set) k
-      go (solved d s X text) g f t o =
+      go (mast.solved d s X text) g f t o =
           let h : Found n k ≡ Found (length X) (length text) = sym e ∙ ap (λ (z : LargestResult). z .answer) t in
           let m : length text ≡ k = cc in
           record {
@@ -139,7 +213,7 @@ module _ (q : Task) (blank area : List ℕ) (r : LargestResult) (roomy : length 
             s = s;
             X = X;
             text = text;
-            solution = in-room (solved d s X text) g;
+            solution = in-room (mast.solved d s X text) g;
             short = omega (arith, f .short);
             front = ap (take k) o ∙ take-at text (drop (length text) blank) k m;
             inside = omega (arith, m, ap (length {A = ℕ}) o, length-append text (drop (length text) blank));
@@ -150,66 +224,86 @@ module _ (q : Task) (blank area : List ℕ) (r : LargestResult) (roomy : length 
                 (set-shown q (length blank) d s X text f)
                 (λ (x : Label) (i : isIn x X ≡ true). sym (spelled-size d s x (in-tree q (length blank) d s X text f x i)));
           }
-      go (clashed d s xs a b c) g f t o =
+      go (mast.clashed d s xs a b c) g f t o =
           let h : Found n k ≡ disagreeAt (foldedList d xs) a b c = sym e ∙ ap (λ (z : LargestResult). z .answer) t in
           let z : _≡_ {A = ℕ} 0 1 = cc in
           absurd (omega arith)
-      go (turned p) g f t o =
+      go (mast.turned p) g f t o =
           let h : Found n k ≡ Refused p = sym e ∙ ap (λ (z : LargestResult). z .answer) t in
           let z : _≡_ {A = ℕ} 0 1 = cc in
           absurd (omega arith)
 
-  pub found-eight : (i j k : ℕ) → r .answer ≡ Disagree i j k → EightFound q (r .set) i j k
-  unfolding largestOf setPlaces
+  pub found-eight : (i j k : ℕ) → r .answer ≡ Disagree i j k
+      → ThreeFound (q .first) (q .required) clashed (ofSolution (solve q treeRoom)) (r .set) i j k
+  unfolding largestOf ofSolution
   found-eight i j k e = go (solve q (length blank)) refl (solution-from q (length blank)) told
     where
-      go : (x : Solution) → solve q (length blank) ≡ x → From q (length blank) x → r ≡ largestOf x → EightFound q (r .set) i j k
-      go (solved d s X text) g f t =
+      go : (x : Solution) → solve q (length blank) ≡ x → From q (length blank) x → r ≡ largestOf x
+          → ThreeFound (q .first) (q .required) clashed (ofSolution (solve q treeRoom)) (r .set) i j k
+      go (mast.solved d s X text) g f t =
           let h : Disagree i j k ≡ Found (length X) (length text) = sym e ∙ ap (λ (z : LargestResult). z .answer) t in
           let z : _≡_ {A = ℕ} 0 1 = cc in
           absurd (omega arith)
-      go (clashed d s xs a b c) g f t =
+      go (mast.clashed d s xs a b c) g f t =
           let h : Disagree i j k ≡ disagreeAt (foldedList d xs) a b c = sym e ∙ ap (λ (z : LargestResult). z .answer) t in
-          let l = eight q d s xs a b c f in
-          let starts = ap (λ (z : LargestResult). z .set .start) t in
-          let sizes = ap (λ (z : LargestResult). z .set .size) t in
           let u : i ≡ placeOfLabel (foldedList d xs) 0 a = cc in
           let v : j ≡ placeOfLabel (foldedList d xs) 0 b = cc in
           let w : k ≡ placeOfLabel (foldedList d xs) 0 c = cc in
-          record {
-            e = d;
-            s = s;
-            xs = xs;
-            a = a;
-            b = b;
-            c = c;
-            solution = in-room (clashed d s xs a b c) g;
-            one = clasher q d s xs a b c f a (l .0) i _ _ u (ap (λ (m : List ℕ). getD m 0 0) starts) (ap (λ (m : List ℕ). getD m 0 0) sizes);
-            two = clasher q d s xs a b c f b (l .1) j _ _ v (ap (λ (m : List ℕ). getD m 1 0) starts) (ap (λ (m : List ℕ). getD m 1 0) sizes);
-            three = clasher q d s xs a b c f c (l .2) k _ _ w (ap (λ (m : List ℕ). getD m 2 0) starts) (ap (λ (m : List ℕ). getD m 2 0) sizes);
-          }
-      go (turned p) g f t =
+          three-found (q .first) (q .required) d s xs a b c f clashed (ofSolution (solve q treeRoom))
+          (in-room (mast.clashed d s xs a b c) g) (r .set) (ap (λ (z : LargestResult). z .set) t) i j k u v w
+      go (mast.turned p) g f t =
           let h : Disagree i j k ≡ Refused p = sym e ∙ ap (λ (z : LargestResult). z .answer) t in
           let z : _≡_ {A = ℕ} 0 1 = cc in
           absurd (omega arith)
 
-  pub found-refusal : (p : Refusal) → r .answer ≡ Refused p → solve q treeRoom ≡ turned p
-  unfolding largestOf
+  pub found-refusal : (p : Refusal) → r .answer ≡ Refused p → ofSolution (solve q treeRoom) ≡ turned p
+  unfolding largestOf ofSolution
   found-refusal p e = go (solve q (length blank)) refl told
     where
-      go : (x : Solution) → solve q (length blank) ≡ x → r ≡ largestOf x → solve q treeRoom ≡ turned p
-      go (solved d s X text) g t =
+      go : (x : Solution) → solve q (length blank) ≡ x → r ≡ largestOf x → ofSolution (solve q treeRoom) ≡ turned p
+      go (mast.solved d s X text) g t =
           let h : Refused p ≡ Found (length X) (length text) = sym e ∙ ap (λ (z : LargestResult). z .answer) t in
           let z : _≡_ {A = ℕ} 0 1 = cc in
           absurd (omega arith)
-      go (clashed d s xs a b c) g t =
+      go (mast.clashed d s xs a b c) g t =
           let h : Refused p ≡ disagreeAt (foldedList d xs) a b c = sym e ∙ ap (λ (z : LargestResult). z .answer) t in
           let z : _≡_ {A = ℕ} 0 1 = cc in
           absurd (omega arith)
-      go (turned o) g t =
+      go (mast.turned o) g t =
           let h : Refused p ≡ Refused o = sym e ∙ ap (λ (z : LargestResult). z .answer) t in
           let m : o ≡ p = cc in
-          in-room (turned o) g ∙ ap turned m
+          in-room (mast.turned o) g ∙ ap turned m
+
+-- ---- what is said of a claim
+
+module _ (q : Task) (claim : List ℕ) (r : ClaimResult) (told : r ≡ claimResult (judge q claim)) where
+  abbrev X : JobSolution
+  X = ofJudgement (judge q claim)
+
+  -- what each answer comes from
+  abbrev Told : ClaimAnswer → Type 0
+  Told (said.Passed n) = X ≡ passed n
+  Told (said.Disagree i j k) = ThreeFound (q .first) (q .required) clashed X (r .set) i j k
+  Told (said.Apart i j k) = ThreeFound (q .first) claim apart X (r .set) i j k
+  Told (said.Refused p) = X ≡ turned p
+
+  claim-told : Told (r .answer)
+  unfolding claimResult ofJudgement
+  claim-told = go (judge q claim) refl (judged-from q claim) told
+    where
+      go : (x : Judgement) → judge q claim ≡ x → Judged q claim x → r ≡ claimResult x → Told (r .answer)
+      go (passes n) g f t = subst Told (sym (ap (λ (z : ClaimResult). z .answer) t)) (ap ofJudgement g)
+      go (disagrees d s xs a b c) g f t =
+          subst Told (sym (ap (λ (z : ClaimResult). z .answer) t))
+          (three-found (q .first) (q .required) d s xs a b c f clashed X (ap ofJudgement g) (r .set) (ap (λ (z : ClaimResult). z .set) t) _ _ _ refl refl refl)
+      go (judge.apart d s ys a b c) g f t =
+          subst Told (sym (ap (λ (z : ClaimResult). z .answer) t))
+          (three-found (q .first) claim d s ys a b c f apart X (ap ofJudgement g) (r .set) (ap (λ (z : ClaimResult). z .set) t) _ _ _ refl refl refl)
+      go (declined p) g f t = subst Told (sym (ap (λ (z : ClaimResult). z .answer) t)) (ap ofJudgement g)
+
+  -- case by case
+  pub said-as : (y : ClaimAnswer) → r .answer ≡ y → Told y
+  said-as y e = subst Told e claim-told
 
 -- ---- the job
 
@@ -227,28 +321,42 @@ unfolding solveBodies bodiesOf bodiesIn
 job-broken job h e = job-bodies job none h (ap (bodiesIn job) (sym e))
 
 module _ (job : List ℕ) (at : ℕ) (t : Table) (e : layout.Bodies at t ≡ layoutOf job) where
-  pub laid-inside : at + t .first + t .second + t .required ≡ length job
+  pub laid-inside : at + t .first + t .second + t .required + claimSize (t .claim) ≡ length job
   laid-inside = laid-job job at t (sym e) .sum
 
-  pub bodies-base : _≡_ {A = Begin} (record { tree = at; list = at + t .first + t .second }) (beginIn job)
-  unfolding firstPlace listPlace
-  bodies-base = ap (λ (l : Layout). record { tree = firstPlace l; list = listPlace l }) e
+  pub bodies-base : _≡_ {A = Begin} (record { tree = at; list = at + t .first + t .second; claim = at + t .first + t .second + t .required })
+      (beginIn job)
+  unfolding firstPlace listPlace claimPlace
+  bodies-base = ap (λ (l : Layout). record { tree = firstPlace l; list = listPlace l; claim = claimPlace l }) e
 
-  pub job-solved : length job ≤ jobLimit
-      → (edition : Edition) → edition ≡ editionOf (t .stated)
-      → solve (task (record { strict = t .strict; edition = edition }) (take (at + t .first - at) (drop at job)) (take (at + t .first + t .second - (at + t .first)) (drop (at + t .first) job))
-      (take (at + t .first + t .second + t .required - (at + t .first + t .second)) (drop (at + t .first + t .second) job))) treeRoom
-      ≡ solveJob job
-  unfolding solveBodies bodiesOf bodiesIn
-  job-solved h edition d =
-      let u : at + t .first - at ≡ t .first = omega arith in
-      let v : at + t .first + t .second - (at + t .first) ≡ t .second = omega arith in
-      let w : at + t .first + t .second + t .required - (at + t .first + t .second) ≡ t .required = omega arith in
-      rw (u, v, w, d) (sym (job-bodies job _ h (ap (bodiesIn job) (sym e))))
+  -- what is asked by the parts of the job that the contents name
+  module _ (fits : length job ≤ jobLimit) (edition : Edition) (d : edition ≡ editionOf (t .stated)) where
+    abbrev pub partsTask : Task
+    partsTask =
+        task (record { strict = t .strict; edition = edition }) (take (at + t .first - at) (drop at job))
+        (take (at + t .first + t .second - (at + t .first)) (drop (at + t .first) job))
+        (take (at + t .first + t .second + t .required - (at + t .first + t .second)) (drop (at + t .first + t .second) job))
 
-pub named-eq : {p q r u v w : NamedLabel} → p ≡ u → q ≡ v → r ≡ w
-    → job-answer.Disagree (record { first = p; second = q; third = r }) ≡ job-answer.Disagree (record { first = u; second = v; third = w })
-named-eq e f g = rw (e, f, g) refl
+    parts-solved : (c : Claim) → t .claim ≡ c
+        → solveTask partsTask (claimAt (drop (at + t .first + t .second + t .required) job) c) ≡ solveJob job
+    unfolding solveBodies bodiesOf bodiesIn
+    parts-solved c k =
+        let u : at + t .first - at ≡ t .first = omega arith in
+        let v : at + t .first + t .second - (at + t .first) ≡ t .second = omega arith in
+        let w : at + t .first + t .second + t .required - (at + t .first + t .second) ≡ t .required = omega arith in
+        rw (u, v, w, d, sym k) (sym (job-bodies job _ fits (ap (bodiesIn job) (sym e))))
+
+    pub job-solved : t .claim ≡ Absent → ofSolution (solve partsTask treeRoom) ≡ solveJob job
+    unfolding solveTask
+    job-solved k = parts-solved Absent k
+
+    pub job-judged : (n : ℕ) → t .claim ≡ Bytes n
+        → ofJudgement (judge partsTask (take (at + t .first + t .second + t .required + n - (at + t .first + t .second + t .required)) (drop (at + t .first + t .second + t .required) job)))
+        ≡ solveJob job
+    unfolding solveTask
+    job-judged n k =
+        let u : at + t .first + t .second + t .required + n - (at + t .first + t .second + t .required) ≡ n = omega arith in
+        rw u (parts-solved (Bytes n) k)
 
 -- the engine's area for the tree text
 abbrev pub blank : List ℕ

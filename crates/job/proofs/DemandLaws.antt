@@ -1,178 +1,315 @@
--- The three lines of a set of labels that can be written and a text are printed exactly if the set is the answer. Assumes nothing.
+-- The lines of a set, of a claim that passes, and of three labels are printed exactly if the papers say so. Assumes nothing.
 use Prim.Native.Nat.{ℕ, _≤_}
-use mathlib.Core.Path.{_≡_, refl, sym, _∙_, ap, ap₂}
+use mathlib.Core.Path.{_≡_, refl, sym, _∙_, ap, ap₂, subst}
 use mathlib.Core.Bool.{true}
 use mathlib.Core.Logic.{_↔_}
 use mathlib.Core.List.{List, [], _∷_, map}
+use mathlib.Core.Option.{some}
 use native.Mathlib.Omega.{arith}
 use lib.ListN.{length, getD, length-map}
 use Rattle.trees.specs.declared.Refusal.{Refusal}
+use Rattle.trees.specs.Faults.{occurrences}
 use Rattle.trees.specs.Label.{Label, isIn}
 use Rattle.trees.specs.declared.Edition.{Edition}
-use Rattle.trees.specs.Edition.{inEdition, folded, keyed}
-use Rattle.trees.specs.Token.{Token}
+use Rattle.trees.specs.Edition.{inEdition, folded, keyed, ValidIn}
+use Rattle.trees.specs.Refusals.{numberOf}
+use Rattle.trees.specs.Text.{treeRoom}
+use Rattle.trees.specs.Token.{Token, spelling}
 use Rattle.trees.specs.Tree.{Tree, leafLimit, leaves}
 use Rattle.trees.specs.Words.{bytesOf}
 use Rattle.trees.specs.Writable.{writableLabels}
 use Rattle.trees.proofs.TokenLaws.{valid-decoded}
 use Rattle.trees.proofs.EditionLaws.{valid-folded}
-use Rattle.lists.specs.ReadList.{keysOf}
+use Rattle.lists.specs.ReadList.{foldedList, keysOf, listLimit}
 use Rattle.agreement.specs.Closer.{holds, Common}
 use Rattle.agreement.specs.Sets.{setOf}
-use Rattle.agreement.specs.Restrict.{restrictIn}
-use Rattle.agreement.specs.Places.{keptTextIn, spelledIn, nameIn}
-use Rattle.agreement.specs.Demand.{IsAnswer, IsDisagreement}
+use Rattle.agreement.specs.Places.{spelledIn, nameIn}
+use Rattle.agreement.specs.Demand.{IsDisagreement}
 use Rattle.agreement.proofs.EditionText.{one-text-in, spelled-good}
 use Rattle.agreement.proofs.SetLaws.{within-few}
+use Rattle.claims.specs.Claim.{Verdict, claimFirstLacks, claimSecondLacks, claimLacks, claimDisagrees, claimSmall, claimPasses, Clear, VerdictIs}
+use Rattle.claims.specs.Judge.{judgementOf}
+use Rattle.claims.proofs.Promises.{passing-is-clear}
 use Rattle.contents.specs.Contents.{line}
-use Rattle.mast.specs.Largest.{Solution, solved, clashed, turned}
-use Rattle.job.specs.Printed.{refusedWords, recordLines, eightLine, solveJob, printedOf, printed}
-use Rattle.job.specs.Outcome.{Asks, SetAnswered, EightAnswered, JobOutcome}
-use Rattle.job.specs.Outcome.{too-long, no-contents, first-fault, second-fault, list-fault, stray-first, stray-second, first-lacks, second-lacks, disagreement, largest-set}
-use Rattle.job.proofs.OutcomeLaws.{outcome-exactly}
-use Rattle.job.proofs.ReadBack.{kept-line, lines-back, refusal-no-eight, eight-back}
+use Rattle.decimals.specs.Decimal.{decimalOf}
+use Rattle.job.specs.Printed.{JobSolution, solved, passed, clashed, apart, turned, ofJudgement, refusedWords, recordLines, threeLine, claimLine}
+use Rattle.job.specs.Printed.{eight, fourteen, eightLine, fourteenLine, solveJob, printedOf, printed}
+use Rattle.job.specs.Outcome.{Asks, SetAnswered, EightAnswered, ClaimAnswered, FourteenAnswered, JobOutcome}
+use Rattle.job.specs.Outcome.{too-long, no-contents, first-fault, second-fault, list-fault, claim-fault, stray-first, stray-second, first-lacks, second-lacks, disagreement, largest-set, judged}
+use Rattle.job.proofs.OutcomeLaws.{outcome-exactly, claim-some}
+use Rattle.job.proofs.ReadBack.{kept-line, lines-back, refusal-no-three, three-back, claim-back}
+use Rattle.job.proofs.RoomLaws.{kept-short}
 use Rattle.job.proofs.ShownLaws.{three-listed, writable-names}
 
--- a refusal's line begins with another byte
-refusal-other : (q : Refusal) (X : List Label) (text : List ℕ) → printedOf (turned q) ≡ recordLines X text → ⊥
-unfolding printedOf refusedWords recordLines line bytesOf
-refusal-other q X text e =
-    let first : _≡_ {A = ℕ} 114 115 = ap (λ (l : List ℕ). getD l 0 0) e in
-    omega arith
+-- ---- what is printed of labels: few, and in forms that can be written
 
-eight-other : (a b c : Label) (X : List Label) (text : List ℕ) → eightLine a b c ≡ recordLines X text → ⊥
-unfolding eightLine refusedWords recordLines line bytesOf
-eight-other a b c X text e =
-    let first : _≡_ {A = ℕ} 114 115 = ap (λ (l : List ℕ). getD l 0 0) e in
-    omega arith
-
-set-printed : (e : Edition) (s : Tree) (Y : List Label) (q : List ℕ) → printedOf (solved e s Y q) ≡ recordLines (map (nameIn e s) Y) q
-unfolding printedOf
-set-printed e s Y q = refl
-
-eight-printed : (e : Edition) (s : Tree) (xs : List Token) (a b c : Label)
-    → printedOf (clashed e s xs a b c) ≡ eightLine (nameIn e s a) (nameIn e s b) (nameIn e s c)
-unfolding printedOf
-eight-printed e s xs a b c = refl
-
--- the labels of an answer are few and can be written; so can those that number 8 names
-module _ (job : List ℕ) (e : Edition) (s t : Tree) (xs : List Token) (asks : Asks job e s t xs) (X : List Label)
-    (o : IsAnswer (keyed e s) (keyed e t) (keysOf e xs) X) where
-  inside : (x : Label) → isIn x X ≡ true → isIn x (leaves (keyed e s)) ≡ true
+module _ {job : List ℕ} {N : List Label} {text : List ℕ} (a : SetAnswered job N text) where
+  inside : (x : Label) → isIn x (a .X) ≡ true → isIn x (leaves (keyed (a .e) (a .s))) ≡ true
   unfolding holds
-  inside x h = o .allowedSet .commonLeaves x h .0
+  inside x h = a .isAnswer .allowedSet .commonLeaves x h .0
 
-  few : length X ≤ leafLimit
-  few =
-      let v = valid-decoded (folded e s) (valid-folded e s (asks .first .valid)) in
-      omega (arith, within-few X (leaves (keyed e s)) (o .allowedSet .ordered) (v .different) inside, v .few)
+  pub set-few : length N ≤ leafLimit
+  set-few =
+      let v = valid-decoded (folded (a .e) (a .s)) (valid-folded (a .e) (a .s) (a .asked .first .valid)) in
+      omega (
+        arith,
+        within-few (a .X) (leaves (keyed (a .e) (a .s))) (a .isAnswer .allowedSet .ordered) (v .different) inside,
+        v .few,
+        length-map (a .X) (nameIn (a .e) (a .s)),
+        ap (length {A = Label}) (a .spelled),
+      )
 
-  pub answer-few : length (map (nameIn e s) X) ≤ leafLimit
-  answer-few = omega (arith, few, length-map X (nameIn e s))
-
-  pub answer-writable : writableLabels (map (nameIn e s) X) ≡ true
+  pub set-writable : writableLabels N ≡ true
   unfolding holds
-  answer-writable = writable-names (spelledIn e s) X (λ (x : Label) (h : isIn x X ≡ true). spelled-good e s x (asks .first .valid) (inside x h))
+  set-writable =
+      rw (a .spelled)
+      (writable-names (spelledIn (a .e) (a .s)) (a .X)
+      (λ (x : Label) (h : isIn x (a .X) ≡ true). spelled-good (a .e) (a .s) x (a .asked .first .valid) (inside x h)))
 
-pub eight-writable : (job : List ℕ) (e : Edition) (s t : Tree) (xs : List Token) → Asks job e s t xs → (a b c : Label)
-    → Common (keyed e s) (keyed e t) (setOf (keysOf e xs)) → IsDisagreement (keyed e s) (keyed e t) (keysOf e xs) a b c
+  set-line : occurrences 10 text ≡ 0
+  set-line = rw (a .first-text) (kept-line (a .e) (setOf (a .X)) (a .s) (a .asked .first .valid))
+
+  pub set-short : length text ≤ treeRoom
+  set-short = rw (a .first-text) (kept-short (a .e) (setOf (a .X)) (a .s) (a .asked .first .valid))
+
+-- three labels of a list that the first tree holds
+three-writable : (e : Edition) (s t : Tree) → ValidIn e s → (L : List Label) (a b c : Label)
+    → Common (keyed e s) (keyed e t) (setOf L) → IsDisagreement (keyed e s) (keyed e t) L a b c
     → writableLabels (nameIn e s a ∷ nameIn e s b ∷ nameIn e s c ∷ []) ≡ true
-eight-writable job e s t xs asks a b c held o =
+three-writable e s t valid L a b c held o =
     writable-names (spelledIn e s) (a ∷ b ∷ c ∷ [])
     (λ (x : Label) (h : isIn x (a ∷ b ∷ c ∷ []) ≡ true).
-    spelled-good e s x (asks .first .valid)
-    (held x (three-listed a b c (keysOf e xs) (o .clash .inOne, o .clash .inTwo, o .clash .inThree) x h) .0))
+    spelled-good e s x valid (held x (three-listed a b c L (o .clash .inOne, o .clash .inTwo, o .clash .inThree) x h) .0))
 
-module _ (job : List ℕ) (N : List Label) (text : List ℕ) (can : writableLabels N ≡ true) where
-  from : (x : Solution) → JobOutcome job x → printedOf x ≡ recordLines N text → SetAnswered job N text
-  from x (too-long h) k = absurd (refusal-other _ N text k)
-  from x (no-contents h never) k = absurd (refusal-other _ N text k)
-  from x (first-fault b held r i f) k = absurd (refusal-other _ N text k)
-  from x (second-fault b held s p r i f) k = absurd (refusal-other _ N text k)
-  from x (list-fault b held s t p q h r i f) k = absurd (refusal-other _ N text k)
-  from x (stray-first b held l s t p q y o) k = absurd (refusal-other _ N text k)
-  from x (stray-second b held l s t p q y a o) k = absurd (refusal-other _ N text k)
-  from x (first-lacks e s t xs asks n o) k = absurd (refusal-other _ N text k)
-  from x (second-lacks e s t xs asks n o) k = absurd (refusal-other _ N text k)
-  from x (disagreement e s t xs asks a b c held o) k =
-      absurd (eight-other (nameIn e s a) (nameIn e s b) (nameIn e s c) N text (sym (eight-printed e s xs a b c) ∙ k))
-  from x (largest-set e s t xs asks Y o) k =
-      let w =
-      lines-back N (map (nameIn e s) Y) text (keptTextIn e (restrictIn e (setOf Y) s)) can (answer-writable job e s t xs asks Y o)
-      (answer-few job e s t xs asks Y o) (kept-line e (setOf Y) s (asks .first .valid))
-      (sym k ∙ set-printed e s Y (keptTextIn e (restrictIn e (setOf Y) s))) in
+pub eight-writable : {job : List ℕ} {u v w : Label} → EightAnswered job u v w → writableLabels (u ∷ v ∷ w ∷ []) ≡ true
+eight-writable k =
+    rw (k .one-is, k .two-is, k .three-is)
+    (three-writable (k .e) (k .s) (k .t) (k .asked .first .valid) (keysOf (k .e) (k .xs)) (k .a) (k .b) (k .c) (k .common) (k .isDisagreement))
+
+pub fourteen-writable : {job : List ℕ} {u v w : Label} → FourteenAnswered job u v w → writableLabels (u ∷ v ∷ w ∷ []) ≡ true
+fourteen-writable k =
+    rw (k .one-is, k .two-is, k .three-is)
+    (three-writable (k .e) (k .s) (k .t) (k .asked .first .valid) (keysOf (k .e) (k .ys)) (k .a) (k .b) (k .c) (k .claimed) (k .isDisagreement))
+
+-- ---- a claim that passes
+
+keys-count : (e : Edition) (ys : List Token) → length (keysOf e ys) ≡ length ys
+keys-count e ys = length-map (foldedList e ys) spelling ∙ length-map ys (inEdition e)
+
+module _ {job : List ℕ} {n : ℕ} (a : ClaimAnswered job n) where
+  claim-few : length (a .ys) ≤ listLimit
+  claim-few = claim-some (a .e) (a .asked .bodies .claim) (a .ys) (a .asked .claim) .2 .few
+
+-- ---- what an outcome that names a set, a size or labels means
+
+abbrev pub Meant : List ℕ → JobSolution → Type 0
+Meant job (solved e s X text) = SetAnswered job (map (nameIn e s) X) text
+Meant job (passed n) = ClaimAnswered job n
+Meant job (clashed e s xs a b c) = EightAnswered job (nameIn e s a) (nameIn e s b) (nameIn e s c)
+Meant job (apart e s ys a b c) = FourteenAnswered job (nameIn e s a) (nameIn e s b) (nameIn e s c)
+Meant job (turned q) = Prim.Unit {0}
+
+module _ (job : List ℕ) where
+  verdict-meant : (e : Edition) (s t : Tree) (xs ys : List Token) → Asks job e s t xs (some ys) → Clear (keyed e s) (keyed e t) (keysOf e xs)
+      → (v : Verdict) → VerdictIs (keyed e s) (keyed e t) (keysOf e xs) (keysOf e ys) v → Meant job (ofJudgement (judgementOf e s xs ys v))
+  unfolding ofJudgement judgementOf
+  verdict-meant e s t xs ys asks clear (claimFirstLacks n) o = tt
+  verdict-meant e s t xs ys asks clear (claimSecondLacks n) o = tt
+  verdict-meant e s t xs ys asks clear (claimLacks n) o = tt
+  verdict-meant e s t xs ys asks clear (claimDisagrees a b c) o =
       record {
         e = e;
         s = s;
         t = t;
         xs = xs;
-        X = Y;
+        ys = ys;
+        a = a;
+        b = b;
+        c = c;
+        asked = asks;
+        clear = clear;
+        claimed = o .0;
+        holdsRequired = o .1;
+        isDisagreement = o .2;
+        one-is = refl;
+        two-is = refl;
+        three-is = refl;
+      }
+  verdict-meant e s t xs ys asks clear claimSmall o = tt
+  verdict-meant e s t xs ys asks clear (claimPasses n) o =
+      record { e = e; s = s; t = t; xs = xs; ys = ys; asked = asks; isClaim = o .0; size = o .1 ∙ keys-count e ys }
+
+  meant : (x : JobSolution) → JobOutcome job x → Meant job x
+  meant x (too-long h) = tt
+  meant x (no-contents h never) = tt
+  meant x (first-fault b held r i f) = tt
+  meant x (second-fault b held s p r i f) = tt
+  meant x (list-fault b held s t p q h r i f) = tt
+  meant x (claim-fault b held s t p q h xs l text d r i f) = tt
+  meant x (stray-first b held l s t p q y o) = tt
+  meant x (stray-second b held l s t p q y a o) = tt
+  meant x (first-lacks e s t xs c asks n o) = tt
+  meant x (second-lacks e s t xs c asks n o) = tt
+  meant x (disagreement e s t xs z asks a b c held o) =
+      record {
+        e = e;
+        s = s;
+        t = t;
+        xs = xs;
+        a = a;
+        b = b;
+        c = c;
+        claim = z;
+        asked = asks;
+        common = held;
+        isDisagreement = o;
+        one-is = refl;
+        two-is = refl;
+        three-is = refl;
+      }
+  meant x (largest-set e s t xs asks X o) =
+      record {
+        e = e;
+        s = s;
+        t = t;
+        xs = xs;
+        X = X;
         asked = asks;
         isAnswer = o;
-        spelled = w .0;
-        first-text = w .1;
+        spelled = refl;
+        first-text = refl;
         second-text =
-            ap (inEdition e) (w .1)
-            ∙ one-text-in e s t (setOf Y) (asks .first .valid) (asks .second .valid) (o .allowedSet .commonLeaves) (o .allowedSet .agreed);
+            one-text-in e s t (setOf X) (asks .first .valid) (asks .second .valid) (o .allowedSet .commonLeaves) (o .allowedSet .agreed);
       }
+  meant x (judged e s t xs ys asks clear v o) = verdict-meant e s t xs ys asks clear v o
+
+  pub job-meant : Meant job (solveJob job)
+  job-meant = meant (solveJob job) (outcome-exactly job (solveJob job) .0 refl)
+
+-- ---- lines of different kinds begin with different bytes
+
+abbrev firstByte : List ℕ → ℕ
+firstByte l = getD l 0 0
+
+record-opens : (X : List Label) (text : List ℕ) → firstByte (recordLines X text) ≡ 115
+unfolding recordLines line bytesOf
+record-opens X text = refl
+
+claim-opens : (n : ℕ) → firstByte (claimLine n) ≡ 99
+unfolding claimLine line bytesOf
+claim-opens n = refl
+
+three-opens : (q : Refusal) (a b c : Label) → firstByte (threeLine q a b c) ≡ 114
+unfolding threeLine refusedWords line bytesOf
+three-opens q a b c = refl
+
+refusal-opens : (q : Refusal) → firstByte (printedOf (turned q)) ≡ 114
+unfolding printedOf refusedWords line bytesOf
+refusal-opens q = refl
+
+-- `refused 8` and `refused 14`
+eight-fourteen : (a b c x y z : Label) → eightLine a b c ≡ fourteenLine x y z → ⊥
+unfolding threeLine refusedWords line bytesOf numberOf decimalOf
+eight-fourteen a b c x y z e =
+    let other : _≡_ {A = ℕ} 56 49 = ap (λ (l : List ℕ). getD l 8 0) e in
+    omega arith
+
+-- ---- the lines of a set
+
+module _ (job : List ℕ) (N : List Label) (text : List ℕ) (can : writableLabels N ≡ true) where
+  set-from : (x : JobSolution) → Meant job x → printedOf x ≡ recordLines N text → SetAnswered job N text
+  unfolding printedOf
+  set-from (solved e s Y q) a k =
+      let w = lines-back N (map (nameIn e s) Y) text q can (set-writable a) (set-few a) (set-line a) (sym k) in
+      rw (w .0, w .1) a
+  set-from (passed n) a k = absurd (omega (arith, ap firstByte k, claim-opens n, record-opens N text))
+  set-from (clashed e s xs a b c) m k =
+      absurd (omega (arith, ap firstByte k, three-opens eight (nameIn e s a) (nameIn e s b) (nameIn e s c), record-opens N text))
+  set-from (apart e s ys a b c) m k =
+      absurd (omega (arith, ap firstByte k, three-opens fourteen (nameIn e s a) (nameIn e s b) (nameIn e s c), record-opens N text))
+  set-from (turned q) m k = absurd (omega (arith, ap firstByte k, refusal-opens q, record-opens N text))
 
 pub set-lines : (job : List ℕ) (N : List Label) (text : List ℕ)
     → ((writableLabels N ≡ true) × (printed job ≡ recordLines N text)) ↔ SetAnswered job N text
-unfolding printed
+unfolding printed printedOf
 set-lines job N text = (
   λ (k : (writableLabels N ≡ true) × (printedOf (solveJob job) ≡ recordLines N text)).
-      from job N text (k .0) (solveJob job) (outcome-exactly job (solveJob job) .0 refl) (k .1),
+      set-from job N text (k .0) (solveJob job) (job-meant job) (k .1),
   λ (a : SetAnswered job N text). (
-    rw (a .spelled) (answer-writable job (a .e) (a .s) (a .t) (a .xs) (a .asked) (a .X) (a .isAnswer)),
+    set-writable a,
     ap printedOf (outcome-exactly job _ .1 (largest-set (a .e) (a .s) (a .t) (a .xs) (a .asked) (a .X) (a .isAnswer)))
-        ∙ set-printed (a .e) (a .s) (a .X) (keptTextIn (a .e) (restrictIn (a .e) (setOf (a .X)) (a .s)))
         ∙ ap₂ recordLines (sym (a .spelled)) (sym (a .first-text)),
   ),
 )
 
-module _ (job : List ℕ) (u v w : Label) (can : writableLabels (u ∷ v ∷ w ∷ []) ≡ true) where
-  eight-from : (x : Solution) → JobOutcome job x → printedOf x ≡ eightLine u v w → EightAnswered job u v w
-  eight-from x (too-long h) k = absurd (refusal-no-eight _ u v w k)
-  eight-from x (no-contents h never) k = absurd (refusal-no-eight _ u v w k)
-  eight-from x (first-fault d held r i f) k = absurd (refusal-no-eight _ u v w k)
-  eight-from x (second-fault d held s p r i f) k = absurd (refusal-no-eight _ u v w k)
-  eight-from x (list-fault d held s t p q h r i f) k = absurd (refusal-no-eight _ u v w k)
-  eight-from x (stray-first d held l s t p q y o) k = absurd (refusal-no-eight _ u v w k)
-  eight-from x (stray-second d held l s t p q y z o) k = absurd (refusal-no-eight _ u v w k)
-  eight-from x (first-lacks e s t xs asks n o) k = absurd (refusal-no-eight _ u v w k)
-  eight-from x (second-lacks e s t xs asks n o) k = absurd (refusal-no-eight _ u v w k)
-  eight-from x (disagreement e s t xs asks p q r held o) k =
-      let m = eight-back u v w (nameIn e s p) (nameIn e s q) (nameIn e s r) can (eight-writable job e s t xs asks p q r held o)
-      (sym k ∙ eight-printed e s xs p q r) in
-      record {
-        e = e;
-        s = s;
-        t = t;
-        xs = xs;
-        a = p;
-        b = q;
-        c = r;
-        asked = asks;
-        common = held;
-        isDisagreement = o;
-        one-is = m .0;
-        two-is = m .1;
-        three-is = m .2;
-      }
-  eight-from x (largest-set e s t xs asks Y o) k =
-      absurd (eight-other u v w (map (nameIn e s) Y) _ (sym k ∙ set-printed e s Y (keptTextIn e (restrictIn e (setOf Y) s))))
+-- ---- the line of a claim that passes
 
-pub eight-lines : (job : List ℕ) (u v w : Label)
-    → ((writableLabels (u ∷ v ∷ w ∷ []) ≡ true) × (printed job ≡ eightLine u v w)) ↔ EightAnswered job u v w
-unfolding printed
-eight-lines job u v w = (
-  λ (k : (writableLabels (u ∷ v ∷ w ∷ []) ≡ true) × (printedOf (solveJob job) ≡ eightLine u v w)).
-      eight-from job u v w (k .0) (solveJob job) (outcome-exactly job (solveJob job) .0 refl) (k .1),
-  λ (k : EightAnswered job u v w). (
-    rw (k .one-is, k .two-is, k .three-is)
-        (eight-writable job (k .e) (k .s) (k .t) (k .xs) (k .asked) (k .a) (k .b) (k .c) (k .common) (k .isDisagreement)),
-    ap printedOf (outcome-exactly job _ .1 (disagreement (k .e) (k .s) (k .t) (k .xs) (k .asked) (k .a) (k .b) (k .c) (k .common) (k .isDisagreement)))
-        ∙ eight-printed (k .e) (k .s) (k .xs) (k .a) (k .b) (k .c)
-        ∙ (rw (k .one-is, k .two-is, k .three-is) refl),
-  ),
+pub claim-lines : (job : List ℕ) (n : ℕ) → (printed job ≡ claimLine n) ↔ ClaimAnswered job n
+unfolding printed printedOf ofJudgement judgementOf
+claim-lines job n = (
+  λ (k : printedOf (solveJob job) ≡ claimLine n). from (solveJob job) (job-meant job) k,
+  λ (a : ClaimAnswered job n).
+      ap printedOf (outcome-exactly job _ .1 (judged (a .e) (a .s) (a .t) (a .xs) (a .ys) (a .asked)
+      (passing-is-clear (keyed (a .e) (a .s)) (keyed (a .e) (a .t)) (keysOf (a .e) (a .xs)) (keysOf (a .e) (a .ys)) (a .isClaim)) (claimPasses n)
+      (a .isClaim, a .size ∙ sym (keys-count (a .e) (a .ys))))),
 )
+  where
+    from : (x : JobSolution) → Meant job x → printedOf x ≡ claimLine n → ClaimAnswered job n
+    from (solved e s Y q) a k = absurd (omega (arith, ap firstByte k, claim-opens n, record-opens (map (nameIn e s) Y) q))
+    from (passed m) a k = subst (ClaimAnswered job) (claim-back m n (omega (arith, a .size, claim-few a)) k) a
+    from (clashed e s xs a b c) m k =
+        absurd (omega (arith, ap firstByte k, three-opens eight (nameIn e s a) (nameIn e s b) (nameIn e s c), claim-opens n))
+    from (apart e s ys a b c) m k =
+        absurd (omega (arith, ap firstByte k, three-opens fourteen (nameIn e s a) (nameIn e s b) (nameIn e s c), claim-opens n))
+    from (turned q) m k = absurd (omega (arith, ap firstByte k, refusal-opens q, claim-opens n))
+
+-- ---- the lines that name three labels
+
+module _ (job : List ℕ) (u v w : Label) where
+  module _ (can : writableLabels (u ∷ v ∷ w ∷ []) ≡ true) where
+    eight-from : (x : JobSolution) → Meant job x → printedOf x ≡ eightLine u v w → EightAnswered job u v w
+    unfolding printedOf
+    eight-from (solved e s Y q) m k = absurd (omega (arith, ap firstByte k, three-opens eight u v w, record-opens (map (nameIn e s) Y) q))
+    eight-from (passed n) m k = absurd (omega (arith, ap firstByte k, three-opens eight u v w, claim-opens n))
+    eight-from (clashed e s xs a b c) m k =
+        let z = three-back eight u v w (nameIn e s a) (nameIn e s b) (nameIn e s c) can (eight-writable m) (sym k) in
+        rw (z .0, z .1, z .2) m
+    eight-from (apart e s ys a b c) m k = absurd (eight-fourteen u v w (nameIn e s a) (nameIn e s b) (nameIn e s c) (sym k))
+    eight-from (turned q) m k = absurd (refusal-no-three q eight u v w k)
+
+    fourteen-from : (x : JobSolution) → Meant job x → printedOf x ≡ fourteenLine u v w → FourteenAnswered job u v w
+    unfolding printedOf
+    fourteen-from (solved e s Y q) m k = absurd (omega (arith, ap firstByte k, three-opens fourteen u v w, record-opens (map (nameIn e s) Y) q))
+    fourteen-from (passed n) m k = absurd (omega (arith, ap firstByte k, three-opens fourteen u v w, claim-opens n))
+    fourteen-from (clashed e s xs a b c) m k = absurd (eight-fourteen (nameIn e s a) (nameIn e s b) (nameIn e s c) u v w k)
+    fourteen-from (apart e s ys a b c) m k =
+        let z = three-back fourteen u v w (nameIn e s a) (nameIn e s b) (nameIn e s c) can (fourteen-writable m) (sym k) in
+        rw (z .0, z .1, z .2) m
+    fourteen-from (turned q) m k = absurd (refusal-no-three q fourteen u v w k)
+
+  pub eight-lines : ((writableLabels (u ∷ v ∷ w ∷ []) ≡ true) × (printed job ≡ eightLine u v w)) ↔ EightAnswered job u v w
+  unfolding printed printedOf
+  eight-lines = (
+    λ (k : (writableLabels (u ∷ v ∷ w ∷ []) ≡ true) × (printedOf (solveJob job) ≡ eightLine u v w)).
+        eight-from (k .0) (solveJob job) (job-meant job) (k .1),
+    λ (k : EightAnswered job u v w). (
+      eight-writable k,
+      ap printedOf (outcome-exactly job _ .1
+          (disagreement (k .e) (k .s) (k .t) (k .xs) (k .claim) (k .asked) (k .a) (k .b) (k .c) (k .common) (k .isDisagreement)))
+          ∙ (rw (k .one-is, k .two-is, k .three-is) refl),
+    ),
+  )
+
+  pub fourteen-lines : ((writableLabels (u ∷ v ∷ w ∷ []) ≡ true) × (printed job ≡ fourteenLine u v w)) ↔ FourteenAnswered job u v w
+  unfolding printed printedOf ofJudgement judgementOf
+  fourteen-lines = (
+    λ (k : (writableLabels (u ∷ v ∷ w ∷ []) ≡ true) × (printedOf (solveJob job) ≡ fourteenLine u v w)).
+        fourteen-from (k .0) (solveJob job) (job-meant job) (k .1),
+    λ (k : FourteenAnswered job u v w). (
+      fourteen-writable k,
+      ap printedOf (outcome-exactly job _ .1
+          (judged (k .e) (k .s) (k .t) (k .xs) (k .ys) (k .asked) (k .clear) (claimDisagrees (k .a) (k .b) (k .c))
+          (k .claimed, k .holdsRequired, k .isDisagreement)))
+          ∙ (rw (k .one-is, k .two-is, k .three-is) refl),
+    ),
+  )

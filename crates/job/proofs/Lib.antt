@@ -3,6 +3,7 @@ pub mod AreaLaws
 pub mod ClashLaws
 pub mod DemandLaws
 pub mod LineLaws
+pub mod NineLaws
 pub mod OutcomeLaws
 pub mod PrintLaws
 pub mod ProgramLaws
@@ -14,4 +15,6 @@ pub mod RowLaws
 pub mod ShownLaws
 pub mod SolvedLaws
 pub mod StrictLaws
+pub mod TaskLaws
 pub mod TokenBytes
+pub mod TreesLaws

@@ -6,22 +6,20 @@ use native.Mathlib.Omega.{arith}
 use lib.ListN.{length, take, length-append, length-take}
 use Rattle.decimals.proofs.DecimalLaws.{decimal-short, from-few}
 use Rattle.job.proofs.AreaLaws.{form-short, item-short}
-use Rattle.trees.specs.declared.Reason.the-variants.{Disagree}
-use Rattle.trees.specs.declared.Body.the-variants.{K}
 use Rattle.trees.specs.declared.Refusal.{Refusal}
 use Rattle.trees.specs.Refusals.{numberOf, letterOf}
 use Rattle.trees.specs.Label.{Label}
 use Rattle.trees.specs.Token.{Token, tokenOf, tokenLimit}
 use Rattle.trees.specs.Tree.{leafLimit}
 use Rattle.lists.specs.ReadList.{joined}
-use Rattle.mast.specs.Largest.{turned}
 use Rattle.job.specs.declared.Named.{Named}
 use Rattle.job.specs.declared.LineAnswer.{LineAnswer}
+use Rattle.job.specs.declared.JobAnswer.{JobAnswer}
 use Rattle.decimals.specs.Decimal.{decimalOf}
 use Rattle.trees.specs.Words.{bytesOf}
 use Rattle.contents.specs.Contents.{line}
-use Rattle.job.specs.Printed.{itemRoom, wordsRoom, refusedWords, recordLines, printedOf}
-use Rattle.job.specs.Answered.{lineAnswer, lineOutput, labelIn, namedLine}
+use Rattle.job.specs.Printed.{itemRoom, wordsRoom, turned, refusedWords, recordLines, threeLine, claimLine, printedOf}
+use Rattle.job.specs.Answered.{lineAnswer, lineOutput, recordAnswer, labelIn, namedLine}
 use Rattle.job.specs.Areas.{Put, item}
 
 words-of : (d p : List ℕ) (l : ℕ)
@@ -38,15 +36,22 @@ pub refusal-line-parts : (q : Refusal) → refusedWords q ++ (10 ∷ []) ≡ pri
 unfolding printedOf line
 refusal-line-parts q = refl
 
-pub named-parts : (job : List ℕ) (n : Named)
-    → refusedWords (record { reason = Disagree; body = K; place = 0 }) ++ (32 ∷ [])
+three-of : (w x y z : List ℕ)
+    → w ++ (32 ∷ []) ++ item 0 x ++ item 1 y ++ item 1 z ++ (10 ∷ []) ≡ line (w ++ (32 ∷ joined (x ∷ y ∷ z ∷ [])))
+unfolding joined item line
+three-of w x y z = simp append-assoc
+
+pub named-parts : (job : List ℕ) (q : Refusal) (n : Named)
+    → refusedWords q ++ (32 ∷ [])
     ++ item 0 (tokenOf (labelIn job (n .first .start) (n .first .size)))
     ++ item 1 (tokenOf (labelIn job (n .second .start) (n .second .size)))
     ++ item 1 (tokenOf (labelIn job (n .third .start) (n .third .size)))
     ++ (10 ∷ [])
-    ≡ namedLine job n
-unfolding namedLine printedOf joined item line
-named-parts job n = simp append-assoc
+    ≡ namedLine job q n
+unfolding namedLine threeLine
+named-parts job q n =
+    three-of (refusedWords q) (tokenOf (labelIn job (n .first .start) (n .first .size)))
+    (tokenOf (labelIn job (n .second .start) (n .second .size))) (tokenOf (labelIn job (n .third .start) (n .third .size)))
 
 -- words and what follows them, each with its line end: joined from the left, and line by line
 lines-of : (n w d x j y t : List ℕ)
@@ -58,6 +63,10 @@ pub record-parts : (X : List Label) (tree : List ℕ) (n : ℕ) → n ≡ length
     ≡ recordLines X tree
 unfolding recordLines line
 record-parts X tree n e = rw e (lines-of (10 ∷ []) (bytesOf "size ") (decimalOf (length X)) (bytesOf "set ") (joined (map tokenOf X)) (bytesOf "tree ") tree)
+
+pub claim-parts : (n : ℕ) → bytesOf "claim ok " ++ decimalOf n ++ (10 ∷ []) ≡ claimLine n
+unfolding claimLine line
+claim-parts n = refl
 
 -- what was put from 0 on is the front of the area
 pub put-front : {a b text : List ℕ} {n : ℕ} → Put a 0 text n b → take n b ≡ text
@@ -88,6 +97,9 @@ module _ {a b text : List ℕ} {n : ℕ} (p : Put a 0 text n b) where
 
   pub front-answer : (r : LineAnswer) (room : ℕ) → r ≡ lineAnswer (take n b) room → r ≡ lineAnswer text room
   front-answer r room e = e ∙ ap (λ (t : List ℕ). lineAnswer t room) (put-front p)
+
+  pub front-record : (r : JobAnswer) (room : ℕ) → r ≡ recordAnswer (take n b) room → r ≡ recordAnswer text room
+  front-record r room e = e ∙ ap (λ (t : List ℕ). recordAnswer t room) (put-front p)
 
   pub front-output : (o out : List ℕ) → o ≡ lineOutput (take n b) out → o ≡ lineOutput text out
   front-output o out e = e ∙ ap (λ (t : List ℕ). lineOutput t out) (put-front p)

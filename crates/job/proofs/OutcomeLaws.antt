@@ -11,6 +11,7 @@ use lib.ListN.{length}
 use borrow.Author.Tests.{le-leb, lt-leb, leb-true, leb-false}
 use Rattle.trees.specs.declared.Reason.the-variants.{Contents, JobTooLong}
 use Rattle.trees.specs.declared.Body.the-variants.{J}
+use Rattle.trees.specs.Label.{Label}
 use Rattle.trees.specs.Text.{treeRoom}
 use Rattle.trees.specs.declared.Edition.{Edition}
 use Rattle.trees.specs.Edition.{folded, keyed}
@@ -22,23 +23,26 @@ use Rattle.trees.proofs.TokenLaws.{valid-decoded}
 use Rattle.trees.proofs.EditionLaws.{valid-folded}
 use Rattle.newick.specs.ReadTree.{readTreeIn}
 use Rattle.newick.proofs.Promises as newick
-use Rattle.lists.specs.ReadList.{readListIn, keysOf}
+use Rattle.lists.specs.ReadList.{readListIn, keysOf, IsList}
 use Rattle.lists.proofs.Promises as lists
+use Rattle.agreement.specs.Demand.{IsAnswer}
 use Rattle.agreement.specs.Answer.{Answer, firstLacks, secondLacks, disagree, largest, answer}
 use Rattle.agreement.specs.Outcome.{Outcome}
-use Rattle.agreement.specs.Strict.{SameLeaves, Stray, inFirst, inSecond, nowhere}
+use Rattle.agreement.specs.Strict.{Stray, inFirst, inSecond, nowhere}
+use Rattle.agreement.proofs.DemandLaws.{allowed-held, allowed-no-clash}
 use Rattle.agreement.proofs.Promises as agreement
+use Rattle.claims.specs.Claim.{Clear}
+use Rattle.claims.specs.Judge.{judge}
 use Rattle.contents.specs.Contents.{Bodies, bodiesOf}
 use Rattle.contents.proofs.Promises as contents
 use Rattle.contents.proofs.StepLaws.{none-some}
 use Rattle.mast.specs.Given.{Reads}
-use Rattle.mast.specs.Largest.{Solution, solutionOf, solveList, strayFor, solveShared, solveSecond, solveFirst, Task, task, solve}
-use Rattle.mast.proofs.Promises as mast
+use Rattle.mast.specs.Largest.{strayFor, Task, task, solve}
 use Rattle.mast.proofs.StrayLaws.{nowhere-shared, stray-strict}
-use Rattle.job.specs.Printed.{jobLimit, taskOf, solveBodies, solveJob, printedOf, printed}
-use Rattle.job.specs.Outcome.{Follows, Holds, editionIn, TreeBody, Asks, refusal, JobOutcome}
-use Rattle.job.specs.Outcome.{too-long, no-contents, first-fault, second-fault, list-fault, stray-first, stray-second, first-lacks, second-lacks, disagreement, largest-set}
-use Rattle.job.proofs.RoomLaws.{text-fits}
+use Rattle.job.specs.Printed.{jobLimit, taskOf, JobSolution, ofSolution, ofJudgement, solveTask, solveBodies, solveJob, printedOf, printed}
+use Rattle.job.specs.Outcome.{Follows, Holds, editionIn, TreeBody, Shared, ClaimRead, Asks, refusal, JobOutcome}
+use Rattle.job.specs.Outcome.{too-long, no-contents, first-fault, second-fault, list-fault, claim-fault, stray-first, stray-second, first-lacks, second-lacks, disagreement, largest-set, judged}
+use Rattle.job.proofs.TaskLaws.{ReadClaim, task-first, task-second, task-stray-first, task-stray-second, task-list, task-claim, task-first-lacks, task-second-lacks, task-clash, task-set, task-verdict, some-verdict}
 
 -- ---- bodies that are read
 
@@ -54,11 +58,37 @@ holds-bodies job b h = contents.bodies-promise job b .1 (h .contents .text, h .c
 bodies-follow : (job : List ℕ) (b : Bodies) → bodiesOf job ≡ some b → Follows job b
 bodies-follow job b e = let w = contents.bodies-promise job b .0 e in record { text = w .0; short = w .1 }
 
+-- ---- the claim that is read
+
+read-claim : (e : Edition) (o : Option (List ℕ)) (c : Option (List Token)) → ClaimRead e o c → ReadClaim e o
+read-claim e none none w = tt
+read-claim e none (some ys) w = absurd w
+read-claim e (some text) none w = absurd w
+read-claim e (some text) (some ys) w = (ys, lists.labels-read e text ys w)
+
+claim-none : (e : Edition) (o : Option (List ℕ)) → ClaimRead e o none → o ≡ none
+claim-none e none w = refl
+claim-none e (some text) w = absurd w
+
+pub claim-some : (e : Edition) (o : Option (List ℕ)) (ys : List Token) → ClaimRead e o (some ys) → (text : List ℕ) × (o ≡ some text) × IsList e text ys
+claim-some e none ys w = absurd w
+claim-some e (some text) ys w = (text, refl, w)
+
+-- where an answer exists, nothing required is lacked or clashes
+answer-clear : (s t : Tree) (K X : List Label) → IsAnswer s t K X → Clear s t K
+answer-clear s t K X o = record { commonLeaves = allowed-held s t K X (o .allowedSet); free = allowed-no-clash s t K X (o .allowedSet) }
+
 -- ---- each job has an outcome
 
 module _ (job : List ℕ) (b : Bodies) (held : Holds job b) where
   abbrev E : Edition
   E = editionIn b
+
+  abbrev Out : Type 0
+  Out = JobOutcome job (solveTask (taskOf b) (b .claim))
+
+  of : (x : JobSolution) → solveTask (taskOf b) (b .claim) ≡ x → JobOutcome job x → Out
+  of x e o = subst (JobOutcome job) (sym e) o
 
   module _ (s t : Tree) (first : readTreeIn E (b .first) ≡ good s) (second : readTreeIn E (b .second) ≡ good t) where
     abbrev one-body : TreeBody E (b .first) s
@@ -67,59 +97,96 @@ module _ (job : List ℕ) (b : Bodies) (held : Holds job b) where
     abbrev two-body : TreeBody E (b .second) t
     two-body = tree-body E (b .second) t second
 
-    module _ (shared : b .strict ≡ true → SameLeaves (keyed E s) (keyed E t)) where
-      asks : (xs : List Token) → readListIn E (b .list) ≡ good xs → Asks job E s t xs
-      asks xs e = record {
-        bodies = b;
-        held = held;
-        edition = refl;
-        first = one-body;
-        second = two-body;
-        shared = shared;
-        required = lists.accepted-list E (b .list) xs e;
-      }
+    module _ (shared : Shared b s t) where
+      module _ (xs : List Token) (listed : readListIn E (b .list) ≡ good xs) where
+        abbrev list-body : IsList E (b .list) xs
+        list-body = lists.accepted-list E (b .list) xs listed
 
-      listed : (z : Reading (List Token)) → readListIn E (b .list) ≡ z → JobOutcome job (solveList E s t treeRoom z)
-      unfolding solveList solutionOf
-      listed (refused r i) e = list-fault b held s t one-body two-body shared r i (lists.refused-first E (b .list) r i e)
-      listed (good xs) e = answers (answer (keyed E s) (keyed E t) (keysOf E xs)) refl
-        where
-          a : Asks job E s t xs
-          a = asks xs e
+        abbrev reads : Reads (taskOf b) s t xs
+        reads = record { first-is = first; second-is = second; shared = shared; list-is = listed }
 
-          told : (A : Answer) → answer (keyed E s) (keyed E t) (keysOf E xs) ≡ A → Outcome (keyed E s) (keyed E t) (keysOf E xs) A
-          told A k =
-              agreement.answer-promise (keyed E s) (keyed E t) (keysOf E xs) (valid-decoded (folded E s) (valid-folded E s (a .first .valid))) (a .required .different) A .0 k
+        asks : (c : Option (List Token)) → ClaimRead E (b .claim) c → Asks job E s t xs c
+        asks c w = record {
+          bodies = b;
+          held = held;
+          edition = refl;
+          first = one-body;
+          second = two-body;
+          shared = shared;
+          required = list-body;
+          claim = w;
+        }
 
-          answers : (A : Answer) → answer (keyed E s) (keyed E t) (keysOf E xs) ≡ A → JobOutcome job (solutionOf E s xs treeRoom A)
-          answers (firstLacks n) k = first-lacks E s t xs a n (told (firstLacks n) k)
-          answers (secondLacks n) k = second-lacks E s t xs a n (told (secondLacks n) k)
+        told : (A : Answer) → answer (keyed E s) (keyed E t) (keysOf E xs) ≡ A → Outcome (keyed E s) (keyed E t) (keysOf E xs) A
+        told A k =
+            agreement.answer-promise (keyed E s) (keyed E t) (keysOf E xs) (valid-decoded (folded E s) (valid-folded E s (one-body .valid))) (list-body .different) A .0 k
+
+        -- what is read of the claim
+        module _ (c : Option (List Token)) (w : ClaimRead E (b .claim) c)
+            (last : (X : List Label) → IsAnswer (keyed E s) (keyed E t) (keysOf E xs) X → Out) where
+          answers : (A : Answer) → answer (keyed E s) (keyed E t) (keysOf E xs) ≡ A → Out
+          answers (firstLacks n) k =
+              of _ (task-first-lacks (taskOf b) s t xs reads (b .claim) (read-claim E (b .claim) c w) n (told (firstLacks n) k))
+              (first-lacks E s t xs c (asks c w) n (told (firstLacks n) k))
+          answers (secondLacks n) k =
+              of _ (task-second-lacks (taskOf b) s t xs reads (b .claim) (read-claim E (b .claim) c w) n (told (secondLacks n) k))
+              (second-lacks E s t xs c (asks c w) n (told (secondLacks n) k))
           answers (disagree p q r) k =
               let o = told (disagree p q r) k in
-              disagreement E s t xs a p q r (o .0) (o .1)
-          answers (largest X) k =
-              subst (JobOutcome job) (sym (text-fits E s X (a .first .valid))) (largest-set E s t xs a X (told (largest X) k))
+              of _ (task-clash (taskOf b) s t xs reads (b .claim) (read-claim E (b .claim) c w) p q r (o .0) (o .1))
+              (disagreement E s t xs c (asks c w) p q r (o .0) (o .1))
+          answers (largest X) k = last X (told (largest X) k)
+
+        claimed : (o : Option (List ℕ)) → b .claim ≡ o → Out
+        claimed none d =
+            let w : ClaimRead E (b .claim) none = subst (λ (y : Option (List ℕ)). ClaimRead E y none) (sym d) tt in
+            answers none w
+            (λ (X : List Label) (o : IsAnswer (keyed E s) (keyed E t) (keysOf E xs) X).
+            of _ (ap (solveTask (taskOf b)) d ∙ task-set (taskOf b) s t xs reads X o) (largest-set E s t xs (asks none w) X o))
+            (answer (keyed E s) (keyed E t) (keysOf E xs)) refl
+        claimed (some text) d = go (readListIn E text) refl
+          where
+            go : (z : Reading (List Token)) → readListIn E text ≡ z → Out
+            go (refused r i) k =
+                of _ (ap (solveTask (taskOf b)) d ∙ task-claim (taskOf b) s t first second shared xs listed text r i k)
+                (claim-fault b held s t one-body two-body shared xs list-body text d r i (lists.refused-first E text r i k))
+            go (good ys) k =
+                let w : ClaimRead E (b .claim) (some ys) =
+                subst (λ (y : Option (List ℕ)). ClaimRead E y (some ys)) (sym d) (lists.accepted-list E text ys k) in
+                answers (some ys) w
+                (λ (X : List Label) (o : IsAnswer (keyed E s) (keyed E t) (keysOf E xs) X).
+                let clear = answer-clear (keyed E s) (keyed E t) (keysOf E xs) X o in
+                let v = some-verdict (taskOf b) s t xs reads text ys k clear in
+                of _ (ap (solveTask (taskOf b)) d ∙ task-verdict (taskOf b) s t xs reads text ys k clear (v .0) (v .1))
+                (judged E s t xs ys (asks (some ys) w) clear (v .0) (v .1)))
+                (answer (keyed E s) (keyed E t) (keysOf E xs)) refl
+
+      listed-outcome : (z : Reading (List Token)) → readListIn E (b .list) ≡ z → Out
+      listed-outcome (refused r i) e =
+          of _ (task-list (taskOf b) s t first second shared (b .claim) r i e)
+          (list-fault b held s t one-body two-body shared r i (lists.refused-first E (b .list) r i e))
+      listed-outcome (good xs) e = claimed xs e (b .claim) refl
 
     -- number 12 only where the job is strict
-    shared-outcome : (z : Stray) → strayFor (taskOf b .options) s t ≡ z → JobOutcome job (solveShared E s t treeRoom (readListIn E (b .list)) z)
-    unfolding solveShared
+    shared-outcome : (z : Stray) → strayFor (taskOf b .options) s t ≡ z → Out
     shared-outcome (inFirst x) e =
         let w = stray-strict (taskOf b .options) s t (inFirst x) e (λ k. let z : _≡_ {A = ℕ} 0 1 = cc in absurd (omega arith)) in
-        stray-first b held (w .0) s t one-body two-body x (w .1)
+        of _ (task-stray-first (taskOf b) s t first second (b .claim) (w .0) x (w .1)) (stray-first b held (w .0) s t one-body two-body x (w .1))
     shared-outcome (inSecond x) e =
         let w = stray-strict (taskOf b .options) s t (inSecond x) e (λ k. let z : _≡_ {A = ℕ} 0 1 = cc in absurd (omega arith)) in
-        stray-second b held (w .0) s t one-body two-body x (w .1 .0) (w .1 .1)
-    shared-outcome nowhere e = listed (nowhere-shared (taskOf b .options) s t e) (readListIn E (b .list)) refl
+        of _ (task-stray-second (taskOf b) s t first second (b .claim) (w .0) x (w .1 .0) (w .1 .1))
+        (stray-second b held (w .0) s t one-body two-body x (w .1 .0) (w .1 .1))
+    shared-outcome nowhere e = listed-outcome (nowhere-shared (taskOf b .options) s t e) (readListIn E (b .list)) refl
 
-  bodies-outcome : JobOutcome job (solve (taskOf b) treeRoom)
-  unfolding solve solveFirst solveSecond
+  bodies-outcome : Out
   bodies-outcome = go (readTreeIn E (b .first)) (readTreeIn E (b .second)) refl refl
     where
-      go : (x y : Reading Tree) → readTreeIn E (b .first) ≡ x → readTreeIn E (b .second) ≡ y
-          → JobOutcome job (solveFirst (taskOf b .options) treeRoom x y (readListIn E (b .list)))
-      go (refused r i) y ex ey = first-fault b held r i (newick.refused-first E (b .first) r i ex)
+      go : (x y : Reading Tree) → readTreeIn E (b .first) ≡ x → readTreeIn E (b .second) ≡ y → Out
+      go (refused r i) y ex ey =
+          of _ (task-first (taskOf b) (b .claim) r i ex) (first-fault b held r i (newick.refused-first E (b .first) r i ex))
       go (good s) (refused r i) ex ey =
-          second-fault b held s (tree-body E (b .first) s ex) r i (newick.refused-first E (b .second) r i ey)
+          of _ (task-second (taskOf b) (b .claim) r i s ex ey)
+          (second-fault b held s (tree-body E (b .first) s ex) r i (newick.refused-first E (b .second) r i ey))
       go (good s) (good t) ex ey = shared-outcome s t ex ey (strayFor (taskOf b .options) s t) refl
 
 outcome : (job : List ℕ) → JobOutcome job (solveJob job)
@@ -138,11 +205,20 @@ outcome job = sized (bool-cases (leb (length job) jobLimit))
 -- ---- and one only
 
 module _ (job : List ℕ) (b : Bodies) (held : Holds job b) where
-  job-solve : solveJob job ≡ solve (taskOf b) treeRoom
+  job-solve : solveJob job ≡ solveTask (taskOf b) (b .claim)
   unfolding solveJob solveBodies
   job-solve = rw (le-leb (length job) jobLimit (held .size)) (ap solveBodies (holds-bodies job b held))
 
-module _ (job : List ℕ) (e : Edition) (s t : Tree) (xs : List Token) (asks : Asks job e s t xs) where
+  -- the two sorts of jobs
+  pub without-claim : b .claim ≡ none → solveJob job ≡ ofSolution (solve (taskOf b) treeRoom)
+  unfolding solveTask
+  without-claim d = job-solve ∙ ap (solveTask (taskOf b)) d
+
+  pub with-claim : (text : List ℕ) → b .claim ≡ some text → solveJob job ≡ ofJudgement (judge (taskOf b) text)
+  unfolding solveTask
+  with-claim text d = job-solve ∙ ap (solveTask (taskOf b)) d
+
+module _ (job : List ℕ) (e : Edition) (s t : Tree) (xs : List Token) (c : Option (List Token)) (asks : Asks job e s t xs c) where
   abbrev bodies : Bodies
   bodies = asks .bodies
 
@@ -154,9 +230,9 @@ module _ (job : List ℕ) (e : Edition) (s t : Tree) (xs : List Token) (asks : A
   unfolding asked
   asked-is = ap (λ (d : Edition). task (record { strict = bodies .strict; edition = d }) (bodies .first) (bodies .second) (bodies .list)) (asks .edition)
 
-  reads : Reads asked s t xs
+  asked-reads : Reads asked s t xs
   unfolding asked
-  reads =
+  asked-reads =
       record {
         first-is = body-tree e (bodies .first) s (asks .first);
         second-is = body-tree e (bodies .second) t (asks .second);
@@ -164,15 +240,14 @@ module _ (job : List ℕ) (e : Edition) (s t : Tree) (xs : List Token) (asks : A
         list-is = lists.labels-read e (bodies .list) xs (asks .required);
       }
 
-  decided : (A : Answer) → Outcome (keyed e s) (keyed e t) (keysOf e xs) A → solveJob job ≡ solutionOf e s xs treeRoom A
-  unfolding asked
-  decided A o =
-      job-solve job bodies (asks .held)
-      ∙ ap (λ (q : Task). solve q treeRoom) (sym asked-is)
-      ∙ mast.outcome-promise asked treeRoom s t xs reads A o
+  asked-claim : ReadClaim e (bodies .claim)
+  asked-claim = read-claim e (bodies .claim) c (asks .claim)
 
-one : (job : List ℕ) (x : Solution) → JobOutcome job x → solveJob job ≡ x
-unfolding solutionOf solveJob solveBodies
+  decided : (x : JobSolution) → solveTask asked (bodies .claim) ≡ x → solveJob job ≡ x
+  decided x o = job-solve job bodies (asks .held) ∙ ap (λ (q : Task). solveTask q (bodies .claim)) (sym asked-is) ∙ o
+
+one : (job : List ℕ) (x : JobSolution) → JobOutcome job x → solveJob job ≡ x
+unfolding solveJob solveBodies asked
 one job x (too-long h) = rw (lt-leb (length job) jobLimit h) refl
 one job x (no-contents h never) = rw (le-leb (length job) jobLimit h) (go (bodiesOf job) refl)
   where
@@ -180,29 +255,49 @@ one job x (no-contents h never) = rw (le-leb (length job) jobLimit h) (go (bodie
     go none e = refl
     go (some b) e = absurd (never b (bodies-follow job b e))
 one job x (first-fault b held r i f) =
-    job-solve job b held ∙ mast.first-body (taskOf b) treeRoom r i (newick.first-refused (editionIn b) (b .first) r i f)
+    job-solve job b held ∙ task-first (taskOf b) (b .claim) r i (newick.first-refused (editionIn b) (b .first) r i f)
 one job x (second-fault b held s p r i f) =
     job-solve job b held
-    ∙ mast.second-body (taskOf b) treeRoom r i s (body-tree (editionIn b) (b .first) s p) (newick.first-refused (editionIn b) (b .second) r i f)
+    ∙ task-second (taskOf b) (b .claim) r i s (body-tree (editionIn b) (b .first) s p) (newick.first-refused (editionIn b) (b .second) r i f)
 one job x (list-fault b held s t p q h r i f) =
     job-solve job b held
-    ∙ mast.third-body (taskOf b) treeRoom r i s t (body-tree (editionIn b) (b .first) s p) (body-tree (editionIn b) (b .second) t q) h
+    ∙ task-list (taskOf b) s t (body-tree (editionIn b) (b .first) s p) (body-tree (editionIn b) (b .second) t q) h (b .claim) r i
     (lists.first-refused (editionIn b) (b .list) r i f)
+one job x (claim-fault b held s t p q h xs l text d r i f) =
+    job-solve job b held
+    ∙ ap (solveTask (taskOf b)) d
+    ∙ task-claim (taskOf b) s t (body-tree (editionIn b) (b .first) s p) (body-tree (editionIn b) (b .second) t q) h xs
+    (lists.labels-read (editionIn b) (b .list) xs l) text r i (lists.first-refused (editionIn b) text r i f)
 one job x (stray-first b held e s t p q y k) =
-    job-solve job b held ∙ mast.stray-in-first (taskOf b) treeRoom s t (body-tree (editionIn b) (b .first) s p) (body-tree (editionIn b) (b .second) t q) e y k
+    job-solve job b held
+    ∙ task-stray-first (taskOf b) s t (body-tree (editionIn b) (b .first) s p) (body-tree (editionIn b) (b .second) t q) (b .claim) e y k
 one job x (stray-second b held e s t p q y a k) =
-    job-solve job b held ∙ mast.stray-in-second (taskOf b) treeRoom s t (body-tree (editionIn b) (b .first) s p) (body-tree (editionIn b) (b .second) t q) e y a k
-one job x (first-lacks e s t xs asks n o) = decided job e s t xs asks (firstLacks n) o
-one job x (second-lacks e s t xs asks n o) = decided job e s t xs asks (secondLacks n) o
-one job x (disagreement e s t xs asks a b c held o) = decided job e s t xs asks (disagree a b c) (held, o)
-one job x (largest-set e s t xs asks X o) = decided job e s t xs asks (largest X) o ∙ text-fits e s X (asks .first .valid)
+    job-solve job b held
+    ∙ task-stray-second (taskOf b) s t (body-tree (editionIn b) (b .first) s p) (body-tree (editionIn b) (b .second) t q) (b .claim) e y a k
+one job x (first-lacks e s t xs c asks n o) =
+    decided job e s t xs c asks _ (task-first-lacks (asked job e s t xs c asks) s t xs (asked-reads job e s t xs c asks) (asks .bodies .claim)
+    (asked-claim job e s t xs c asks) n o)
+one job x (second-lacks e s t xs c asks n o) =
+    decided job e s t xs c asks _ (task-second-lacks (asked job e s t xs c asks) s t xs (asked-reads job e s t xs c asks) (asks .bodies .claim)
+    (asked-claim job e s t xs c asks) n o)
+one job x (disagreement e s t xs z asks a b c held o) =
+    decided job e s t xs z asks _ (task-clash (asked job e s t xs z asks) s t xs (asked-reads job e s t xs z asks) (asks .bodies .claim)
+    (asked-claim job e s t xs z asks) a b c held o)
+one job x (largest-set e s t xs asks X o) =
+    decided job e s t xs none asks _ (ap (solveTask (asked job e s t xs none asks)) (claim-none e (asks .bodies .claim) (asks .claim))
+    ∙ task-set (asked job e s t xs none asks) s t xs (asked-reads job e s t xs none asks) X o)
+one job x (judged e s t xs ys asks clear v o) =
+    let w = claim-some e (asks .bodies .claim) ys (asks .claim) in
+    decided job e s t xs (some ys) asks _ (ap (solveTask (asked job e s t xs (some ys) asks)) (w .1)
+    ∙ task-verdict (asked job e s t xs (some ys) asks) s t xs (asked-reads job e s t xs (some ys) asks) (w .0) ys
+    (lists.labels-read e (w .0) ys (w .2)) clear v o)
 
-pub outcome-exactly : (job : List ℕ) (x : Solution) → (solveJob job ≡ x) ↔ JobOutcome job x
+pub outcome-exactly : (job : List ℕ) (x : JobSolution) → (solveJob job ≡ x) ↔ JobOutcome job x
 outcome-exactly job x = (λ (e : solveJob job ≡ x). subst (JobOutcome job) e (outcome job), one job x)
 
-pub printed-exactly : (job out : List ℕ) → (printed job ≡ out) ↔ ((x : Solution) × JobOutcome job x × (printedOf x ≡ out))
+pub printed-exactly : (job out : List ℕ) → (printed job ≡ out) ↔ ((x : JobSolution) × JobOutcome job x × (printedOf x ≡ out))
 unfolding printed
 printed-exactly job out = (
   λ (e : printed job ≡ out). (solveJob job, outcome job, e),
-  λ (w : (x : Solution) × JobOutcome job x × (printedOf x ≡ out)). ap printedOf (one job (w .0) (w .1)) ∙ w .2,
+  λ (w : (x : JobSolution) × JobOutcome job x × (printedOf x ≡ out)). ap printedOf (one job (w .0) (w .1)) ∙ w .2,
 )

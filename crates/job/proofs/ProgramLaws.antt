@@ -9,14 +9,11 @@ use lib.Dec.{leb}
 use lib.ListN.{length, take, drop, length-append, length-take, length-map}
 use lib.Seq.{take-all, take-append-seam}
 use borrow.Author.Tests.{le-leb, leb-true, leb-false}
-use Rattle.trees.specs.declared.Reason.the-variants.{Disagree}
-use Rattle.trees.specs.declared.Body.the-variants.{K}
 use Rattle.trees.specs.declared.Refusal.{Refusal}
 use Rattle.trees.specs.Label.{Label}
 use Rattle.trees.specs.Text.{treeRoom}
 use Rattle.trees.specs.Token.{Token, tokenOf, goodLabels}
-use Rattle.trees.specs.Tree.{Tree, leafLimit}
-use Rattle.trees.specs.declared.Edition.{Edition}
+use Rattle.trees.specs.Tree.{leafLimit}
 use Rattle.trees.specs.Stored.{partOf}
 use Rattle.trees.specs.Words.{bytesOf}
 use Rattle.trees.specs.Writable.{writableLabels}
@@ -25,20 +22,15 @@ use Rattle.trees.proofs.ListLaws.{good-head}
 use Rattle.trees.proofs.TokenLaws.{good-short}
 use Rattle.trees.proofs.WritableLaws.{tokens-good}
 use Rattle.lists.specs.ReadList.{joined}
-use Rattle.agreement.specs.Sets.{setOf}
-use Rattle.agreement.specs.Restrict.{restrictIn}
-use Rattle.agreement.specs.Places.{keptTextIn, nameIn}
+use Rattle.agreement.specs.Places.{nameIn}
 use Rattle.contents.specs.Contents.{line}
 use Rattle.decimals.specs.Decimal.{decimalOf}
-use Rattle.mast.specs.Largest.{Solution, solved, clashed, turned}
-use Rattle.job.specs.Printed.{jobLimit, itemRoom, recordRoom, solveJob, refusedWords, recordLines, printedOf, printed, eightLine}
-use Rattle.job.specs.Outcome.{JobOutcome, too-long, no-contents, first-fault, second-fault, list-fault, stray-first, stray-second, first-lacks, second-lacks, disagreement, largest-set}
+use Rattle.decimals.proofs.DecimalLaws.{decimal-short}
+use Rattle.job.specs.Printed.{JobSolution, solved, passed, clashed, apart, turned, jobLimit, itemRoom, recordRoom, solveJob, refusedWords, recordLines, claimLine, printedOf, printed, threeLine, eight, fourteen}
 use Rattle.job.specs.Answered.{lineAnswer, lineOutput, writtenPart}
 use Rattle.job.proofs.AnswerLaws.{job-long}
-use Rattle.job.proofs.DemandLaws.{answer-few, answer-writable, eight-writable}
+use Rattle.job.proofs.DemandLaws.{Meant, job-meant, set-few, set-writable, set-short, eight-writable, fourteen-writable}
 use Rattle.job.proofs.LineLaws.{size-short, words-short}
-use Rattle.job.proofs.OutcomeLaws.{outcome-exactly}
-use Rattle.job.proofs.RoomLaws.{kept-short}
 
 -- ---- one byte over the limit is enough
 
@@ -110,47 +102,32 @@ refusal-short : (q : Refusal) → length (printedOf (turned q)) ≤ recordRoom
 unfolding printedOf line
 refusal-short q = omega (arith, length-append (refusedWords q) (10 ∷ []), words-short q)
 
-eight-short : (a b c : Label) → writableLabels (a ∷ b ∷ c ∷ []) ≡ true → length (eightLine a b c) ≤ recordRoom
-unfolding eightLine
-eight-short a b c can =
+three-short : (q : Refusal) (a b c : Label) → writableLabels (a ∷ b ∷ c ∷ []) ≡ true → length (threeLine q a b c) ≤ recordRoom
+unfolding threeLine
+three-short q a b c can =
     let three : List Label = a ∷ b ∷ c ∷ [] in
-    let words : Refusal = record { reason = Disagree; body = K; place = 0 } in
     omega (
       arith,
-      line-size (refusedWords words) (32 ∷ joined (map tokenOf three)),
-      words-short words,
+      line-size (refusedWords q) (32 ∷ joined (map tokenOf three)),
+      words-short q,
       forms-short three can,
     )
 
-set-short : (e : Edition) (s : Tree) (X : List Label) (text : List ℕ) → length (map (nameIn e s) X) ≤ leafLimit
-    → writableLabels (map (nameIn e s) X) ≡ true → length text ≤ treeRoom → length (printedOf (solved e s X text)) ≤ recordRoom
-unfolding printedOf
-set-short e s X text = record-short (map (nameIn e s) X) text
+claim-short : (n : ℕ) → length (claimLine n) ≤ recordRoom
+unfolding claimLine bytesOf
+claim-short n = omega (arith, line-size (bytesOf "claim ok ") (decimalOf n), decimal-short n)
 
-clash-short : (e : Edition) (s : Tree) (xs : List Token) (a b c : Label) → writableLabels (nameIn e s a ∷ nameIn e s b ∷ nameIn e s c ∷ []) ≡ true
-    → length (printedOf (clashed e s xs a b c)) ≤ recordRoom
+short : (job : List ℕ) (x : JobSolution) → Meant job x → length (printedOf x) ≤ recordRoom
 unfolding printedOf
-clash-short e s xs a b c = eight-short (nameIn e s a) (nameIn e s b) (nameIn e s c)
-
-short : (job : List ℕ) (x : Solution) → JobOutcome job x → length (printedOf x) ≤ recordRoom
-short job x (too-long h) = refusal-short _
-short job x (no-contents h never) = refusal-short _
-short job x (first-fault b held r i f) = refusal-short _
-short job x (second-fault b held s p r i f) = refusal-short _
-short job x (list-fault b held s t p q h r i f) = refusal-short _
-short job x (stray-first b held k s t p q y o) = refusal-short _
-short job x (stray-second b held k s t p q y a o) = refusal-short _
-short job x (first-lacks e s t xs asks n o) = refusal-short _
-short job x (second-lacks e s t xs asks n o) = refusal-short _
-short job x (disagreement e s t xs asks a b c held o) =
-    clash-short e s xs a b c (eight-writable job e s t xs asks a b c held o)
-short job x (largest-set e s t xs asks X o) =
-    set-short e s X (keptTextIn e (restrictIn e (setOf X) s)) (answer-few job e s t xs asks X o)
-    (answer-writable job e s t xs asks X o) (kept-short e (setOf X) s (asks .first .valid))
+short job (solved e s X text) m = record-short (map (nameIn e s) X) text (set-few m) (set-writable m) (set-short m)
+short job (passed n) m = claim-short n
+short job (clashed e s xs a b c) m = three-short eight (nameIn e s a) (nameIn e s b) (nameIn e s c) (eight-writable m)
+short job (apart e s ys a b c) m = three-short fourteen (nameIn e s a) (nameIn e s b) (nameIn e s c) (fourteen-writable m)
+short job (turned q) m = refusal-short q
 
 pub printed-short : (job : List ℕ) → length (printed job) ≤ recordRoom
 unfolding printed
-printed-short job = short job (solveJob job) (outcome-exactly job (solveJob job) .0 refl)
+printed-short job = short job (solveJob job) (job-meant job)
 
 -- ---- the program
 

@@ -1,18 +1,17 @@
 -- The three lines tell the set and the text: other sets of labels that can be written, and other texts, have other lines. Assumes nothing.
-use Prim.Native.Nat.{ℕ, suc, _+_, _≤_, _<_, _^_}
+use Prim.Native.Nat.{ℕ, suc, _+_, _-_, _/_, _%_, _≤_, _<_, _^_}
 use mathlib.Core.Path.{_≡_, refl, sym, _∙_, ap, ap₂, subst}
 use mathlib.Core.Bool.{Bool, true, false}
-use mathlib.Core.Logic.{⊎-elim}
+use mathlib.Core.Logic.{_⊎_, inl, inr, ⊎-elim}
 use mathlib.Core.List.{List, [], _∷_, _++_, map, append-assoc}
 use mathlib.Core.Option.{Option, some, none}
 use native.Mathlib.Omega.{arith}
-use lib.Dec.{eqb}
-use lib.ListN.{length, drop, length-map}
-use borrow.Author.Tests.{eq-eqb, eqb-true}
+use lib.Dec.{eqb, leb}
+use lib.ListN.{length, drop, length-append, length-map}
+use borrow.Author.Tests.{eq-eqb, eqb-true, leb-true, leb-false}
 use lib.Seq.{drop-append-seam}
-use Rattle.trees.specs.declared.Reason.the-variants.{Disagree}
 use Rattle.trees.specs.declared.Body.{Body}
-use Rattle.trees.specs.declared.Body.the-variants.{S, T, K, J, O}
+use Rattle.trees.specs.declared.Body.the-variants.{S, T, K, C, J, O}
 use Rattle.trees.specs.declared.Refusal.{Refusal}
 use Rattle.trees.specs.Refusals.{numberOf, letterOf}
 use Rattle.trees.specs.Label.{Label}
@@ -34,10 +33,10 @@ use Rattle.agreement.specs.Restrict.{restrictIn}
 use Rattle.agreement.specs.Places.{keptTextIn}
 use Rattle.agreement.proofs.EditionText.{restrict-valid}
 use Rattle.contents.specs.Contents.{line}
-use Rattle.decimals.specs.Decimal.{isDigit, valueFrom, decimalOf, digitRoom}
-use Rattle.decimals.proofs.DecimalLaws.{allDigits, from-digits, decimal-value}
-use Rattle.mast.specs.Largest.{turned}
-use Rattle.job.specs.Printed.{refusedWords, recordLines, eightLine, printedOf}
+use Rattle.decimals.specs.Decimal.{isDigit, valueFrom, decimalFrom, decimalOf, digitRoom}
+use Rattle.decimals.proofs.DecimalLaws.{allDigits, from-digits, from-large, from-some, decimal-value}
+use Rattle.job.specs.Printed.{turned, refusedWords, recordLines, threeLine, claimLine, printedOf}
+use Rattle.job.proofs.LineLaws.{size-short}
 use Rattle.job.proofs.ShownLaws.{cons-count}
 use Rattle.job.proofs.TokenBytes.{token-comma, token-line}
 
@@ -252,13 +251,14 @@ lines-back X Y p q v w few plain e =
     let same = joined-back (map tokenOf X) (map tokenOf Y) goodX goodY (omega (arith, n, length-map X tokenOf, length-map Y tokenOf)) j in
     (forms-back X Y v w same, tree-back p q (c .0))
 
--- ---- the line of number 8
+-- ---- the lines of numbers 8 and 14
 
 letter-plain : (b : Body) → eqb 32 (letterOf b) ≡ false
 unfolding letterOf
 letter-plain S = refl
 letter-plain T = refl
 letter-plain K = refl
+letter-plain C = refl
 letter-plain J = refl
 letter-plain O = refl
 
@@ -293,10 +293,11 @@ line-blanks : (w : List ℕ) → occurrences 32 (line w) ≡ occurrences 32 w
 unfolding line occurrences
 line-blanks w = omega (arith, occurrences-append 32 w (10 ∷ []))
 
-pub refusal-no-eight : (q : Refusal) (a b c : Label) → printedOf (turned q) ≡ eightLine a b c → ⊥
-unfolding printedOf
-refusal-no-eight q a b c e =
-    let w : List ℕ = refusedWords (record { reason = Disagree; body = K; place = 0 }) in
+-- the line of a refusal that names no label
+pub refusal-no-three : (q p : Refusal) (a b c : Label) → printedOf (turned q) ≡ threeLine p a b c → ⊥
+unfolding printedOf threeLine
+refusal-no-three q p a b c e =
+    let w : List ℕ = refusedWords p in
     let j : List ℕ = joined (map tokenOf (a ∷ b ∷ c ∷ [])) in
     omega (
       arith,
@@ -305,7 +306,7 @@ refusal-no-eight q a b c e =
       words-blanks q,
       line-blanks (w ++ (32 ∷ j)),
       occurrences-append 32 w (32 ∷ j),
-      words-blanks (record { reason = Disagree; body = K; place = 0 }),
+      words-blanks p,
       one-more 32 j,
     )
 
@@ -313,30 +314,71 @@ after-words : (w r : List ℕ) → drop (length w) (line (w ++ r)) ≡ r ++ (10 
 unfolding line
 after-words w r = ap (drop (length w)) (append-assoc w r (10 ∷ [])) ∙ drop-append-seam w (r ++ (10 ∷ []))
 
-eight-joined : (a b c x y z : Label) → eightLine a b c ≡ eightLine x y z
+three-joined : (p : Refusal) (a b c x y z : Label) → threeLine p a b c ≡ threeLine p x y z
     → joined (map tokenOf (a ∷ b ∷ c ∷ [])) ++ (10 ∷ []) ≡ joined (map tokenOf (x ∷ y ∷ z ∷ [])) ++ (10 ∷ [])
-unfolding eightLine
-eight-joined a b c x y z e =
-    let w : List ℕ = refusedWords (record { reason = Disagree; body = K; place = 0 }) in
+unfolding threeLine
+three-joined p a b c x y z e =
+    let w : List ℕ = refusedWords p in
     let j : List ℕ = joined (map tokenOf (a ∷ b ∷ c ∷ [])) in
     let k : List ℕ = joined (map tokenOf (x ∷ y ∷ z ∷ [])) in
     let f : 32 ∷ (j ++ (10 ∷ [])) ≡ 32 ∷ (k ++ (10 ∷ [])) =
     sym (after-words w (32 ∷ j)) ∙ ap (drop (length w)) e ∙ after-words w (32 ∷ k) in
     heads 32 32 (j ++ (10 ∷ [])) (k ++ (10 ∷ [])) f .1
 
-pub eight-back : (a b c x y z : Label) → writableLabels (a ∷ b ∷ c ∷ []) ≡ true → writableLabels (x ∷ y ∷ z ∷ []) ≡ true
-    → eightLine a b c ≡ eightLine x y z → (a ≡ x) × (b ≡ y) × (c ≡ z)
-eight-back a b c x y z v w e =
+pub three-back : (p : Refusal) (a b c x y z : Label) → writableLabels (a ∷ b ∷ c ∷ []) ≡ true → writableLabels (x ∷ y ∷ z ∷ []) ≡ true
+    → threeLine p a b c ≡ threeLine p x y z → (a ≡ x) × (b ≡ y) × (c ≡ z)
+three-back p a b c x y z v w e =
     let one : List Label = a ∷ b ∷ c ∷ [] in
     let two : List Label = x ∷ y ∷ z ∷ [] in
     let goodOne = tokens-good one v in
     let goodTwo = tokens-good two w in
-    let j = eight-joined a b c x y z e in
+    let j = three-joined p a b c x y z e in
     let cut =
     cut-at 10 (joined (map tokenOf one)) (joined (map tokenOf two)) [] [] (joined-line (map tokenOf one) goodOne)
     (joined-line (map tokenOf two) goodTwo) j in
     let same : one ≡ two = forms-back one two v w (joined-back (map tokenOf one) (map tokenOf two) goodOne goodTwo refl (cut .0)) in
-    let p : a ≡ x = cc in
-    let q : b ≡ y = cc in
-    let r : c ≡ z = cc in
-    (p, q, r)
+    let i : a ≡ x = cc in
+    let k : b ≡ y = cc in
+    let l : c ≡ z = cc in
+    (i, k, l)
+
+-- ---- the line of a claim that passes
+
+-- a number from 100 on has three digits at least
+long-digits : (n : ℕ) → 100 ≤ n → 3 ≤ length (decimalOf n)
+unfolding decimalOf
+long-digits n h =
+    let one = from-large digitRoom n (omega arith) (omega arith) in
+    let two = from-large (digitRoom - 1) (n / 10) (omega arith) (omega arith) in
+    omega (
+      arith,
+      ap (length {A = ℕ}) one,
+      ap (length {A = ℕ}) two,
+      length-append (decimalFrom (digitRoom - 1) (n / 10)) ((48 + n % 10) ∷ []),
+      length-append (decimalFrom (digitRoom - 1 - 1) (n / 10 / 10)) ((48 + n / 10 % 10) ∷ []),
+      from-some (digitRoom - 1 - 1) (n / 10 / 10) (omega arith),
+    )
+
+digits-line : (n : ℕ) → occurrences 10 (decimalOf n) ≡ 0
+unfolding decimalOf
+digits-line n = digit-free 10 no-digit-end (decimalOf n) (from-digits digitRoom n)
+  where
+    no-digit-end : isDigit 10 ≡ false
+    no-digit-end = unfold isDigit in refl
+
+claim-digits : (n : ℕ) → drop 9 (claimLine n) ≡ decimalOf n ++ (10 ∷ [])
+unfolding claimLine line bytesOf
+claim-digits n = refl
+
+-- the line tells the size
+pub claim-back : (m n : ℕ) → m ≤ leafLimit → claimLine m ≡ claimLine n → m ≡ n
+claim-back m n few e =
+    let same = cut-at 10 (decimalOf m) (decimalOf n) [] [] (digits-line m) (digits-line n) (sym (claim-digits m) ∙ ap (drop 9) e ∙ claim-digits n) .0 in
+    go (bool-cases (leb 100 n)) same
+  where
+    go : (leb 100 n ≡ true) ⊎ (leb 100 n ≡ false) → decimalOf m ≡ decimalOf n → m ≡ n
+    go (inl h) same =
+        absurd (omega (arith, size-short m few, long-digits n (leb-true 100 n h), ap (length {A = ℕ}) same))
+    go (inr h) same =
+        let small : n < 100 = leb-false 100 n h in
+        sym (decimal-value m (omega arith)) ∙ ap (valueFrom 0) same ∙ decimal-value n (omega arith)

@@ -1,4 +1,4 @@
--- What the answer for the three lines of a set says of them: they are written, or number 9, and never number 8. Assumes nothing.
+-- What the answer for the lines of a set or a claim says of them: they are written, or number 9, and no label is named. Assumes nothing.
 use Prim.Native.Nat.{ℕ, _<_}
 use mathlib.Core.Path.{_≡_, refl, sym, _∙_, ap}
 use mathlib.Core.Bool.{true, false}
@@ -11,10 +11,10 @@ use borrow.Author.Tests.{leb-false}
 use Rattle.trees.specs.declared.Refusal.{Refusal}
 use Rattle.trees.specs.Refusals.{numberOf}
 use Rattle.trees.proofs.Bools.{bool-cases}
+use Rattle.job.specs.declared.JobAnswer.{JobAnswer}
 use Rattle.job.specs.declared.JobAnswer.the-variants as job-answer
 use Rattle.job.specs.declared.LineAnswer.{LineAnswer}
 use Rattle.job.specs.declared.LineAnswer.the-variants.{Written, TooShort}
-use Rattle.job.specs.declared.Named.{Named}
 use Rattle.job.specs.Answered.{outputShort, lineAnswer, linesAnswer, recordAnswer}
 
 pub record-told : (lines : List ℕ) (room : ℕ) {l : LineAnswer} → l ≡ lineAnswer lines room → linesAnswer l ≡ recordAnswer lines room
@@ -58,10 +58,17 @@ record-refused lines room q e = go (lineAnswer lines room) refl e
         let w = line-nine lines room q g in
         (sym g, ap (λ (r : Refusal). numberOf (r .reason)) (w .0), w .1)
 
-pub record-no-clash : (lines : List ℕ) (room : ℕ) (n : Named) → recordAnswer lines room ≡ job-answer.Disagree n → ⊥
+-- answers that name labels
+abbrev pub Naming : JobAnswer → Type 0
+Naming (job-answer.Written n) = ⊥
+Naming (job-answer.Disagree n) = Prim.Unit {0}
+Naming (job-answer.Apart n) = Prim.Unit {0}
+Naming (job-answer.Refused q) = ⊥
+
+pub record-no-names : (lines : List ℕ) (room : ℕ) → Naming (recordAnswer lines room) → ⊥
 unfolding recordAnswer linesAnswer
-record-no-clash lines room n e = go (lineAnswer lines room) e
+record-no-names lines room = go (lineAnswer lines room)
   where
-    go : (l : LineAnswer) → linesAnswer l ≡ job-answer.Disagree n → ⊥
-    go (Written m) h = let z : _≡_ {A = ℕ} 0 1 = cc in omega arith
-    go (TooShort q) h = let z : _≡_ {A = ℕ} 0 1 = cc in omega arith
+    go : (l : LineAnswer) → Naming (linesAnswer l) → ⊥
+    go (Written m) h = h
+    go (TooShort q) h = h

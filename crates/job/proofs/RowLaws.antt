@@ -6,11 +6,9 @@ use mathlib.Core.List.{List, map}
 use lib.Dec.{leb}
 use lib.ListN.{length}
 use Rattle.agreement.specs.Places.{nameIn}
-use Rattle.contents.specs.Contents.{layoutOf, listPlace}
-use Rattle.mast.specs.Largest.{Solution, solved, clashed, turned}
 use Rattle.job.specs.declared.LineAnswer.the-variants.{Written, TooShort}
-use Rattle.job.specs.Printed.{recordLines, solveJob}
-use Rattle.job.specs.Answered.{outputShort, lineAnswer, linesAnswer, recordAnswer, beginIn, namedLabel, answered, answerTo}
+use Rattle.job.specs.Printed.{JobSolution, solved, passed, clashed, apart, turned, recordLines, claimLine, solveJob}
+use Rattle.job.specs.Answered.{outputShort, lineAnswer, linesAnswer, recordAnswer, beginIn, namedLabel, namedThree, answered, answerTo}
 use Rattle.job.specs.Rows.{saidOfLine, saidOfJob, saidOfText, saidOfOutcome}
 
 pub line-said : (text : List ℕ) (room : ℕ) → saidOfLine (lineAnswer text room) ≡ saidOfText text room
@@ -31,11 +29,13 @@ lines-said text room = go (leb (length text) room)
     go true = refl
     go false = refl
 
-pub job-said : (job : List ℕ) (room : ℕ) → saidOfJob (answerTo job room) ≡ saidOfOutcome (listPlace (layoutOf job)) room (solveJob job)
-unfolding answerTo answered namedLabel saidOfJob saidOfOutcome
+pub job-said : (job : List ℕ) (room : ℕ) → saidOfJob (answerTo job room) ≡ saidOfOutcome (beginIn job) room (solveJob job)
+unfolding answerTo answered namedThree namedLabel saidOfJob saidOfOutcome
 job-said job room = go (solveJob job)
   where
-    go : (x : Solution) → saidOfJob (answered (beginIn job) room x) ≡ saidOfOutcome (listPlace (layoutOf job)) room x
+    go : (x : JobSolution) → saidOfJob (answered (beginIn job) room x) ≡ saidOfOutcome (beginIn job) room x
     go (solved e s X text) = lines-said (recordLines (map (nameIn e s) X) text) room
+    go (passed n) = lines-said (claimLine n) room
     go (clashed e s xs a b c) = refl
+    go (apart e s ys a b c) = refl
     go (turned q) = refl

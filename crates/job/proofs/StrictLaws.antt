@@ -7,38 +7,51 @@ use mathlib.Core.Option.{some}
 use native.Mathlib.Omega.{arith}
 use Rattle.trees.specs.declared.Refusal.{Refusal}
 use Rattle.trees.specs.Label.{Label}
-use Rattle.trees.specs.Text.{treeRoom}
+use Rattle.trees.specs.declared.Edition.{Edition}
 use Rattle.trees.specs.Edition.{keyed}
+use Rattle.trees.specs.Token.{Token}
 use Rattle.trees.specs.Tree.{Tree}
 use Rattle.trees.specs.Refusals.{numberOf}
 use Rattle.trees.proofs.Bools.{clash}
 use Rattle.agreement.specs.Strict.{SameLeaves, IsStray, Stray, inFirst, inSecond, nowhere, Told, strayOf}
 use Rattle.agreement.proofs.Promises.{stray-promise, stray-leaf}
+use Rattle.claims.specs.Claim.{Verdict, claimFirstLacks, claimSecondLacks, claimLacks, claimDisagrees, claimSmall, claimPasses}
+use Rattle.claims.specs.Judge.{judgementOf}
 use Rattle.contents.specs.Contents.{Bodies}
-use Rattle.mast.specs.Largest.{Solution, turned}
-use Rattle.mast.proofs.Promises as mast
-use Rattle.job.specs.Printed.{taskOf, solveBodies, solveJob}
+use Rattle.job.specs.Printed.{JobSolution, turned, ofJudgement, taskOf, solveBodies, solveJob}
 use Rattle.job.specs.Outcome.{TreeBody, JobOutcome, Stopped, withoutLine, editionIn}
-use Rattle.job.specs.Outcome.{too-long, no-contents, first-fault, second-fault, list-fault, stray-first, stray-second, first-lacks, second-lacks, disagreement, largest-set}
+use Rattle.job.specs.Outcome.{too-long, no-contents, first-fault, second-fault, list-fault, claim-fault, stray-first, stray-second, first-lacks, second-lacks, disagreement, largest-set, judged}
 use Rattle.job.proofs.OutcomeLaws.{outcome-exactly, body-tree}
 use Rattle.job.proofs.RoomLaws.{fault-low}
+use Rattle.job.proofs.TaskLaws.{task-strict}
 
 -- a leaf that stands in only one tree tells that the trees have different leaves
 stray-differ : (s t : Tree) (x : Label) → IsStray s t x → SameLeaves s t → ⊥
 stray-differ s t x h e = clash (sym (e x) ∙ stray-leaf s t x h) (h .outside)
 
 -- a refusal by its number
-told : (q : Refusal) (x : Solution) (p : Refusal) → x ≡ turned p → x ≡ turned q → numberOf (p .reason) ≡ numberOf (q .reason)
+told : (q : Refusal) (x : JobSolution) (p : Refusal) → x ≡ turned p → x ≡ turned q → numberOf (p .reason) ≡ numberOf (q .reason)
 told q x p e f = let g : p ≡ q = cc in ap (λ (r : Refusal). numberOf (r .reason)) g
 
+verdict-no-twelve : (d : Edition) (s : Tree) (xs ys : List Token) (v : Verdict) (q : Refusal) → ofJudgement (judgementOf d s xs ys v) ≡ turned q
+    → numberOf (q .reason) ≡ 12 → ⊥
+unfolding judgementOf ofJudgement numberOf
+verdict-no-twelve d s xs ys (claimFirstLacks m) q e n = omega (arith, told q _ _ refl e)
+verdict-no-twelve d s xs ys (claimSecondLacks m) q e n = omega (arith, told q _ _ refl e)
+verdict-no-twelve d s xs ys (claimLacks m) q e n = omega (arith, told q _ _ refl e)
+verdict-no-twelve d s xs ys (claimDisagrees a b c) q e n = let z : _≡_ {A = ℕ} 0 1 = cc in omega arith
+verdict-no-twelve d s xs ys claimSmall q e n = omega (arith, told q _ _ refl e)
+verdict-no-twelve d s xs ys (claimPasses m) q e n = let z : _≡_ {A = ℕ} 0 1 = cc in omega arith
+
 module _ (job : List ℕ) where
-  stopped : (x : Solution) → JobOutcome job x → (q : Refusal) → x ≡ turned q → numberOf (q .reason) ≡ 12 → Stopped job
+  stopped : (x : JobSolution) → JobOutcome job x → (q : Refusal) → x ≡ turned q → numberOf (q .reason) ≡ 12 → Stopped job
   unfolding numberOf
   stopped x (too-long h) q e n = absurd (omega (arith, told q x _ refl e))
   stopped x (no-contents h never) q e n = absurd (omega (arith, told q x _ refl e))
   stopped x (first-fault b held r i f) q e n = absurd (omega (arith, told q x _ refl e, fault-low (f .here)))
   stopped x (second-fault b held s p r i f) q e n = absurd (omega (arith, told q x _ refl e, fault-low (f .here)))
   stopped x (list-fault b held s t p k h r i f) q e n = absurd (omega (arith, told q x _ refl e, fault-low (f .here)))
+  stopped x (claim-fault b held s t p k h xs l text d r i f) q e n = absurd (omega (arith, told q x _ refl e, fault-low (f .here)))
   stopped x (stray-first b held k s t p d y o) q e n =
       record { bodies = b; held = held; strict = k; s = s; t = t; first = p; second = d; differ = stray-differ (keyed (editionIn b) s) (keyed (editionIn b) t) y o }
   stopped x (stray-second b held k s t p d y a o) q e n =
@@ -52,10 +65,11 @@ module _ (job : List ℕ) where
         second = d;
         differ = λ h. stray-differ (keyed (editionIn b) t) (keyed (editionIn b) s) y o (λ z. sym (h z));
       }
-  stopped x (first-lacks d s t xs asks m o) q e n = absurd (omega (arith, told q x _ refl e))
-  stopped x (second-lacks d s t xs asks m o) q e n = absurd (omega (arith, told q x _ refl e))
-  stopped x (disagreement d s t xs asks a b c held o) q e n = let z : _≡_ {A = ℕ} 0 1 = cc in absurd (omega arith)
+  stopped x (first-lacks d s t xs c asks m o) q e n = absurd (omega (arith, told q x _ refl e))
+  stopped x (second-lacks d s t xs c asks m o) q e n = absurd (omega (arith, told q x _ refl e))
+  stopped x (disagreement d s t xs g asks a b c held o) q e n = let z : _≡_ {A = ℕ} 0 1 = cc in absurd (omega arith)
   stopped x (largest-set d s t xs asks X o) q e n = let z : _≡_ {A = ℕ} 0 1 = cc in absurd (omega arith)
+  stopped x (judged d s t xs ys asks clear v o) q e n = absurd (verdict-no-twelve d s xs ys v q e n)
 
   stops : Stopped job → (q : Refusal) × (solveJob job ≡ turned q) × (numberOf (q .reason) ≡ 12)
   unfolding numberOf
@@ -76,4 +90,5 @@ pub strict-same : (b : Bodies) (s t : Tree) → TreeBody (editionIn b) (b .first
     → SameLeaves (keyed (editionIn b) s) (keyed (editionIn b) t)
     → solveBodies (some b) ≡ solveBodies (some (withoutLine b))
 unfolding solveBodies
-strict-same b s t p q h = mast.strict-promise (taskOf b) treeRoom s t (body-tree (editionIn b) (b .first) s p) (body-tree (editionIn b) (b .second) t q) h
+strict-same b s t p q h =
+    task-strict (taskOf b) s t (body-tree (editionIn b) (b .first) s p) (body-tree (editionIn b) (b .second) t q) (b .claim) h

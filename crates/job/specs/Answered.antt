@@ -15,14 +15,14 @@ use Rattle.trees.specs.Edition.{folded}
 use Rattle.trees.specs.Token.{Token, spelling}
 use Rattle.trees.specs.Tree.{Tree}
 use Rattle.lists.specs.ReadList.{foldedList}
-use Rattle.contents.specs.Contents.{layoutOf, firstPlace, listPlace}
+use Rattle.contents.specs.Contents.{layoutOf, firstPlace, listPlace, claimPlace}
 use Rattle.agreement.specs.Places.{placeIn, tokenIn, placeOfLabel, nameIn}
-use Rattle.mast.specs.Largest.{Solution, solved, clashed, turned}
+use Rattle.job.specs.declared.Begin.{Begin}
 use Rattle.job.specs.declared.JobAnswer.{JobAnswer}
 use Rattle.job.specs.declared.JobAnswer.the-variants as job-answer
 use Rattle.job.specs.declared.Named.{Named}
 use Rattle.job.specs.declared.NamedLabel.{NamedLabel}
-use Rattle.job.specs.Printed.{eightLine, recordLines, solveJob}
+use Rattle.job.specs.Printed.{JobSolution, solved, passed, clashed, apart, turned, threeLine, claimLine, recordLines, solveJob}
 use Rattle.job.specs.declared.LineAnswer.{LineAnswer}
 use Rattle.job.specs.declared.LineAnswer.the-variants.{Written, TooShort}
 
@@ -52,57 +52,65 @@ writtenPart out (TooShort q) = []
 unfoldable pub labelIn : List ℕ → ℕ → ℕ → Label
 labelIn text start size = take labelLimit (spelling (partOf start size text))
 
--- the line of number 8 with the labels that places and sizes in the job name
-unfoldable pub namedLine : List ℕ → Named → List ℕ
-unfolding eightLine labelIn
-namedLine job n =
-    eightLine (labelIn job (n .first .start) (n .first .size)) (labelIn job (n .second .start) (n .second .size))
+-- the line of a refusal, number 8 or 14, with the labels that places and sizes in the job name
+unfoldable pub namedLine : List ℕ → Refusal → Named → List ℕ
+unfolding threeLine labelIn
+namedLine job q n =
+    threeLine q (labelIn job (n .first .start) (n .first .size)) (labelIn job (n .second .start) (n .second .size))
     (labelIn job (n .third .start) (n .third .size))
 
 unfoldable pub linesAnswer : LineAnswer → JobAnswer
 linesAnswer (Written n) = job-answer.Written n
 linesAnswer (TooShort q) = job-answer.Refused q
 
--- the three lines for an output of `room` bytes: how many bytes they have, or number 9
+-- the lines of an answer for an output of `room` bytes: how many bytes they have, or number 9
 unfoldable pub recordAnswer : List ℕ → ℕ → JobAnswer
 unfolding linesAnswer lineAnswer
 recordAnswer lines room = linesAnswer (lineAnswer lines room)
 
--- where two bodies begin in a job
-pub record Begin : Type 0 where
-  pub tree : ℕ
-  pub list : ℕ
-
+-- where the bodies begin in a job
 abbrev pub beginIn : List ℕ → Begin
-beginIn job = record { tree = firstPlace (layoutOf job); list = listPlace (layoutOf job) }
+beginIn job = record { tree = firstPlace (layoutOf job); list = listPlace (layoutOf job); claim = claimPlace (layoutOf job) }
 
--- a label of the list: where it stands in the job's list, and where the first tree spells it, "the part of the text shown for it has both
--- quotes"
-unfoldable pub namedLabel : Begin → Edition → Tree → List Token → Label → NamedLabel
+-- a label of a list that begins at `base` in the job: where it stands there, and where the first tree, which begins at `origin`, spells it,
+-- "the part of the text shown for it has both quotes"
+unfoldable pub namedLabel : ℕ → ℕ → Edition → Tree → List Token → Label → NamedLabel
 unfolding placeOfLabel placeIn tokenIn
-namedLabel at e s xs x =
+namedLabel origin base e s xs x =
     record {
-      place = at .list + placeOfLabel (foldedList e xs) 0 x;
-      start = at .tree + placeIn (folded e s) 0 x;
+      place = base + placeOfLabel (foldedList e xs) 0 x;
+      start = origin + placeIn (folded e s) 0 x;
       size = length (tokenIn (folded e s) x);
     }
 
+unfoldable pub namedThree : ℕ → ℕ → Edition → Tree → List Token → Label → Label → Label → Named
+unfolding namedLabel
+namedThree origin base e s xs a b c =
+    record {
+      first = namedLabel origin base e s xs a;
+      second = namedLabel origin base e s xs b;
+      third = namedLabel origin base e s xs c;
+    }
+
 -- the answer to a job with bodies that begin there, for an output of `room` bytes
-unfoldable pub answered : Begin → ℕ → Solution → JobAnswer
-unfolding recordAnswer namedLabel recordLines
+unfoldable pub answered : Begin → ℕ → JobSolution → JobAnswer
+unfolding recordAnswer namedThree recordLines claimLine
 answered at room (solved e s X text) = recordAnswer (recordLines (map (nameIn e s) X) text) room
-answered at room (clashed e s xs a b c) =
-    job-answer.Disagree (record { first = namedLabel at e s xs a; second = namedLabel at e s xs b; third = namedLabel at e s xs c })
+answered at room (passed n) = recordAnswer (claimLine n) room
+answered at room (clashed e s xs a b c) = job-answer.Disagree (namedThree (at .tree) (at .list) e s xs a b c)
+answered at room (apart e s ys a b c) = job-answer.Apart (namedThree (at .tree) (at .claim) e s ys a b c)
 answered at room (turned q) = job-answer.Refused q
 
 -- the answer to a job, for an output of `room` bytes
 unfoldable pub answerTo : List ℕ → ℕ → JobAnswer
-unfolding answered solveJob firstPlace listPlace layoutOf
+unfolding answered solveJob firstPlace listPlace claimPlace layoutOf
 answerTo job room = answered (beginIn job) room (solveJob job)
 
--- what the output then holds: the three lines, further bytes unchanged; "On refusal .. an output keeps every byte."
-unfoldable pub jobOutput : Solution → List ℕ → List ℕ
-unfolding lineOutput recordLines
+-- what the output then holds: the answer's lines, further bytes unchanged; "On refusal .. an output keeps every byte."
+unfoldable pub jobOutput : JobSolution → List ℕ → List ℕ
+unfolding lineOutput recordLines claimLine
 jobOutput (solved e s X text) out = lineOutput (recordLines (map (nameIn e s) X) text) out
+jobOutput (passed n) out = lineOutput (claimLine n) out
 jobOutput (clashed e s xs a b c) out = out
+jobOutput (apart e s ys a b c) out = out
 jobOutput (turned q) out = out

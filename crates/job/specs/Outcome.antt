@@ -5,11 +5,12 @@ use Prim.Native.Nat.{ℕ, _≤_, _<_}
 use mathlib.Core.Path.{_≡_}
 use mathlib.Core.Bool.{true, false}
 use mathlib.Core.List.{List, map}
+use mathlib.Core.Option.{Option, some, none}
 use lib.ListN.{length}
 use Rattle.trees.specs.declared.Reason.{Reason}
 use Rattle.trees.specs.declared.Reason.the-variants.{FirstLacks, SecondLacks, Contents, JobTooLong, NotShared}
 use Rattle.trees.specs.declared.Body.{Body}
-use Rattle.trees.specs.declared.Body.the-variants.{S, T, K, J}
+use Rattle.trees.specs.declared.Body.the-variants.{S, T, K, C, J}
 use Rattle.trees.specs.declared.Edition.{Edition}
 use Rattle.trees.specs.Edition.{inEdition, folded, keyed, ValidIn}
 use Rattle.trees.specs.Label.{Label}
@@ -26,8 +27,9 @@ use Rattle.agreement.specs.Places.{placeIn, placeOfNumber, keptTextIn, nameIn}
 use Rattle.agreement.specs.Demand.{IsFirstLacks, IsSecondLacks, IsDisagreement, IsAnswer}
 use Rattle.agreement.specs.Strict.{SameLeaves, IsStray}
 use Rattle.contents.specs.Contents.{Bodies, editionOf, Short, lengthsOf, jobOf, headed}
-use Rattle.mast.specs.Largest.{Solution, solved, clashed, turned}
-use Rattle.job.specs.Printed.{jobLimit}
+use Rattle.claims.specs.Claim.{HoldsRequired, IsClaim, Verdict, Clear, VerdictIs}
+use Rattle.claims.specs.Judge.{judgementOf}
+use Rattle.job.specs.Printed.{jobLimit, JobSolution, solved, clashed, turned, ofJudgement}
 
 -- "A job is a table of contents, then the bodies"
 pub record Follows (job : List ℕ) (b : Bodies) : Type 0 where
@@ -48,8 +50,19 @@ pub record TreeBody (e : Edition) (text : List ℕ) (t : Tree) : Type 0 where
   pub is : text ≡ textOf t
   pub valid : ValidIn e t
 
--- the job holds two trees, which have the same leaves if it is strict (request C-11), and a required list: no row before 6 turns it away
-pub record Asks (job : List ℕ) (e : Edition) (s t : Tree) (xs : List Token) : Type 0 where
+-- both trees hold the same leaves if the job is strict (request C-11)
+abbrev pub Shared : Bodies → Tree → Tree → Type 0
+Shared b s t = b .strict ≡ true → SameLeaves (keyed (editionIn b) s) (keyed (editionIn b) t)
+
+-- request C-16: the claim, where the job has one, is read as these labels: it is "written like K"
+abbrev pub ClaimRead : Edition → Option (List ℕ) → Option (List Token) → Type 0
+ClaimRead e none none = Prim.Unit {0}
+ClaimRead e none (some ys) = ⊥
+ClaimRead e (some text) none = ⊥
+ClaimRead e (some text) (some ys) = IsList e text ys
+
+-- the job holds two trees, which have the same leaves if it is strict, a required list, and perhaps a claim: no row before 6 turns it away
+pub record Asks (job : List ℕ) (e : Edition) (s t : Tree) (xs : List Token) (c : Option (List Token)) : Type 0 where
   pub bodies : Bodies
   pub held : Holds job bodies
   pub edition : e ≡ editionIn bodies
@@ -57,13 +70,14 @@ pub record Asks (job : List ℕ) (e : Edition) (s t : Tree) (xs : List Token) : 
   pub second : TreeBody e (bodies .second) t
   pub shared : bodies .strict ≡ true → SameLeaves (keyed e s) (keyed e t)
   pub required : IsList e (bodies .list) xs
+  pub claim : ClaimRead e (bodies .claim) c
 
-abbrev pub refusal : Reason → Body → ℕ → Solution
+abbrev pub refusal : Reason → Body → ℕ → JobSolution
 refusal r b i = turned (record { reason = r; body = b; place = i })
 
--- "Order: .. 11, 10, S, T, K, then 6 or 7, then 8", with 12 "after both trees are read and before K"; "A job that no row turns away is
--- answered with its set."
-pub data JobOutcome (job : List ℕ) : Solution → Type 0 where
+-- "Order: .. 11, 10, S, T, K, then 6 or 7, then 8", with 12 "after both trees are read and before K" and C "read right after K"; "A job
+-- that no row turns away is answered with its set", or with the verdict on its claim
+pub data JobOutcome (job : List ℕ) : JobSolution → Type 0 where
   -- 11, "number 11 begins at 16,385 bytes" (request C-14)
   too-long : jobLimit < length job → JobOutcome job (refusal JobTooLong J 0)
   -- 10, "the contents break their rules"
@@ -74,8 +88,10 @@ pub data JobOutcome (job : List ℕ) : Solution → Type 0 where
   second-fault : (b : Bodies) → Holds job b → (s : Tree) → TreeBody (editionIn b) (b .first) s → (r : Reason) (i : ℕ)
       → TreeFault (inEdition (editionIn b) (b .second)) r i → JobOutcome job (refusal r T i)
   list-fault : (b : Bodies) → Holds job b → (s t : Tree) → TreeBody (editionIn b) (b .first) s → TreeBody (editionIn b) (b .second) t
-      → (b .strict ≡ true → SameLeaves (keyed (editionIn b) s) (keyed (editionIn b) t)) → (r : Reason) (i : ℕ)
-      → ListFault (inEdition (editionIn b) (b .list)) r i → JobOutcome job (refusal r K i)
+      → Shared b s t → (r : Reason) (i : ℕ) → ListFault (inEdition (editionIn b) (b .list)) r i → JobOutcome job (refusal r K i)
+  claim-fault : (b : Bodies) → Holds job b → (s t : Tree) → TreeBody (editionIn b) (b .first) s → TreeBody (editionIn b) (b .second) t
+      → Shared b s t → (xs : List Token) → IsList (editionIn b) (b .list) xs → (text : List ℕ) → b .claim ≡ some text → (r : Reason) (i : ℕ)
+      → ListFault (inEdition (editionIn b) text) r i → JobOutcome job (refusal r C i)
   -- 12, where the job is strict: "the letter and place of the first such leaf in S or, if S has none, in T"
   stray-first : (b : Bodies) → Holds job b → b .strict ≡ true → (s t : Tree) → TreeBody (editionIn b) (b .first) s
       → TreeBody (editionIn b) (b .second) t → (x : Label) → IsStray (keyed (editionIn b) s) (keyed (editionIn b) t) x
@@ -86,19 +102,23 @@ pub data JobOutcome (job : List ℕ) : Solution → Type 0 where
       → IsStray (keyed (editionIn b) t) (keyed (editionIn b) s) x
       → JobOutcome job (refusal NotShared T (placeIn (folded (editionIn b) t) 0 x))
   -- 6 and 7, at the label's "first byte in K"
-  first-lacks : (e : Edition) (s t : Tree) (xs : List Token) → Asks job e s t xs → (n : ℕ) → IsFirstLacks (keyed e s) (keyed e t) (keysOf e xs) n
-      → JobOutcome job (refusal FirstLacks K (placeOfNumber xs n))
-  second-lacks : (e : Edition) (s t : Tree) (xs : List Token) → Asks job e s t xs → (n : ℕ) → IsSecondLacks (keyed e s) (keyed e t) (keysOf e xs) n
-      → JobOutcome job (refusal SecondLacks K (placeOfNumber xs n))
+  first-lacks : (e : Edition) (s t : Tree) (xs : List Token) (c : Option (List Token)) → Asks job e s t xs c → (n : ℕ)
+      → IsFirstLacks (keyed e s) (keyed e t) (keysOf e xs) n → JobOutcome job (refusal FirstLacks K (placeOfNumber xs n))
+  second-lacks : (e : Edition) (s t : Tree) (xs : List Token) (c : Option (List Token)) → Asks job e s t xs c → (n : ℕ)
+      → IsSecondLacks (keyed e s) (keyed e t) (keysOf e xs) n → JobOutcome job (refusal SecondLacks K (placeOfNumber xs n))
   -- 8, "three required leaves have different closer pairs"
-  disagreement : (e : Edition) (s t : Tree) (xs : List Token) → Asks job e s t xs → (a b c : Label)
+  disagreement : (e : Edition) (s t : Tree) (xs : List Token) (o : Option (List Token)) → Asks job e s t xs o → (a b c : Label)
       → Common (keyed e s) (keyed e t) (setOf (keysOf e xs)) → IsDisagreement (keyed e s) (keyed e t) (keysOf e xs) a b c
       → JobOutcome job (clashed e s xs a b c)
-  -- demand 3: the set, and "the normal text of the common restriction"
-  largest-set : (e : Edition) (s t : Tree) (xs : List Token) → Asks job e s t xs → (X : List Label)
+  -- demand 3, of jobs without a claim: the set, and "the normal text of the common restriction"
+  largest-set : (e : Edition) (s t : Tree) (xs : List Token) → Asks job e s t xs none → (X : List Label)
       → IsAnswer (keyed e s) (keyed e t) (keysOf e xs) X → JobOutcome job (solved e s X (keptTextIn e (restrictIn e (setOf X) s)))
+  -- request C-16: the verdict on the claim, "after number 8": 6 or 7 "with letter C", 13, 14, 15, or that it passes
+  judged : (e : Edition) (s t : Tree) (xs ys : List Token) → Asks job e s t xs (some ys)
+      → Clear (keyed e s) (keyed e t) (keysOf e xs) → (v : Verdict) → VerdictIs (keyed e s) (keyed e t) (keysOf e xs) (keysOf e ys) v
+      → JobOutcome job (ofJudgement (judgementOf e s xs ys v))
 
--- demand 3 of labels and a text that are printed: the bodies are read, the labels are those of the answer "as the first tree spells
+-- demand 3 of labels and a text that are printed: the job has no claim, the bodies are read, the labels are those of the answer "as the first tree spells
 -- them", the text is that of the first tree's restriction, and up to spelling that of the second's
 pub record SetAnswered (job : List ℕ) (names : List Label) (text : List ℕ) : Type 0 where
   pub e : Edition
@@ -106,7 +126,7 @@ pub record SetAnswered (job : List ℕ) (names : List Label) (text : List ℕ) :
   pub t : Tree
   pub xs : List Token
   pub X : List Label
-  pub asked : Asks job e s t xs
+  pub asked : Asks job e s t xs none
   pub isAnswer : IsAnswer (keyed e s) (keyed e t) (keysOf e xs) X
   pub spelled : names ≡ map (nameIn e s) X
   pub first-text : text ≡ keptTextIn e (restrictIn e (setOf X) s)
@@ -122,9 +142,42 @@ pub record EightAnswered (job : List ℕ) (one two three : Label) : Type 0 where
   pub a : Label
   pub b : Label
   pub c : Label
-  pub asked : Asks job e s t xs
+  pub claim : Option (List Token)
+  pub asked : Asks job e s t xs claim
   pub common : Common (keyed e s) (keyed e t) (setOf (keysOf e xs))
   pub isDisagreement : IsDisagreement (keyed e s) (keyed e t) (keysOf e xs) a b c
+  pub one-is : one ≡ nameIn e s a
+  pub two-is : two ≡ nameIn e s b
+  pub three-is : three ≡ nameIn e s c
+
+-- request C-16: the claim passes. The bodies are read, and it "holds every required label, the trees agree on it and no larger such set
+-- exists"; n is its size
+pub record ClaimAnswered (job : List ℕ) (n : ℕ) : Type 0 where
+  pub e : Edition
+  pub s : Tree
+  pub t : Tree
+  pub xs : List Token
+  pub ys : List Token
+  pub asked : Asks job e s t xs (some ys)
+  pub isClaim : IsClaim (keyed e s) (keyed e t) (keysOf e xs) (keysOf e ys)
+  pub size : n ≡ length ys
+
+-- number 14 of three printed labels: the bodies are read, no row before 14 turns the job away, and these are the first three of the claim
+-- that disagree, "named as 8 names them"
+pub record FourteenAnswered (job : List ℕ) (one two three : Label) : Type 0 where
+  pub e : Edition
+  pub s : Tree
+  pub t : Tree
+  pub xs : List Token
+  pub ys : List Token
+  pub a : Label
+  pub b : Label
+  pub c : Label
+  pub asked : Asks job e s t xs (some ys)
+  pub clear : Clear (keyed e s) (keyed e t) (keysOf e xs)
+  pub claimed : Common (keyed e s) (keyed e t) (setOf (keysOf e ys))
+  pub holdsRequired : HoldsRequired (keysOf e xs) (keysOf e ys)
+  pub isDisagreement : IsDisagreement (keyed e s) (keyed e t) (keysOf e ys) a b c
   pub one-is : one ≡ nameIn e s a
   pub two-is : two ≡ nameIn e s b
   pub three-is : three ≡ nameIn e s c

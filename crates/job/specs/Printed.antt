@@ -6,20 +6,24 @@ use mathlib.Core.List.{List, [], _∷_, _++_, map}
 use mathlib.Core.Option.{Option, some, none}
 use lib.Dec.{leb}
 use lib.ListN.{length}
-use Rattle.trees.specs.declared.Reason.the-variants.{Disagree, Contents, JobTooLong}
-use Rattle.trees.specs.declared.Body.the-variants.{K, J}
+use Rattle.trees.specs.declared.Reason.the-variants.{Disagree, Contents, JobTooLong, ClaimDisagrees}
+use Rattle.trees.specs.declared.Body.the-variants.{K, C, J}
 use Rattle.trees.specs.declared.Refusal.{Refusal}
 use Rattle.trees.specs.Refusals.{numberOf, letterOf}
+use Rattle.trees.specs.declared.Edition.{Edition}
 use Rattle.trees.specs.Label.{Label}
 use Rattle.trees.specs.Text.{treeRoom}
-use Rattle.trees.specs.Token.{tokenOf, tokenLimit}
-use Rattle.trees.specs.Tree.{leafLimit}
+use Rattle.trees.specs.Token.{Token, tokenOf, tokenLimit}
+use Rattle.trees.specs.Tree.{Tree, leafLimit}
 use Rattle.trees.specs.Words.{bytesOf}
 use Rattle.lists.specs.ReadList.{joined}
 use Rattle.decimals.specs.Decimal.{digitRoom, decimalOf}
 use Rattle.agreement.specs.Places.{nameIn}
 use Rattle.contents.specs.Contents.{Bodies, editionOf, bodiesOf, line}
-use Rattle.mast.specs.Largest.{Solution, solved, clashed, turned, Task, task, solve}
+use Rattle.mast.specs.Largest.{Solution, Task, task, solve}
+use Rattle.mast.specs.Largest as mast
+use Rattle.claims.specs.Judge.{Judgement, judge}
+use Rattle.claims.specs.Judge as claims
 
 -- "the job limit becomes 16,384 bytes" (request C-14)
 abbrev pub jobLimit : ℕ
@@ -32,6 +36,10 @@ itemRoom = tokenLimit + 1
 -- `refused`, number, letter and place, with three blanks
 abbrev pub wordsRoom : ℕ
 wordsRoom = 11 + 2 * digitRoom
+
+-- `claim ok`, a blank, a size and the line end
+abbrev pub claimRoom : ℕ
+claimRoom = 9 + digitRoom + 1
 
 -- a refusal's line, with three labels
 abbrev pub lineRoom : ℕ
@@ -46,13 +54,45 @@ recordRoom = 17 + 2 + (leafLimit * itemRoom - 1) + treeRoom
 abbrev pub taskOf : Bodies → Task
 taskOf b = task (record { strict = b .strict; edition = editionOf (b .stated) }) (b .first) (b .second) (b .list)
 
-unfoldable pub solveBodies : Option Bodies → Solution
-unfolding solve
-solveBodies none = turned (record { reason = Contents; body = J; place = 0 })
-solveBodies (some b) = solve (taskOf b) treeRoom
+-- what a job comes to
+pub data JobSolution : Type 0 where
+  -- the edition and the first tree, which spells all that is printed; the set in label order, by its keys; the normal text of its common
+  -- restriction
+  solved : Edition → Tree → List Label → List ℕ → JobSolution
+  -- request C-16: the claim passes; its size
+  passed : ℕ → JobSolution
+  -- number 8: the edition, the first tree, the required list and three of its labels, by their keys
+  clashed : Edition → Tree → List Token → Label → Label → Label → JobSolution
+  -- number 14: the same of the claim
+  apart : Edition → Tree → List Token → Label → Label → Label → JobSolution
+  turned : Refusal → JobSolution
 
--- "Order: .. 11, 10, S, T, K, then 6 or 7, then 8", with 12 before K
-unfoldable pub solveJob : List ℕ → Solution
+-- a job without a claim comes to what its bodies come to
+unfoldable pub ofSolution : Solution → JobSolution
+ofSolution (mast.solved e s X text) = solved e s X text
+ofSolution (mast.clashed e s xs a b c) = clashed e s xs a b c
+ofSolution (mast.turned q) = turned q
+
+-- and one with a claim to what is said of that
+unfoldable pub ofJudgement : Judgement → JobSolution
+ofJudgement (claims.passes n) = passed n
+ofJudgement (claims.disagrees e s xs a b c) = clashed e s xs a b c
+ofJudgement (claims.apart e s ys a b c) = apart e s ys a b c
+ofJudgement (claims.declined q) = turned q
+
+-- request C-16: "that is the job's answer: what 01 and demands 1 and 3 say of the set as the answer is about jobs without C"
+unfoldable pub solveTask : Task → Option (List ℕ) → JobSolution
+unfolding solve ofSolution judge ofJudgement
+solveTask q none = ofSolution (solve q treeRoom)
+solveTask q (some claim) = ofJudgement (judge q claim)
+
+unfoldable pub solveBodies : Option Bodies → JobSolution
+unfolding solveTask
+solveBodies none = turned (record { reason = Contents; body = J; place = 0 })
+solveBodies (some b) = solveTask (taskOf b) (b .claim)
+
+-- "Order: .. 11, 10, S, T, K, then 6 or 7, then 8", with 12 before K, and C right after K
+unfoldable pub solveJob : List ℕ → JobSolution
 unfolding solveBodies bodiesOf
 solveJob job =
     cond (leb (length job) jobLimit) (solveBodies (bodiesOf job)) (turned (record { reason = JobTooLong; body = J; place = 0 }))
@@ -70,16 +110,36 @@ unfolding bytesOf decimalOf joined line
 recordLines X text =
     line (bytesOf "size " ++ decimalOf (length X)) ++ (line (bytesOf "set " ++ joined (map tokenOf X)) ++ line (bytesOf "tree " ++ text))
 
--- "Number 8 adds a space and its three labels joined by commas.", as they are spelled
-unfoldable pub eightLine : Label → Label → Label → List ℕ
+-- a refusal that names labels: "adds a space and its three labels joined by commas.", as they are spelled
+unfoldable pub threeLine : Refusal → Label → Label → Label → List ℕ
 unfolding refusedWords joined line
-eightLine a b c =
-    line (refusedWords (record { reason = Disagree; body = K; place = 0 }) ++ (32 ∷ joined (map tokenOf (a ∷ b ∷ c ∷ []))))
+threeLine q a b c = line (refusedWords q ++ (32 ∷ joined (map tokenOf (a ∷ b ∷ c ∷ []))))
 
-unfoldable pub printedOf : Solution → List ℕ
-unfolding refusedWords recordLines eightLine line
+-- "three required leaves have different closer pairs", K 0
+abbrev pub eight : Refusal
+eight = record { reason = Disagree; body = K; place = 0 }
+
+-- request C-16: "14 for three claimed leaves that disagree, named as 8 names them", "at C 0"
+abbrev pub fourteen : Refusal
+fourteen = record { reason = ClaimDisagrees; body = C; place = 0 }
+
+abbrev pub eightLine : Label → Label → Label → List ℕ
+eightLine = threeLine eight
+
+abbrev pub fourteenLine : Label → Label → Label → List ℕ
+fourteenLine = threeLine fourteen
+
+-- request C-16: "The program then prints only `claim ok`, a blank and the size"
+unfoldable pub claimLine : ℕ → List ℕ
+unfolding bytesOf decimalOf line
+claimLine n = line (bytesOf "claim ok " ++ decimalOf n)
+
+unfoldable pub printedOf : JobSolution → List ℕ
+unfolding refusedWords recordLines claimLine threeLine line
 printedOf (solved e s X text) = recordLines (map (nameIn e s) X) text
+printedOf (passed n) = claimLine n
 printedOf (clashed e s xs a b c) = eightLine (nameIn e s a) (nameIn e s b) (nameIn e s c)
+printedOf (apart e s ys a b c) = fourteenLine (nameIn e s a) (nameIn e s b) (nameIn e s c)
 printedOf (turned q) = line (refusedWords q)
 
 unfoldable pub printed : List ℕ → List ℕ

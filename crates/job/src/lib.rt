@@ -1,7 +1,10 @@
 // A job: contents and bodies in, printed lines out.
 //
 // No public function has a `requires`.
+use claims::ClaimAnswer;
+use contents::Claim;
 use contents::Layout;
+use contents::Table;
 use decimals::DIGIT_ROOM;
 use lists::LabelPlaces;
 use mast::LargestAnswer;
@@ -16,13 +19,16 @@ ghost use mathlib.Core.Path.{_≡_};
 ghost use lib.ListN.{length};
 ghost use Prim.Native.Nat.{_+_, _≤_};
 ghost use lib.ListN.{replicate};
-ghost use Rattle.mast.specs.Largest.{turned, task, solve};
+ghost use Rattle.contents.specs.declared.Layout.the-variants as layout;
+ghost use Rattle.contents.specs.Contents.{layoutOf};
+ghost use Rattle.mast.specs.Largest.{task, solve};
+ghost use Rattle.claims.specs.Judge.{judge};
 ghost use Rattle.job.specs.declared.JobAnswer as JobAnswer;
 ghost use Rattle.trees.specs.declared.Body.the-variants.{J};
 ghost use Rattle.trees.specs.Text.{treeRoom};
 ghost use Rattle.trees.specs.Tree.{leafLimit};
-ghost use Rattle.job.specs.Printed.{printedOf, printed, recordLines, solveJob, jobLimit};
-ghost use Rattle.job.specs.Areas.{labelsIn};
+ghost use Rattle.job.specs.Printed.{turned, ofSolution, ofJudgement, printedOf, printed, recordLines, claimLine, solveJob, jobLimit};
+ghost use Rattle.job.specs.Areas.{labelsIn, namedAt, Near};
 ghost use Rattle.job.specs.Answered.{lineAnswer, lineOutput, writtenPart, namedLine, answered, answerTo, jobOutput, recordAnswer};
 
 mod lines;
@@ -49,11 +55,18 @@ pub enum LineAnswer {
     TooShort(Refusal),
 }
 
-// A label of number 8: where it stands in the job's list, and the part of the job that spells it, in the first tree.
+// A label of number 8 or 14: where it stands in the job's list or claim, and the part of the job that spells it, in the first tree.
 pub struct NamedLabel {
     pub place: usize,
     pub start: usize,
     pub size: usize,
+}
+
+// Where the first tree, the list and the claim begin in a job.
+pub struct Begin {
+    pub tree: usize,
+    pub list: usize,
+    pub claim: usize,
 }
 
 // Three labels, sorted.
@@ -63,11 +76,12 @@ pub struct Named {
     pub third: NamedLabel,
 }
 
-// How many bytes the three lines have that now stand in the output; number 8 with its three labels; or why the job was
-// turned down.
+// How many bytes the lines have that now stand in the output; number 8 with its three labels; number 14 with those of the claim; or
+// why the job was turned down.
 pub enum JobAnswer {
     Written(usize),
     Disagree(Named),
+    Apart(Named),
     Refused(Refusal),
 }
 
@@ -99,13 +113,14 @@ pub fn refusal_line(refusal: Refusal, out: &mut [u8]) -> LineAnswer
     lines::hand_over(&line[..n], out)
 }
 
-// The line of number 8 into `out`: the labels are those that the parts of the job, named by starts and sizes, stand for.
-pub fn disagreement_line(job: &[u8], named: Named, out: &mut [u8]) -> LineAnswer
-    ensures answer { λ r. ⌜ r ≡ lineAnswer (namedLine (now (job .entry)) named) (length (now (out .entry))) ⌝ }
-    ensures output { λ _. ⌜ now (out .exit) ≡ lineOutput (namedLine (now (job .entry)) named) (now (out .entry)) ⌝ }
+// The line of a refusal that names three labels, number 8 or 14, into `out`: the labels are those that the parts of the job, named by
+// starts and sizes, stand for.
+pub fn disagreement_line(job: &[u8], refusal: Refusal, named: Named, out: &mut [u8]) -> LineAnswer
+    ensures answer { λ r. ⌜ r ≡ lineAnswer (namedLine (now (job .entry)) refusal named) (length (now (out .entry))) ⌝ }
+    ensures output { λ _. ⌜ now (out .exit) ≡ lineOutput (namedLine (now (job .entry)) refusal named) (now (out .entry)) ⌝ }
 {
     let mut line = [0u8; LINE_ROOM];
-    let n = lines::put_disagreement(job, named, &mut line);
+    let n = lines::put_disagreement(job, refusal, named, &mut line);
     lines::hand_over(&line[..n], out)
 }
 
@@ -118,6 +133,18 @@ fn refused(reason: Reason) -> JobAnswer
         body: Body::J,
         place: 0,
     })
+}
+
+// The lines of an answer into `out`.
+fn hand_lines(text: &[u8], out: &mut [u8]) -> JobAnswer
+    ensures answer { λ r. ⌜ r ≡ recordAnswer (now (text .entry)) (length (now (out .entry))) ⌝ }
+    ensures output { λ _. ⌜ now (out .exit) ≡ lineOutput (now (text .entry)) (now (out .entry)) ⌝ }
+{
+    let given = lines::hand_over(text, out);
+    match given {
+        LineAnswer::Written(k) => JobAnswer::Written(k),
+        LineAnswer::TooShort(refusal) => JobAnswer::Refused(refusal),
+    }
 }
 
 // The three lines of a set into `out`.
@@ -137,11 +164,17 @@ fn answer_set(first: &[u8], set: LabelPlaces, tree: &[u8], out: &mut [u8]) -> Jo
     let start = set.start;
     let size = set.size;
     let n = lines::put_record(first, &start, &size, set.count, tree, &mut area);
-    let given = lines::hand_over(&area[..n], out);
-    match given {
-        LineAnswer::Written(k) => JobAnswer::Written(k),
-        LineAnswer::TooShort(refusal) => JobAnswer::Refused(refusal),
-    }
+    hand_lines(&area[..n], out)
+}
+
+// The line of a claim that passes into `out`.
+fn answer_size(size: usize, out: &mut [u8]) -> JobAnswer
+    ensures answer { λ r. ⌜ r ≡ recordAnswer (claimLine size) (length (now (out .entry))) ⌝ }
+    ensures output { λ _. ⌜ now (out .exit) ≡ lineOutput (claimLine size) (now (out .entry)) ⌝ }
+{
+    let mut line = [0u8; LINE_ROOM];
+    let n = lines::put_claim(size, &mut line);
+    hand_lines(&line[..n], out)
 }
 
 // A label of the list, which begins at `base` in the job, as it is spelled in the first tree, which begins at `origin`.
@@ -156,23 +189,42 @@ fn spelled_label(origin: usize, base: usize, place: usize, start: usize, size: u
     }
 }
 
-// The answer to three bodies, of which the first begins at `origin` in the job and the list at `base`.
+// Three labels of a list that begins at `base` in the job, by their places there and in the first tree, which begins at `origin`.
+fn named_labels(
+    origin: usize,
+    base: usize,
+    starts: &[usize; 80],
+    sizes: &[usize; 80],
+    a: usize,
+    b: usize,
+    c: usize,
+) -> Named
+    requires { ⌜ Near jobLimit origin base (now starts) a b c ⌝ }
+    ensures { λ r. ⌜ r ≡ namedAt origin base (now (starts .entry)) (now (sizes .entry)) a b c ⌝ }
+{
+    Named {
+        first: spelled_label(origin, base, a, starts[0], sizes[0]),
+        second: spelled_label(origin, base, b, starts[1], sizes[1]),
+        third: spelled_label(origin, base, c, starts[2], sizes[2]),
+    }
+}
+
+// The answer to three bodies, which begin there in the job.
 fn answer_bodies(
     options: Options,
     first: &[u8],
     second: &[u8],
     list: &[u8],
-    origin: usize,
-    base: usize,
+    at: Begin,
     out: &mut [u8],
 ) -> JobAnswer
-    requires { ⌜ (base + length (now list) ≤ jobLimit) × (origin + length (now first) ≤ jobLimit) ⌝ }
+    requires { ⌜ (at .list + length (now list) ≤ jobLimit) × (at .tree + length (now first) ≤ jobLimit) ⌝ }
     ensures answer { λ r.
-        ⌜ r ≡ answered (record { tree = origin; list = base }) (length (now (out .entry)))
-        (solve (task options (now (first .entry)) (now (second .entry)) (now (list .entry))) treeRoom) ⌝ }
+        ⌜ r ≡ answered at (length (now (out .entry)))
+        (ofSolution (solve (task options (now (first .entry)) (now (second .entry)) (now (list .entry))) treeRoom)) ⌝ }
     ensures output { λ _.
         ⌜ now (out .exit) ≡ jobOutput
-        (solve (task options (now (first .entry)) (now (second .entry)) (now (list .entry))) treeRoom)
+        (ofSolution (solve (task options (now (first .entry)) (now (second .entry)) (now (list .entry))) treeRoom))
         (now (out .entry)) ⌝ }
 {
     let mut tree = [0u8; TREE_ROOM];
@@ -184,17 +236,89 @@ fn answer_bodies(
         LargestAnswer::Disagree(a, b, c) => {
             let starts = set.start;
             let sizes = set.size;
-            JobAnswer::Disagree(Named {
-                first: spelled_label(origin, base, a, starts[0], sizes[0]),
-                second: spelled_label(origin, base, b, starts[1], sizes[1]),
-                third: spelled_label(origin, base, c, starts[2], sizes[2]),
-            })
+            JobAnswer::Disagree(named_labels(at.tree, at.list, &starts, &sizes, a, b, c))
         }
         LargestAnswer::Refused(refusal) => JobAnswer::Refused(refusal),
     }
 }
 
-// The answer to a job: its three lines in `out`, or why there is none; `out` then keeps every byte.
+// The answer to three bodies and a claim, which begin there in the job.
+fn answer_claim(
+    options: Options,
+    first: &[u8],
+    second: &[u8],
+    list: &[u8],
+    claim: &[u8],
+    at: Begin,
+    out: &mut [u8],
+) -> JobAnswer
+    requires { ⌜ (at .list + length (now list) ≤ jobLimit) × (at .tree + length (now first) ≤ jobLimit) ⌝ }
+    requires { ⌜ at .claim + length (now claim) ≤ jobLimit ⌝ }
+    ensures answer { λ r.
+        ⌜ r ≡ answered at (length (now (out .entry)))
+        (ofJudgement (judge (task options (now (first .entry)) (now (second .entry)) (now (list .entry))) (now (claim .entry)))) ⌝ }
+    ensures output { λ _.
+        ⌜ now (out .exit) ≡ jobOutput
+        (ofJudgement (judge (task options (now (first .entry)) (now (second .entry)) (now (list .entry))) (now (claim .entry))))
+        (now (out .entry)) ⌝ }
+{
+    let result = claims::judge(options, first, second, list, claim);
+    let answer = result.answer;
+    let set = result.set;
+    let starts = set.start;
+    let sizes = set.size;
+    match answer {
+        ClaimAnswer::Passed(size) => answer_size(size, out),
+        ClaimAnswer::Disagree(a, b, c) => {
+            JobAnswer::Disagree(named_labels(at.tree, at.list, &starts, &sizes, a, b, c))
+        }
+        ClaimAnswer::Apart(a, b, c) => {
+            JobAnswer::Apart(named_labels(at.tree, at.claim, &starts, &sizes, a, b, c))
+        }
+        ClaimAnswer::Refused(refusal) => JobAnswer::Refused(refusal),
+    }
+}
+
+// The answer to a job with these contents: with a claim the verdict on it, else the set.
+fn answer_laid(job: &[u8], at: usize, table: Table, out: &mut [u8]) -> JobAnswer
+    requires { ⌜ length (now job) ≤ jobLimit ⌝ }
+    requires { ⌜ layout.Bodies at table ≡ layoutOf (now job) ⌝ }
+    ensures answer { λ r. ⌜ r ≡ answerTo (now (job .entry)) (length (now (out .entry))) ⌝ }
+    ensures output { λ _. ⌜ now (out .exit) ≡ jobOutput (solveJob (now (job .entry))) (now (out .entry)) ⌝ }
+{
+    let second_at = at + table.first;
+    let list_at = second_at + table.second;
+    let end = list_at + table.required;
+    let stated = table.stated;
+    let edition = contents::edition_of(stated);
+    let options = Options {
+        strict: table.strict,
+        edition,
+    };
+    let begin = Begin {
+        tree: at,
+        list: list_at,
+        claim: end,
+    };
+    let first = &job[at..second_at];
+    let second = &job[second_at..list_at];
+    let list = &job[list_at..end];
+    let claim = table.claim;
+    match claim {
+        Claim::Absent => answer_bodies(options, first, second, list, begin, out),
+        Claim::Bytes(n) => answer_claim(
+            options,
+            first,
+            second,
+            list,
+            &job[end..end + n],
+            begin,
+            out,
+        ),
+    }
+}
+
+// The answer to a job: its lines in `out`, or why there is none; `out` then keeps every byte.
 pub fn answer_job(job: &[u8], out: &mut [u8]) -> JobAnswer
     ensures answer { λ r. ⌜ r ≡ answerTo (now (job .entry)) (length (now (out .entry))) ⌝ }
     ensures output { λ _. ⌜ now (out .exit) ≡ jobOutput (solveJob (now (job .entry))) (now (out .entry)) ⌝ }
@@ -206,27 +330,10 @@ pub fn answer_job(job: &[u8], out: &mut [u8]) -> JobAnswer
     let Layout::Bodies(at, table) = layout else {
         return refused(Reason::Contents);
     };
-    let second_at = at + table.first;
-    let list_at = second_at + table.second;
-    let end = list_at + table.required;
-    let stated = table.stated;
-    let edition = contents::edition_of(stated);
-    let options = Options {
-        strict: table.strict,
-        edition,
-    };
-    answer_bodies(
-        options,
-        &job[at..second_at],
-        &job[second_at..list_at],
-        &job[list_at..end],
-        at,
-        list_at,
-        out,
-    )
+    answer_laid(job, at, table, out)
 }
 
-// What is printed for a job, into `out`: the three lines of its set, or the line of its refusal.
+// What is printed for a job, into `out`: the three lines of its set, the line of its claim, or that of its refusal.
 pub fn print_job(job: &[u8], out: &mut [u8]) -> LineAnswer
     ensures answer { λ r. ⌜ r ≡ lineAnswer (printed (now (job .entry))) (length (now (out .entry))) ⌝ }
     ensures output { λ _. ⌜ now (out .exit) ≡ lineOutput (printed (now (job .entry))) (now (out .entry)) ⌝ }
@@ -234,7 +341,22 @@ pub fn print_job(job: &[u8], out: &mut [u8]) -> LineAnswer
     let answer = answer_job(job, out);
     match answer {
         JobAnswer::Written(n) => LineAnswer::Written(n),
-        JobAnswer::Disagree(named) => disagreement_line(job, named, out),
+        JobAnswer::Disagree(named) => {
+            let eight = Refusal {
+                reason: Reason::Disagree,
+                body: Body::K,
+                place: 0,
+            };
+            disagreement_line(job, eight, named, out)
+        }
+        JobAnswer::Apart(named) => {
+            let fourteen = Refusal {
+                reason: Reason::ClaimDisagrees,
+                body: Body::C,
+                place: 0,
+            };
+            disagreement_line(job, fourteen, named, out)
+        }
         JobAnswer::Refused(refusal) => {
             let reason = refusal.reason;
             if trees::number(reason) == 9 {

@@ -17,8 +17,7 @@ ghost use Rattle.trees.specs.Text.{treeRoom};
 ghost use Rattle.trees.specs.Token.{tokenOf};
 ghost use Rattle.trees.specs.Tree.{leafLimit};
 ghost use Rattle.lists.specs.ReadList.{joined};
-ghost use Rattle.mast.specs.Largest.{turned};
-ghost use Rattle.job.specs.Printed.{refusedWords, recordLines, printedOf, itemRoom, wordsRoom, lineRoom, recordRoom};
+ghost use Rattle.job.specs.Printed.{turned, refusedWords, recordLines, claimLine, printedOf, itemRoom, wordsRoom, claimRoom, lineRoom, recordRoom};
 ghost use Rattle.job.specs.Answered.{lineAnswer, lineOutput, labelIn, namedLine};
 ghost use Rattle.job.specs.Areas.{Put, item, labelsIn};
 
@@ -150,19 +149,14 @@ pub(crate) fn put_refusal_line(refusal: Refusal, area: &mut [u8]) -> usize
     put_byte(b'\n', area, end)
 }
 
-// The line of number 8, with its three labels.
-pub(crate) fn put_disagreement(job: &[u8], named: Named, area: &mut [u8]) -> usize
+// The line of a refusal that names three labels.
+pub(crate) fn put_disagreement(job: &[u8], refusal: Refusal, named: Named, area: &mut [u8]) -> usize
     requires { ⌜ lineRoom ≤ length (now area) ⌝ }
     ensures { λ r.
-        ⌜ Put (now (area .entry)) 0 (namedLine (now (job .entry)) named)
+        ⌜ Put (now (area .entry)) 0 (namedLine (now (job .entry)) refusal named)
         r (now (area .exit)) ⌝ }
 {
-    let words = Refusal {
-        reason: Reason::Disagree,
-        body: Body::K,
-        place: 0,
-    };
-    let a = put_refusal(words, area);
+    let a = put_refusal(refusal, area);
     let b = put_byte(b' ', area, a);
     let p = named.first;
     let x = label_in(job, p.start, p.size);
@@ -174,6 +168,16 @@ pub(crate) fn put_disagreement(job: &[u8], named: Named, area: &mut [u8]) -> usi
     let z = label_in(job, s.start, s.size);
     let e = put_item(1, z, area, d);
     put_byte(b'\n', area, e)
+}
+
+// The line of a claim that passes: `claim ok` and the size.
+pub(crate) fn put_claim(size: usize, area: &mut [u8]) -> usize
+    requires { ⌜ claimRoom ≤ length (now area) ⌝ }
+    ensures { λ r. ⌜ Put (now (area .entry)) 0 (claimLine size) r (now (area .exit)) ⌝ }
+{
+    let a = put_bytes(b"claim ok ", area, 0);
+    let b = put_number(size, area, a);
+    put_byte(b'\n', area, b)
 }
 
 // The three lines of an answer: `size`, `set` and `tree`.

@@ -4,6 +4,7 @@ use Prim.Native.Nat.{ℕ, _<_, _≤_, min}
 use mathlib.Core.Path.{_≡_, refl, sym, _∙_, ap, ap₂}
 use mathlib.Core.Bool.{Bool, true, false, cond}
 use mathlib.Core.List.{List, [], _∷_, map}
+use mathlib.Core.Option.{some}
 use native.Mathlib.Omega.{arith}
 use lib.ListN.{length, getD, replicate, length-map}
 use Rattle.trees.specs.declared.TreeArrays.{TreeArrays}
@@ -17,7 +18,7 @@ use Rattle.trees.specs.Token.{Token, spelling}
 use Rattle.trees.specs.declared.Edition.{Edition}
 use Rattle.trees.specs.declared.Edition.the-variants.{One}
 use Rattle.trees.specs.Edition.{inEdition, folded, keyed}
-use Rattle.trees.specs.Tree.{Tree, leaves, decoded, Proper}
+use Rattle.trees.specs.Tree.{Tree, leaves, decoded, Proper, Valid}
 use Rattle.trees.specs.Arrays.{arraysOf, nodeLimit}
 use Rattle.trees.specs.Reading.{Reading, good, refused}
 use Rattle.trees.proofs.Bools.{clash, refute}
@@ -35,29 +36,30 @@ use Rattle.lists.specs.declared.ListRead.{ListRead}
 use Rattle.lists.specs.ReadList.{readList, readListIn, listRead, placesOf, listLimit, foldedList, keysOf}
 use Rattle.lists.proofs.EditionLists.{list-accepts-in, one-list, places-folded, joined-folded, list-starts-folded}
 use Rattle.agreement.specs.Closer.{holds}
-use Rattle.agreement.specs.Sets.{common}
+use Rattle.agreement.specs.Sets.{common, increasing}
 use Rattle.agreement.proofs.SetLaws.{common-inc, in-common, common-in}
 use Rattle.agreement.proofs.Promises.{six-promise, seven-promise}
 use Rattle.agreement.specs.Demand.{FirstLacking}
-use Rattle.agreement.specs.Answer.{Answer, firstLacks, secondLacks, disagree, answer}
+use Rattle.agreement.specs.Answer.{Answer, firstLacks, secondLacks, disagree, largest, answer}
 use Rattle.agreement.specs.Places.{placeIn, placeOfNumber}
 use Rattle.agreement.specs.Strict.{SameLeaves, Stray, inFirst, inSecond, nowhere}
 use Rattle.leaves.specs.Numbered.{Numbered}
 use Rattle.triples.specs.declared.Three.{Three}
 use Rattle.triples.proofs.Ranks.{place-number}
-use Rattle.mast.specs.declared.LargestAnswer.{LargestAnswer}
-use Rattle.mast.specs.declared.LargestAnswer.the-variants.{Disagree, Refused}
-use Rattle.mast.specs.Largest.{Solution, clashed, turned, solutionOf, strayFor, solveFirst, solveShared, Task, task, plain, solve, setPlaces, largestOf, outputOf}
+use Rattle.mast.specs.declared.LargestAnswer.the-variants.{Disagree}
+use Rattle.mast.specs.Largest.{Solution, clashed, turned, solutionOf, solveList, strayFor, sharedThen, treesThen, Task, task, plain, solve, setPlaces, largestOf, outputOf}
+use Rattle.mast.specs.declared.Options.{Options}
 use Rattle.table.specs.Choice.{chosenFrom, Solved}
 use Rattle.mast.specs.Engine.{OwnLeaves, OwnList, Ordered}
-use Rattle.mast.specs.Ranks.{Partners}
+use Rattle.mast.specs.Ranks.{Partners, mostCommon}
+use Rattle.mast.specs.Comparing.{BothLists}
 use Rattle.mast.specs.Required.{Marks, MarkedTo}
-use Rattle.mast.specs.Asked.{Clashes, SomeTree, SomeClash, placesOfThree, FirstMissing, AskedOf}
+use Rattle.mast.specs.Asked.{SomeTree, SomeAsked, ThreeIs, placesOfThree, FirstMissing, AskedOf}
 use Rattle.mast.specs.Finish.{InRange, ByRank, fittedSet, resultFrom}
 use Rattle.mast.specs.Given.{Reads}
 use Rattle.mast.specs.declared.strict.Shared.the-variants as shared
 use Rattle.mast.specs.Strays.{sharedOf}
-use Rattle.mast.specs.Bodies.{Bodies, unreadTree, unreadList}
+use Rattle.mast.specs.Bodies.{Bodies, unreadTree, unreadList, lackOf}
 use Rattle.mast.proofs.RankLaws.{proper-nodes, own-proper}
 use Rattle.mast.proofs.RequiredLaws.{marked-all, marked-common}
 use Rattle.mast.proofs.StrayLaws.{shared-nowhere}
@@ -88,11 +90,11 @@ tree-read e body text r n d h =
     record { of = k .0; is = k .1; arrays = k .2; count-is = k .3 }
 
 -- a text that is not read is turned down for a reason, at a place
-pub record Unread (A : Type 0) (x : Reading A) (body : Body) (answer : LargestAnswer) : Type 0 where
+pub record Unread (A : Type 0) (x : Reading A) (body : Body) (refusal : Refusal) : Type 0 where
   pub reason : Reason
   pub place : ℕ
   pub is : x ≡ refused reason place
-  pub told : answer ≡ Refused (record { reason = reason; body = body; place = place })
+  pub told : refusal ≡ record { reason = reason; body = body; place = place }
 
 unread-case : (body : Body) (x : Reading Tree) (q : Refusal) → treeRead body x .answer ≡ TreeRefused q
     → Unread Tree x body (unreadTree (treeRead body x .answer) body)
@@ -125,13 +127,13 @@ list-read e body text r n d h =
     record { of = k .0; is = k .1; places-is = k .2 }
 
 unlisted-case : (body : Body) (x : Reading (List Token)) (q : Refusal) → listRead body x .answer ≡ ListRefused q
-    → Unread (List Token) x body (unreadList (listRead body x .answer))
+    → Unread (List Token) x body (unreadList (listRead body x .answer) body)
 unfolding listRead unreadList
 unlisted-case body (good t) q h = let z : _≡_ {A = ℕ} 0 1 = cc in absurd (omega arith)
 unlisted-case body (refused r i) q h = record { reason = r; place = i; is = refl; told = refl }
 
 pub list-unread : (e : Edition) (body : Body) (text : List ℕ) (r : ListRead) (q : Refusal) → r ≡ listRead body (readListIn e text)
-    → r .answer ≡ ListRefused q → Unread (List Token) (readListIn e text) body (unreadList (r .answer))
+    → r .answer ≡ ListRefused q → Unread (List Token) (readListIn e text) body (unreadList (r .answer) body)
 list-unread e body text r q d h = rw d (unlisted-case body (readListIn e text) q (rw d at h))
 
 -- what the engine's parts are handed of a tree and of a list, as the edition reads them
@@ -197,56 +199,91 @@ bodies-of {e} {first} one two three partner most p d =
 
 -- a body that is not read ends the job there, and so does a leaf that stands in only one tree of a strict job
 
+module _ {R : Type 0} (stop : Refusal → R) (o : Options) (first second : List ℕ) (on : Tree → Tree → R) where
+  abbrev Then : R
+  Then = treesThen stop o (readTreeIn (o .edition) first) (readTreeIn (o .edition) second) on
+
+  pub first-unread : (a : Refusal) → Unread Tree (readTreeIn (o .edition) first) S a → Then ≡ stop a
+  unfolding treesThen
+  first-unread a u = rw (u .is, u .told) refl
+
+  pub second-unread : (s : Tree) → readTreeIn (o .edition) first ≡ good s → (a : Refusal)
+      → Unread Tree (readTreeIn (o .edition) second) T a → Then ≡ stop a
+  unfolding treesThen
+  second-unread s e a u = rw (e, u .is, u .told) refl
+
+  module _ (s t : Tree) (e : readTreeIn (o .edition) first ≡ good s) (f : readTreeIn (o .edition) second ≡ good t) where
+    pub trees-then : (r : Stray) → strayFor o s t ≡ r → Then ≡ sharedThen stop (o .edition) s t (on s t) r
+    unfolding treesThen
+    trees-then r k = rw (e, f, k) refl
+
+    pub stray-stops : (p : Refusal) → shared.Stray p ≡ sharedOf (folded (o .edition) s) (folded (o .edition) t) (strayFor o s t)
+        → Then ≡ stop p
+    unfolding sharedOf sharedThen
+    stray-stops p k = go (strayFor o s t) refl k
+      where
+        go : (r : Stray) → strayFor o s t ≡ r → shared.Stray p ≡ sharedOf (folded (o .edition) s) (folded (o .edition) t) r
+            → Then ≡ stop p
+        go (inFirst x) h k =
+            let z : record { reason = NotShared; body = S; place = placeIn (folded (o .edition) s) 0 x } ≡ p = cc in
+            trees-then (inFirst x) h ∙ ap stop z
+        go (inSecond x) h k =
+            let z : record { reason = NotShared; body = T; place = placeIn (folded (o .edition) t) 0 x } ≡ p = cc in
+            trees-then (inSecond x) h ∙ ap stop z
+        go nowhere h k = let z : _≡_ {A = ℕ} 0 1 = cc in absurd (omega arith)
+
+    pub all-then : strayFor o s t ≡ nowhere → Then ≡ on s t
+    unfolding sharedThen
+    all-then k = trees-then nowhere k
+
+pub all-shared : (o : Options) (s t : Tree)
+    → shared.All ≡ sharedOf (folded (o .edition) s) (folded (o .edition) t) (strayFor o s t) → strayFor o s t ≡ nowhere
+unfolding sharedOf
+all-shared o s t k = go (strayFor o s t) k
+  where
+    go : (r : Stray) → shared.All ≡ sharedOf (folded (o .edition) s) (folded (o .edition) t) r → r ≡ nowhere
+    go (inFirst x) k = let z : _≡_ {A = ℕ} 0 1 = cc in absurd (omega arith)
+    go (inSecond x) k = let z : _≡_ {A = ℕ} 0 1 = cc in absurd (omega arith)
+    go nowhere k = refl
+
 module _ (q : Task) (room : ℕ) where
   abbrev E : Edition
   E = q .options .edition
 
-  pub first-unread : (a : LargestAnswer) → Unread Tree (readTreeIn E (q .first)) S a → (r : Refusal) × (solve q room ≡ turned r) × (a ≡ Refused r)
-  unfolding solve
-  first-unread a u = (record { reason = u .reason; body = S; place = u .place }, rw (u .is) refl, u .told)
+  abbrev On : Tree → Tree → Solution
+  On s t = solveList E s t room (readListIn E (q .required))
 
-  pub second-unread : (s : Tree) → readTreeIn E (q .first) ≡ good s → (a : LargestAnswer) → Unread Tree (readTreeIn E (q .second)) T a
-      → (r : Refusal) × (solve q room ≡ turned r) × (a ≡ Refused r)
+  pub solve-then : solve q room ≡ treesThen turned (q .options) (readTreeIn E (q .first)) (readTreeIn E (q .second)) On
   unfolding solve
-  second-unread s e a u = (record { reason = u .reason; body = T; place = u .place }, rw (e, u .is) refl, u .told)
+  solve-then = refl
+
+  pub solve-first : (a : Refusal) → Unread Tree (readTreeIn E (q .first)) S a → solve q room ≡ turned a
+  solve-first a u = solve-then ∙ first-unread turned (q .options) (q .first) (q .second) On a u
+
+  pub solve-second : (s : Tree) → readTreeIn E (q .first) ≡ good s → (a : Refusal) → Unread Tree (readTreeIn E (q .second)) T a
+      → solve q room ≡ turned a
+  solve-second s e a u = solve-then ∙ second-unread turned (q .options) (q .first) (q .second) On s e a u
 
   module _ (s t : Tree) (e : readTreeIn E (q .first) ≡ good s) (f : readTreeIn E (q .second) ≡ good t) where
-    pub solve-trees : (r : Stray) → strayFor (q .options) s t ≡ r → solve q room ≡ solveShared E s t room (readListIn E (q .required)) r
-    unfolding solve
-    solve-trees r k = rw (e, f, k) refl
+    pub solve-trees : (r : Stray) → strayFor (q .options) s t ≡ r → solve q room ≡ sharedThen turned E s t (On s t) r
+    solve-trees r k = solve-then ∙ trees-then turned (q .options) (q .first) (q .second) On s t e f r k
 
-    pub stray-stops : (p : Refusal) → shared.Stray p ≡ sharedOf (folded E s) (folded E t) (strayFor (q .options) s t) → solve q room ≡ turned p
-    unfolding sharedOf solveShared
-    stray-stops p k = go (strayFor (q .options) s t) refl k
-      where
-        go : (r : Stray) → strayFor (q .options) s t ≡ r → shared.Stray p ≡ sharedOf (folded E s) (folded E t) r → solve q room ≡ turned p
-        go (inFirst x) h k = let z : record { reason = NotShared; body = S; place = placeIn (folded E s) 0 x } ≡ p = cc in solve-trees (inFirst x) h ∙ ap turned z
-        go (inSecond x) h k = let z : record { reason = NotShared; body = T; place = placeIn (folded E t) 0 x } ≡ p = cc in solve-trees (inSecond x) h ∙ ap turned z
-        go nowhere h k = let z : _≡_ {A = ℕ} 0 1 = cc in absurd (omega arith)
+    pub solve-stray : (p : Refusal) → shared.Stray p ≡ sharedOf (folded E s) (folded E t) (strayFor (q .options) s t) → solve q room ≡ turned p
+    solve-stray p k = solve-then ∙ stray-stops turned (q .options) (q .first) (q .second) On s t e f p k
 
-    pub all-shared : shared.All ≡ sharedOf (folded E s) (folded E t) (strayFor (q .options) s t) → strayFor (q .options) s t ≡ nowhere
-    unfolding sharedOf
-    all-shared k = go (strayFor (q .options) s t) k
-      where
-        go : (r : Stray) → shared.All ≡ sharedOf (folded E s) (folded E t) r → r ≡ nowhere
-        go (inFirst x) k = let z : _≡_ {A = ℕ} 0 1 = cc in absurd (omega arith)
-        go (inSecond x) k = let z : _≡_ {A = ℕ} 0 1 = cc in absurd (omega arith)
-        go nowhere k = refl
-
-    pub list-not-read : strayFor (q .options) s t ≡ nowhere → (a : LargestAnswer) → Unread (List Token) (readListIn E (q .required)) K a
-        → (r : Refusal) × (solve q room ≡ turned r) × (a ≡ Refused r)
-    unfolding solveShared
-    list-not-read k a u =
-        (record { reason = u .reason; body = K; place = u .place }, solve-trees nowhere k ∙ (rw (u .is) refl), u .told)
+    pub list-not-read : strayFor (q .options) s t ≡ nowhere → (a : Refusal) → Unread (List Token) (readListIn E (q .required)) K a
+        → solve q room ≡ turned a
+    unfolding sharedThen solveList
+    list-not-read k a u = solve-trees nowhere k ∙ (rw (u .is, u .told) refl)
 
     pub solve-read : strayFor (q .options) s t ≡ nowhere → (xs : List Token) → readListIn E (q .required) ≡ good xs
         → solve q room ≡ solutionOf E s xs room (answer (keyed E s) (keyed E t) (keysOf E xs))
-    unfolding solveShared
+    unfolding sharedThen solveList
     solve-read k xs g = solve-trees nowhere k ∙ (rw g refl)
 
     pub strict-as-plain : SameLeaves (keyed E s) (keyed E t)
         → solve q room ≡ solve (task (plain E) (q .first) (q .second) (q .required)) room
-    unfolding solve strayFor
+    unfolding solve treesThen strayFor
     strict-as-plain h = solve-trees nowhere (shared-nowhere (q .options) s t (λ _. h)) ∙ (rw (e, f) refl)
 
   pub solve-reads : (s t : Tree) (xs : List Token) → Reads q s t xs
@@ -256,24 +293,39 @@ module _ (q : Task) (room : ℕ) where
 
 -- edition 1 reads as before
 pub one-solve : (q : Task) (room : ℕ) → q .options .edition ≡ One
-    → solve q room ≡ solveFirst (q .options) room (readTree (q .first)) (readTree (q .second)) (readList (q .required))
+    → solve q room
+    ≡ treesThen turned (q .options) (readTree (q .first)) (readTree (q .second))
+    (λ s t. solveList One s t room (readList (q .required)))
 unfolding solve
 one-solve q room h = rw (h, one-reads (q .first), one-reads (q .second), one-list (q .required)) refl
 
--- a refusal comes back without a set, and the output keeps every byte
-pub turned-result : (x : Solution) (a : LargestAnswer) (q : Refusal) → x ≡ turned q → a ≡ Refused q
-    → resultFrom a (placesOf []) ≡ largestOf x
-unfolding largestOf
-turned-result x a q e f = rw (e, f) refl
-
+-- the output keeps every byte on a refusal
 pub turned-output : (x : Solution) (q : Refusal) (out : List ℕ) → x ≡ turned q → out ≡ outputOf x out
 unfolding outputOf
 turned-output x q out e = rw e refl
 
+-- 6 or 7 of a list, where whatever follows from the answer begins with them
+pub lack-stops : {R : Type 0} (f : Answer → R) (stop : Refusal → R) (body : Body) (xs : List Token)
+    → ((n : ℕ) → f (firstLacks n) ≡ stop (record { reason = FirstLacks; body = body; place = placeOfNumber xs n }))
+    → ((n : ℕ) → f (secondLacks n) ≡ stop (record { reason = SecondLacks; body = body; place = placeOfNumber xs n }))
+    → (A : Answer) (q : Refusal) → lackOf body xs A ≡ some q → f A ≡ stop q
+unfolding lackOf
+lack-stops f stop body xs six seven (firstLacks n) q h =
+    let z : record { reason = FirstLacks; body = body; place = placeOfNumber xs n } ≡ q = cc in six n ∙ ap stop z
+lack-stops f stop body xs six seven (secondLacks n) q h =
+    let z : record { reason = SecondLacks; body = body; place = placeOfNumber xs n } ≡ q = cc in seven n ∙ ap stop z
+lack-stops f stop body xs six seven (disagree a b c) q h = let z : _≡_ {A = ℕ} 0 1 = cc in absurd (omega arith)
+lack-stops f stop body xs six seven (largest X) q h = let z : _≡_ {A = ℕ} 0 1 = cc in absurd (omega arith)
+
+pub lack-solved : (e : Edition) (s : Tree) (xs : List Token) (room : ℕ) (A : Answer) (q : Refusal) → lackOf K xs A ≡ some q
+    → solutionOf e s xs room A ≡ turned q
+unfolding solutionOf
+lack-solved e s xs room = lack-stops (solutionOf e s xs room) turned K xs (λ n. refl) (λ n. refl)
+
 -- number 6 or 7: the first label of the list that is not common
 
 -- a label's number in a list tells its place, however it is spelled
-number-folded : (e : Edition) (xs : List Token) (n : ℕ) → placeOfNumber (foldedList e xs) n ≡ placeOfNumber xs n
+pub number-folded : (e : Edition) (xs : List Token) (n : ℕ) → placeOfNumber (foldedList e xs) n ≡ placeOfNumber xs n
 unfolding placeOfNumber
 number-folded e xs n = ap (λ (l : List ℕ). getD l n 0) (list-starts-folded e xs 0)
 
@@ -297,47 +349,29 @@ module _ (e : Edition) (s t : Tree) (xs : List Token) (first list : List ℕ) (t
   lack-place : getD (places .start) n 0 ≡ placeOfNumber xs n
   lack-place = ap (λ (l : List ℕ). getD l n 0) (h .own-list .start-is) ∙ place-number (foldedList e xs) n (h .below) ∙ number-folded e xs n
 
-  lack-told : (reason : Reason) (a : Answer) (room : ℕ) → answer (keyed e s) (keyed e t) L ≡ a
-      → solutionOf e s xs room a ≡ turned (record { reason = reason; body = K; place = placeOfNumber xs n })
-      → resultFrom (Refused (record { reason = reason; body = K; place = getD (places .start) n 0 })) (placesOf [])
-      ≡ largestOf (solutionOf e s xs room (answer (keyed e s) (keyed e t) L))
-  lack-told reason a room d is =
-      turned-result (solutionOf e s xs room (answer (keyed e s) (keyed e t) L)) _ _ (ap (solutionOf e s xs room) d ∙ is)
-      (ap (λ (p : ℕ). Refused (record { reason = reason; body = K; place = p })) lack-place)
+  lack-told : (body : Body) (reason : Reason) (a : Answer) → answer (keyed e s) (keyed e t) L ≡ a
+      → lackOf body xs a ≡ some (record { reason = reason; body = body; place = placeOfNumber xs n })
+      → lackOf body xs (answer (keyed e s) (keyed e t) L) ≡ some (record { reason = reason; body = body; place = getD (places .start) n 0 })
+  lack-told body reason a d is =
+      ap (lackOf body xs) d ∙ is ∙ ap (λ (p : ℕ). some (record { reason = reason; body = body; place = p })) (sym lack-place)
 
-  pub lack-answered : (held : Bool) (room : ℕ) → held ≡ holds (keyed e s) x
-      → resultFrom (Refused (record { reason = cond held SecondLacks FirstLacks; body = K; place = getD (places .start) n 0 })) (placesOf [])
-      ≡ largestOf (solutionOf e s xs room (answer (keyed e s) (keyed e t) L))
-  unfolding solutionOf
-  lack-answered false room d =
-      lack-told FirstLacks (firstLacks n) room
+  pub lack-answered : (body : Body) (held : Bool) → held ≡ holds (keyed e s) x
+      → lackOf body xs (answer (keyed e s) (keyed e t) L)
+      ≡ some (record { reason = cond held SecondLacks FirstLacks; body = body; place = getD (places .start) n 0 })
+  unfolding lackOf
+  lack-answered body false d =
+      lack-told body FirstLacks (firstLacks n)
       (six-promise (keyed e s) (keyed e t) L proper (h .own-list .different) n .1
       (record { found = first-lacking; lacked = sym d }))
       refl
-  lack-answered true room d =
-      lack-told SecondLacks (secondLacks n) room
+  lack-answered body true d =
+      lack-told body SecondLacks (secondLacks n)
       (seven-promise (keyed e s) (keyed e t) L proper (h .own-list .different) n .1
       (record { found = first-lacking; held = sym d; lacked = lacked′ }))
       refl
     where
       lacked′ : holds (keyed e t) x ≡ false
       lacked′ = refute (holds (keyed e t) x) (λ k. clash (common-in (keyed e s) (keyed e t) x (sym d) k) (h .missing))
-
-  pub lack-output : (room : ℕ) (out : List ℕ) → out ≡ outputOf (solutionOf e s xs room (answer (keyed e s) (keyed e t) L)) out
-  unfolding solutionOf outputOf
-  lack-output room out = go (holds (keyed e s) x) refl
-    where
-      go : (b : Bool) → holds (keyed e s) x ≡ b → out ≡ outputOf (solutionOf e s xs room (answer (keyed e s) (keyed e t) L)) out
-      go false d =
-          rw (six-promise (keyed e s) (keyed e t) L proper (h .own-list .different) n .1
-          (record { found = first-lacking; lacked = d })) refl
-      go true d =
-          rw (seven-promise (keyed e s) (keyed e t) L proper (h .own-list .different) n .1
-          (record {
-            found = first-lacking;
-            held = d;
-            lacked = refute (holds (keyed e t) x) (λ k. clash (common-in (keyed e s) (keyed e t) x d k) (h .missing));
-          })) refl
 
 -- number 8
 
@@ -353,34 +387,19 @@ pub three-set : (a b c : Label) (s : Tree) (set : LabelPlaces) → set ≡ setPl
 unfolding chosenFrom
 three-set a b c s set e = e
 
-pub three-range : {s t : Tree} {K : List Token} {a b c : Label} {tree1 tree2 : TreeArrays} {order1 order2 : List ℕ} {m : ℕ} {number : List ℕ}
-    {places : LabelPlaces} (leaf : List ℕ) → Clashes s t K a b c tree1 tree2 order1 order2 m number places
-    → Numbered (decoded s) (a ∷ b ∷ c ∷ []) leaf → InRange leaf 3
-three-range {s = s} leaf h n r l = omega (arith, n r l .below, proper-nodes (decoded s) (valid-decoded s (h .asked .one .valid)))
+pub three-range : {s t : Tree} {K : List Token} {tree1 tree2 : TreeArrays} {order1 order2 : List ℕ} {m : ℕ} {number : List ℕ}
+    {places : LabelPlaces} {apart : Bool} {three : Three} {leaf : List ℕ} → AskedOf s t K tree1 tree2 order1 order2 m number places
+    → ThreeIs s t K apart three leaf → apart ≡ true → InRange leaf 3
+three-range {s = s} h k e r l =
+    let c = k .clash e in
+    omega (arith, c .5 r l .below, proper-nodes (decoded s) (valid-decoded s (h .asked .one .valid)))
 
 -- the set or number 8, where every label of the list is common
 
 module _ (s t : Tree) (xs : List Token) (tree1 tree2 : TreeArrays) (order1 order2 : List ℕ) (m : ℕ) (number : List ℕ)
     (places : LabelPlaces) (h : AskedOf s t xs tree1 tree2 order1 order2 m number places) where
-  pub some-clash : (found : Bool) (chosen : List Bool) → Solved (decoded s) (decoded t) (map spelling xs) found chosen → found ≡ false
-      → SomeClash tree1 tree2 order1 order2 m number places
-  some-clash found chosen solved e =
-      let k = solved .eight e in
-      record {
-        s = s;
-        t = t;
-        K = xs;
-        a = k .0;
-        b = k .1;
-        c = k .2;
-        of = record { asked = h .asked; list-places = h .list-places; clash = k .3 };
-      }
-
-  pub clash-is : (found : Bool) (chosen : List Bool) → Solved (decoded s) (decoded t) (map spelling xs) found chosen → found ≡ false
-      → (a : Label) × (b : Label) × (c : Label) × Clashes s t xs a b c tree1 tree2 order1 order2 m number places
-  clash-is found chosen solved e =
-      let k = solved .eight e in
-      (k .0, k .1, k .2, record { asked = h .asked; list-places = h .list-places; clash = k .3 })
+  pub some-asked : SomeAsked tree1 tree2 order1 order2 m number places
+  some-asked = record { s = s; t = t; K = xs; of = h }
 
   pub some-first : SomeTree tree1 order1 m
   some-first = record { t = s; C = common (decoded s) (decoded t); of = h .asked .one }
@@ -477,4 +496,62 @@ module _ {e : Edition} {first list : List ℕ} {tree1 tree2 : TreeArrays} {partn
       text-is = b .first-text;
       count = o .count;
       numbered = o .first;
+    }
+
+  -- what the functions that put labels in order and mark them tell
+  abbrev OrderTold : List ℕ → List ℕ → ℕ → Type 0
+  OrderTold order1 order2 m =
+      (m ≤ 80) × ((s t : Tree) → OwnLeaves s (inEdition e first) (tree1 .left) (tree1 .start) (tree1 .size) (tree1 .nodes) → Valid t
+      → most ≡ mostCommon (decoded s) (decoded t) → Partners (tree1 .nodes) (decoded s) (decoded t) partner
+      → Ordered (decoded s) (decoded t) order1 order2 m)
+
+  abbrev MarkTold : List ℕ → ℕ → List ℕ → ℕ → Type 0
+  MarkTold order1 m number n =
+      (n ≤ places .count) × ((s : Tree) (C : List Label) (K : List Token)
+      → OwnLeaves s (inEdition e first) (tree1 .left) (tree1 .start) (tree1 .size) (tree1 .nodes)
+      → OwnList K (inEdition e list) (places .start) (places .size) (places .count) → increasing C ≡ true → m ≡ length C
+      → Numbered (decoded s) C order1 → MarkedTo n (places .count) C (map spelling K) number)
+
+  pub ordered-of : {order1 order2 : List ℕ} {m : ℕ} → OrderTold order1 order2 m
+      → Ordered (keyed e (b .s)) (keyed e (b .t)) order1 order2 m
+  ordered-of o = o .1 (folded e (b .s)) (folded e (b .t)) (b .one) (b .valid2) (b .bound) (b .partners)
+
+  module _ {order1 order2 : List ℕ} {m : ℕ} (o : OrderTold order1 order2 m) {number : List ℕ} {n : ℕ} (k : MarkTold order1 m number n) where
+    marked-of : MarkedTo n (places .count) (common (keyed e (b .s)) (keyed e (b .t))) (keysOf e (b .K)) number
+    marked-of =
+        let d = ordered-of o in
+        k .1 (folded e (b .s)) (common (keyed e (b .s)) (keyed e (b .t))) (foldedList e (b .K)) (b .one) (b .own-list)
+        (common-inc (keyed e (b .s)) (keyed e (b .t)) (own-proper (b .one) .different)) (d .count) (d .first)
+
+    pub lacking-of : n < places .count
+        → FirstMissing (folded e (b .s)) (folded e (b .t)) (foldedList e (b .K)) (inEdition e first) (inEdition e list) tree1 places n
+    lacking-of = first-missing (ordered-of o) (o .0) number n marked-of
+
+    pub asked-of : places .count ≤ n
+        → AskedOf (folded e (b .s)) (folded e (b .t)) (foldedList e (b .K)) tree1 tree2 order1 order2 m number places
+    asked-of l = all-asked (ordered-of o) (o .0) number n marked-of l (k .0)
+
+    pub rank-of : ByRank e (b .s) (common (keyed e (b .s)) (keyed e (b .t))) tree1 first order1 m
+    rank-of = by-rank (ordered-of o) (o .0) number n marked-of
+
+-- a further list in the place of the required one
+unfoldable pub other-bodies : {e : Edition} {first list other : List ℕ} {tree1 tree2 : TreeArrays} {partner : List ℕ}
+    {places others : LabelPlaces} {most : ℕ} → BothLists e first list other tree1 tree2 partner places others most
+    → Bodies e first other tree1 tree2 partner others most
+other-bodies h =
+    let b = h .bodies in
+    record {
+      s = b .s;
+      t = b .t;
+      K = h .Y;
+      valid1 = b .valid1;
+      first-text = b .first-text;
+      one = b .one;
+      valid2 = b .valid2;
+      first-arrays = b .first-arrays;
+      second-arrays = b .second-arrays;
+      own-list = h .own-list;
+      list-places = h .list-places;
+      partners = b .partners;
+      bound = b .bound;
     }

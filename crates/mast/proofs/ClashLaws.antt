@@ -15,32 +15,20 @@ use Rattle.trees.proofs.DecodedLaws.{decoded-nodes, decoded-left}
 use Rattle.trees.proofs.TokenLaws.{valid-decoded}
 use Rattle.lists.specs.declared.LabelPlaces.{LabelPlaces}
 use Rattle.agreement.specs.Sets.{increasing, sorted, common}
-use Rattle.agreement.specs.Answer.{Three, firstClash}
-use Rattle.agreement.specs.Demand.{Clash, IsDisagreement}
+use Rattle.agreement.specs.Answer.{Three, firstClash, answer, disagree, largest, largestSet}
+use Rattle.agreement.specs.Demand.{Clash}
 use Rattle.agreement.specs.Places.{placeOfLabel}
 use Rattle.agreement.proofs.SetLaws.{in-sorted, length-sorted, sorted-inc, inc-distinct, number-of}
 use Rattle.agreement.proofs.AnswerLaws.{FirstThree}
-use Rattle.agreement.proofs.DemandLaws.{required-clash, disagreement-unique}
-use Rattle.agreement.proofs.Promises.{eight-names}
+use Rattle.agreement.proofs.DemandLaws.{required-clash, clash-answer, set-answered}
 use Rattle.leaves.specs.Numbered.{LeafIs, Numbered}
 use Rattle.triples.specs.declared.Three as Ranks
 use Rattle.triples.specs.Clash.{rankOf, clashRanks, RankedTree}
 use Rattle.triples.proofs.Ranks.{place-of}
 use Rattle.triples.proofs.RowLaws.{rank-at}
 use Rattle.mast.specs.Required.{ranksFrom, Entries}
-use Rattle.mast.specs.Asked.{RankedArrays, Clashes, placesOfThree}
+use Rattle.mast.specs.Asked.{RankedArrays, AskedOf, placesOfThree}
 use Rattle.mast.proofs.RequiredLaws.{rank-label, rank-low, ranks-count}
-
--- the first clash is the one that is named
-first-clash-is : (s t : Tree) (K : List Label) (a b c : Label) → distinct K ≡ true → IsDisagreement s t K a b c
-    → firstClash s t (sorted K) ≡ some (record { one = a; two = b; three = c })
-first-clash-is s t K a b c dk d = go (firstClash s t (sorted K)) (required-clash s t K dk)
-  where
-    go : (o : Option Three) → FirstThree (Clash s t K) o → o ≡ some (record { one = a; two = b; three = c })
-    go none f = absurd (f a b c (d .clash))
-    go (some r) f =
-        let e = disagreement-unique s t K (r .one) (r .two) (r .three) a b c (record { clash = f .0; firstThree = f .1 }) d in
-        rw (e .0, e .1, e .2) refl
 
 -- a required label by its rank among the required ones
 pub record PlacedAt (K : List Token) (x : Label) (starts number ranks : List ℕ) (i : ℕ) : Type 0 where
@@ -50,8 +38,8 @@ pub record PlacedAt (K : List Token) (x : Label) (starts number ranks : List ℕ
   pub number-small : getD number (getD ranks i 0) 0 ≤ 80
   pub place : getD starts (getD number (getD ranks i 0) 0 - 1) 0 ≡ placeOfLabel K 0 x
 
-module _ (s t : Tree) (K : List Token) (a b c : Label) (tree1 tree2 : TreeArrays) (order1 order2 : List ℕ) (m : ℕ) (number : List ℕ)
-    (places : LabelPlaces) (h : Clashes s t K a b c tree1 tree2 order1 order2 m number places) (ranks : List ℕ)
+module _ (s t : Tree) (K : List Token) (tree1 tree2 : TreeArrays) (order1 order2 : List ℕ) (m : ℕ) (number : List ℕ)
+    (places : LabelPlaces) (h : AskedOf s t K tree1 tree2 order1 order2 m number places) (ranks : List ℕ)
     (entries : Entries (ranksFrom number 0 m) ranks) where
   abbrev C : List Label
   C = common (decoded s) (decoded t)
@@ -109,9 +97,11 @@ module _ (s t : Tree) (K : List Token) (a b c : Label) (tree1 tree2 : TreeArrays
           let z : suc n - 1 ≡ n = omega arith in
           rw (z, h .list-places) (place-of K n (h .asked .different) l ∙ ap (placeOfLabel K 0) e)
 
-  named : IsDisagreement (decoded s) (decoded t) L a b c
-  named =
-      eight-names (decoded s) (decoded t) L (valid-decoded s (h .asked .one .valid)) (h .asked .different) a b c (h .asked .held) .0 (h .clash)
+  rank-below : (x : Label) → isIn x L ≡ true → rankOf (sorted L) x < length L
+  rank-below x k =
+      let i = number-of (sorted L) x (in-sorted x L ∙ k) in
+      let rank : rankOf (sorted L) x ≡ i .at = ap (rankOf (sorted L)) (sym (i .is)) ∙ rank-at (sorted L) (i .at) sorted-distinct (i .below) in
+      omega (arith, rank, i .below, length-sorted L)
 
   module _ (leaf1 leaf2 : List ℕ) (three : Ranks.Three)
       (at1 : (i : ℕ) → i < places .count → getD leaf1 i 0 ≡ getD order1 (getD ranks i 0) 0)
@@ -133,43 +123,98 @@ module _ (s t : Tree) (K : List Token) (a b c : Label) (tree1 tree2 : TreeArrays
           rw (at i (omega (arith, h .asked .count-is, count-map)), ← q .1) (r .numbered (getD ranks i 0) (q .0));
     }
 
-    pub three-is : three ≡ record { first = rankOf (sorted L) a; second = rankOf (sorted L) b; third = rankOf (sorted L) c }
-    unfolding clashRanks
-    three-is =
+    -- the first three that clash, if any do
+    abbrev found : Option Three
+    found = firstClash (decoded s) (decoded t) (sorted L)
+
+    is-found : FirstThree (Clash (decoded s) (decoded t) L) (firstClash (decoded s) (decoded t) (sorted L))
+    is-found = required-clash (decoded s) (decoded t) L (h .asked .different)
+
+    three-found : three ≡ clashRanks (sorted L) (firstClash (decoded s) (decoded t) (sorted L))
+    three-found =
         told (decoded s) (decoded t) (sorted L) (sorted-inc L (h .asked .different))
         (omega (arith, h .asked .count-is, length-sorted L, count-map))
         (omega (arith, h .asked .count-is, h .asked .few)) (ranked s tree1 order1 leaf1 (h .asked .one) at1)
         (ranked t tree2 order2 leaf2 (h .asked .two) at2)
-        ∙ ap (clashRanks (sorted L)) (first-clash-is (decoded s) (decoded t) L a b c (h .asked .different) named)
 
-    pub first-placed : PlacedAt K a (places .start) number ranks (three .first)
-    first-placed = rw three-is (placed-at a (named .clash .inOne))
+    -- none
+    pub none-clash : places .count ≤ three .first → (X : List Label) × (answer (decoded s) (decoded t) L ≡ largest X)
+    unfolding clashRanks
+    none-clash l = go (firstClash (decoded s) (decoded t) (sorted L)) refl
+      where
+        go : (o : Option Three) → firstClash (decoded s) (decoded t) (sorted L) ≡ o
+            → (X : List Label) × (answer (decoded s) (decoded t) L ≡ largest X)
+        go none e =
+            (largestSet (decoded s) (decoded t) L, set-answered (decoded s) (decoded t) L ds (h .asked .different) (h .asked .held) (subst (FirstThree (Clash (decoded s) (decoded t) L)) e is-found))
+        go (some r) e =
+            let f = subst (FirstThree (Clash (decoded s) (decoded t) L)) e is-found in
+            let p = placed-at (r .one) (f .0 .inOne) in
+            let q : three .first ≡ rankOf (sorted L) (r .one) = ap (λ q. q .first) three-found ∙ ap (λ (o : Option Three). clashRanks (sorted L) o .first) e in
+            absurd (omega (arith, rank-below (r .one) (f .0 .inOne), q, h .asked .count-is, count-map))
 
-    pub second-placed : PlacedAt K b (places .start) number ranks (three .second)
-    second-placed = rw three-is (placed-at b (named .clash .inTwo))
+    -- or some
+    pub some-clash : three .first < places .count
+        → (r : Three) × FirstThree (Clash (decoded s) (decoded t) L) (some r)
+        × (three ≡ record { first = rankOf (sorted L) (r .one); second = rankOf (sorted L) (r .two); third = rankOf (sorted L) (r .three) })
+    unfolding clashRanks
+    some-clash l = go (firstClash (decoded s) (decoded t) (sorted L)) refl
+      where
+        go : (o : Option Three) → firstClash (decoded s) (decoded t) (sorted L) ≡ o
+            → (r : Three) × FirstThree (Clash (decoded s) (decoded t) L) (some r)
+            × (three ≡ record { first = rankOf (sorted L) (r .one); second = rankOf (sorted L) (r .two); third = rankOf (sorted L) (r .three) })
+        go none e =
+            let q : three .first ≡ length (sorted L) = ap (λ q. q .first) three-found ∙ ap (λ (o : Option Three). clashRanks (sorted L) o .first) e in
+            absurd (omega (arith, q, h .asked .count-is, count-map, length-sorted L))
+        go (some r) e =
+            (r, subst (FirstThree (Clash (decoded s) (decoded t) L)) e is-found, three-found ∙ ap (clashRanks (sorted L)) e)
 
-    pub third-placed : PlacedAt K c (places .start) number ranks (three .third)
-    third-placed = rw three-is (placed-at c (named .clash .inThree))
+    module _ (apart : three .first < places .count) where
+      abbrev r : Three
+      r = some-clash apart .0
 
-    -- their leaves in the first tree
-    leaf-of : (x : Label) → isIn x L ≡ true → LeafIs (decoded s) (getD leaf1 (rankOf (sorted L) x) 0) x
-    leaf-of x k =
-        let i = number-of (sorted L) x (in-sorted x L ∙ k) in
-        let rank : rankOf (sorted L) x ≡ i .at = ap (rankOf (sorted L)) (sym (i .is)) ∙ rank-at (sorted L) (i .at) sorted-distinct (i .below) in
-        let l = ranked s tree1 order1 leaf1 (h .asked .one) at1 .numbered (i .at) (i .below) in
-        rw rank (subst (λ (y : Label). LeafIs (decoded s) (getD leaf1 (i .at) 0) y) (i .is) l)
+      abbrev first-three : FirstThree (Clash (decoded s) (decoded t) L) (some r)
+      first-three = some-clash apart .1
 
-    module _ (found : List ℕ) (is : (getD found 0 0 ≡ getD leaf1 (three .first) 0) × (getD found 1 0 ≡ getD leaf1 (three .second) 0)
-        × (getD found 2 0 ≡ getD leaf1 (three .third) 0)) where
-      one-leaf : (i n : ℕ) (x : Label) → getD found i 0 ≡ getD leaf1 n 0 → n ≡ rankOf (sorted L) x → isIn x L ≡ true
-          → LeafIs (decoded s) (getD found i 0) x
-      one-leaf i n x d e k = rw (d, e) (leaf-of x k)
+      abbrev three-is : three ≡ record { first = rankOf (sorted L) (r .one); second = rankOf (sorted L) (r .two); third = rankOf (sorted L) (r .three) }
+      three-is = some-clash apart .2
 
-      pub leaves-numbered : Numbered (decoded s) (a ∷ b ∷ c ∷ []) found
-      leaves-numbered zero l = one-leaf 0 (three .first) a (is .0) (ap (λ q. q .first) three-is) (named .clash .inOne)
-      leaves-numbered (suc zero) l = one-leaf 1 (three .second) b (is .1) (ap (λ q. q .second) three-is) (named .clash .inTwo)
-      leaves-numbered (suc (suc zero)) l = one-leaf 2 (three .third) c (is .2) (ap (λ q. q .third) three-is) (named .clash .inThree)
-      leaves-numbered (suc (suc (suc n))) l = absurd (omega arith)
+      pub named : answer (decoded s) (decoded t) L ≡ disagree (r .one) (r .two) (r .three)
+      named = clash-answer (decoded s) (decoded t) L ds (h .asked .different) (h .asked .held) r first-three
+
+      pub first-placed : PlacedAt K (r .one) (places .start) number ranks (three .first)
+      first-placed =
+          subst (λ (i : ℕ). PlacedAt K (r .one) (places .start) number ranks i) (sym (ap (λ q. q .first) three-is))
+          (placed-at (r .one) (first-three .0 .inOne))
+
+      pub second-placed : PlacedAt K (r .two) (places .start) number ranks (three .second)
+      second-placed =
+          subst (λ (i : ℕ). PlacedAt K (r .two) (places .start) number ranks i) (sym (ap (λ q. q .second) three-is))
+          (placed-at (r .two) (first-three .0 .inTwo))
+
+      pub third-placed : PlacedAt K (r .three) (places .start) number ranks (three .third)
+      third-placed =
+          subst (λ (i : ℕ). PlacedAt K (r .three) (places .start) number ranks i) (sym (ap (λ q. q .third) three-is))
+          (placed-at (r .three) (first-three .0 .inThree))
+
+      -- their leaves in the first tree
+      leaf-of : (x : Label) → isIn x L ≡ true → LeafIs (decoded s) (getD leaf1 (rankOf (sorted L) x) 0) x
+      leaf-of x k =
+          let i = number-of (sorted L) x (in-sorted x L ∙ k) in
+          let rank : rankOf (sorted L) x ≡ i .at = ap (rankOf (sorted L)) (sym (i .is)) ∙ rank-at (sorted L) (i .at) sorted-distinct (i .below) in
+          let l = ranked s tree1 order1 leaf1 (h .asked .one) at1 .numbered (i .at) (i .below) in
+          rw rank (subst (λ (y : Label). LeafIs (decoded s) (getD leaf1 (i .at) 0) y) (i .is) l)
+
+      module _ (leaves : List ℕ) (is : (getD leaves 0 0 ≡ getD leaf1 (three .first) 0) × (getD leaves 1 0 ≡ getD leaf1 (three .second) 0)
+          × (getD leaves 2 0 ≡ getD leaf1 (three .third) 0)) where
+        one-leaf : (i n : ℕ) (x : Label) → getD leaves i 0 ≡ getD leaf1 n 0 → n ≡ rankOf (sorted L) x → isIn x L ≡ true
+            → LeafIs (decoded s) (getD leaves i 0) x
+        one-leaf i n x d e k = rw (d, e) (leaf-of x k)
+
+        pub leaves-numbered : Numbered (decoded s) (r .one ∷ r .two ∷ r .three ∷ []) leaves
+        leaves-numbered zero l = one-leaf 0 (three .first) (r .one) (is .0) (ap (λ q. q .first) three-is) (first-three .0 .inOne)
+        leaves-numbered (suc zero) l = one-leaf 1 (three .second) (r .two) (is .1) (ap (λ q. q .second) three-is) (first-three .0 .inTwo)
+        leaves-numbered (suc (suc zero)) l = one-leaf 2 (three .third) (r .three) (is .2) (ap (λ q. q .third) three-is) (first-three .0 .inThree)
+        leaves-numbered (suc (suc (suc n))) l = absurd (omega arith)
 
 pub three-places : (K : List Token) (a b c : Label) (p q r : ℕ) → p ≡ placeOfLabel K 0 a → q ≡ placeOfLabel K 0 b → r ≡ placeOfLabel K 0 c
     → _≡_ {A = Ranks.Three} (record { first = p; second = q; third = r }) (placesOfThree K a b c)

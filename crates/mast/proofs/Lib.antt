@@ -1,5 +1,6 @@
 pub mod BodyLaws
 pub mod ClashLaws
+pub mod CompareLaws
 pub mod FinishLaws
 pub mod OutcomeLaws
 pub mod Promises

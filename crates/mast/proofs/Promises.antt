@@ -4,6 +4,7 @@
 use Prim.Native.Nat.{ℕ, _<_}
 use mathlib.Core.Path.{_≡_, refl, _∙_}
 use mathlib.Core.Logic.{_↔_}
+use mathlib.Core.Option.{some}
 use mathlib.Core.Bool.{true}
 use mathlib.Core.List.{List, [], _++_, map}
 use lib.ListN.{length, getD, drop}
@@ -19,7 +20,7 @@ use Rattle.agreement.specs.Sets.{setOf}
 use Rattle.agreement.specs.Restrict.{restrictIn}
 use Rattle.agreement.specs.Places.{placeIn, tokenIn, placeOfNumber, placeOfLabel, tokenOfLabel, keptTextIn, spelledIn, LeafShown, Listed}
 use Rattle.agreement.specs.Answer.{Answer, answer}
-use Rattle.mast.specs.Largest.{Solution, solved, clashed, turned, tooShort, solutionOf, Task, task, plain, solveFirst, solveShared, solve, outputOf, largestOf, setPlaces}
+use Rattle.mast.specs.Largest.{Solution, solved, clashed, turned, tooShort, solutionOf, solveList, sharedThen, treesThen, Task, task, plain, solve, outputOf, largestOf, setPlaces}
 use Rattle.trees.specs.declared.Reason.{Reason}
 use Rattle.trees.specs.declared.Reason.the-variants.{NotShared}
 use Rattle.trees.specs.Reading.{good, refused}
@@ -32,29 +33,31 @@ use Rattle.agreement.specs.Strict.{SameLeaves, IsStray, inFirst, inSecond, nowh
 use Rattle.mast.specs.Given.{Reads, SetGiven}
 use Rattle.mast.proofs.OutcomeLaws.{outcome-decides, eight-exactly, set-exactly, nine-exactly}
 use Rattle.mast.specs.declared.LargestAnswer.the-variants.{Found}
-use Rattle.mast.specs.Rows.{saidOfLargest, saidOfSolution}
+use Rattle.mast.specs.Compare.{Comparison, missing, IsMissing, compareOther, compare, comparedOf}
+use Rattle.mast.specs.Rows.{saidOfLargest, saidOfSolution, saidOfCompare, saidOfComparison}
 use Rattle.trees.specs.Text.{textOf}
 use Rattle.agreement.proofs.PlaceLaws.{list-listed, listed-spelled, number-listed}
 use Rattle.agreement.proofs.EditionText.{spelled-shown, spelled-key, spelled-size}
 use Rattle.mast.proofs.BodyLaws.{solve-trees, strict-as-plain, one-solve}
-use Rattle.mast.proofs.SaidLaws.{said-exactly}
+use Rattle.mast.proofs.SaidLaws.{said-exactly, compare-said}
+use Rattle.mast.proofs.CompareLaws.{missing-exactly, compare-decides}
 use Rattle.mast.proofs.StrayLaws.{shared-nowhere, stray-told}
 
 -- "Order: .. S, T, K": "A body that fails to read ends the job there"
 module _ (q : Task) (room : ℕ) (r : Reason) (i : ℕ) where
   pub first-body : readTreeIn (q .options .edition) (q .first) ≡ refused r i → solve q room ≡ turned (record { reason = r; body = S; place = i })
-  unfolding solve
+  unfolding solve treesThen
   first-body e = rw e refl
 
   pub second-body : (s : Tree) → readTreeIn (q .options .edition) (q .first) ≡ good s → readTreeIn (q .options .edition) (q .second) ≡ refused r i
       → solve q room ≡ turned (record { reason = r; body = T; place = i })
-  unfolding solve
+  unfolding solve treesThen
   second-body s e f = rw (e, f) refl
 
   pub third-body : (s t : Tree) → readTreeIn (q .options .edition) (q .first) ≡ good s → readTreeIn (q .options .edition) (q .second) ≡ good t
       → (q .options .strict ≡ true → SameLeaves (keyed (q .options .edition) s) (keyed (q .options .edition) t))
       → readListIn (q .options .edition) (q .required) ≡ refused r i → solve q room ≡ turned (record { reason = r; body = K; place = i })
-  unfolding solveShared
+  unfolding sharedThen solveList
   third-body s t e f h g = solve-trees q room s t e f nowhere (shared-nowhere (q .options) s t h) ∙ (rw g refl)
 
 -- request C-11, "after both trees are read and before K": a strict job gets number 12 at the first leaf of the first tree that the
@@ -62,13 +65,13 @@ module _ (q : Task) (room : ℕ) (r : Reason) (i : ℕ) where
 module _ (q : Task) (room : ℕ) (s t : Tree) (e : readTreeIn (q .options .edition) (q .first) ≡ good s) (f : readTreeIn (q .options .edition) (q .second) ≡ good t) where
   pub stray-in-first : q .options .strict ≡ true → (x : Label) → IsStray (keyed (q .options .edition) s) (keyed (q .options .edition) t) x
       → solve q room ≡ turned (record { reason = NotShared; body = S; place = placeIn (folded (q .options .edition) s) 0 x })
-  unfolding solveShared
+  unfolding sharedThen
   stray-in-first h x k = solve-trees q room s t e f (inFirst x) (stray-told (q .options) s t h (inFirst x) k)
 
   pub stray-in-second : q .options .strict ≡ true → (x : Label)
       → ((y : Label) → holds (keyed (q .options .edition) s) y ≡ true → holds (keyed (q .options .edition) t) y ≡ true) → IsStray (keyed (q .options .edition) t) (keyed (q .options .edition) s) x
       → solve q room ≡ turned (record { reason = NotShared; body = T; place = placeIn (folded (q .options .edition) t) 0 x })
-  unfolding solveShared
+  unfolding sharedThen
   stray-in-second h x a k = solve-trees q room s t e f (inSecond x) (stray-told (q .options) s t h (inSecond x) (a, k))
 
   -- where both hold the same leaves it answers as a job that is not strict: "a larger set is still impossible in both sorts"
@@ -77,7 +80,8 @@ module _ (q : Task) (room : ℕ) (s t : Tree) (e : readTreeIn (q .options .editi
 
 module _ (q : Task) (room : ℕ) (s t : Tree) (xs : List Token) (reads : Reads q s t xs) where
   -- 6 or 7, then 8, then the set: whatever meets the paper's sentences on two trees and a list decides
-  pub outcome-promise : (A : Answer) → Outcome (keyed (q .options .edition) s) (keyed (q .options .edition) t) (keysOf (q .options .edition) xs) A → solve q room ≡ solutionOf (q .options .edition) s xs room A
+  pub outcome-promise : (A : Answer) → Outcome (keyed (q .options .edition) s) (keyed (q .options .edition) t) (keysOf
+      (q .options .edition) xs) A → solve q room ≡ solutionOf (q .options .edition) s xs room A
   outcome-promise = outcome-decides q room s t xs reads
 
   -- 8 exactly if three required labels clash
@@ -120,9 +124,28 @@ size-promise e s X text = (refl, refl)
 pub rows-promise : (x : Solution) → saidOfLargest (largestOf x .answer) ≡ saidOfSolution x
 rows-promise = said-exactly
 
+pub compare-rows-promise : (x : Comparison) → saidOfCompare (comparedOf x .answer) ≡ saidOfComparison x
+compare-rows-promise = compare-said
+
+-- request C-16, "the first required label missing from the claim"
+pub missing-promise : (K Y : List Label) (n : ℕ) → (missing K Y 0 ≡ some n) ↔ IsMissing K Y n
+missing-promise = missing-exactly
+
+-- a further list is read right after the required one, and compared where 6, 7 and 8 do not turn the required one away: its size stands
+-- beside that of the largest set
+pub compare-promise : (q : Task) (other : List ℕ) (s t : Tree) (xs ys : List Token) → Reads q s t xs
+    → readListIn (q .options .edition) other ≡ good ys → (X : List Label)
+    → IsAnswer (keyed (q .options .edition) s) (keyed (q .options .edition) t) (keysOf (q .options .edition) xs) X
+    → compare q other
+    ≡ compareOther (q .options .edition) s xs ys (length X)
+    (answer (keyed (q .options .edition) s) (keyed (q .options .edition) t) (keysOf (q .options .edition) ys))
+compare-promise = compare-decides
+
 -- "Old records must still be judged by the first edition": under edition 1 trees, lists and texts are read as they were
 pub first-edition : (q : Task) (room : ℕ) → q .options .edition ≡ One
-    → solve q room ≡ solveFirst (q .options) room (readTree (q .first)) (readTree (q .second)) (readList (q .required))
+    → solve q room
+    ≡ treesThen turned (q .options) (readTree (q .first)) (readTree (q .second))
+    (λ s t. solveList One s t room (readList (q .required)))
 first-edition = one-solve
 
 -- "the part of the text shown for it has both quotes": at the place of a label, of the set or of number 8, stands in the first tree's text,

@@ -2,8 +2,8 @@
 -- Intermediate: nothing public rests on this text.
 use Prim.Native.Nat.{ℕ, _<_, _≤_}
 use mathlib.Core.Path.{_≡_}
-use mathlib.Core.Bool.{true, false}
-use mathlib.Core.List.{List, [], map}
+use mathlib.Core.Bool.{Bool, true, false}
+use mathlib.Core.List.{List, [], _∷_, map}
 use lib.ListN.{length, getD}
 use Rattle.trees.specs.declared.TreeArrays.{TreeArrays}
 use Rattle.trees.specs.Label.{Label, isIn, distinct}
@@ -14,7 +14,7 @@ use Rattle.lists.specs.declared.LabelPlaces.{LabelPlaces}
 use Rattle.lists.specs.ReadList.{placesOf, listLimit}
 use Rattle.agreement.specs.Closer.{Common}
 use Rattle.agreement.specs.Sets.{increasing, common, setOf}
-use Rattle.agreement.specs.Answer.{answer, disagree}
+use Rattle.agreement.specs.Answer.{answer, disagree, largest}
 use Rattle.agreement.specs.Places.{placeOfLabel}
 use Rattle.leaves.specs.Numbered.{Numbered}
 use Rattle.triples.specs.declared.Three.{Three}
@@ -40,12 +40,11 @@ pub record Asked (s t : Tree) (K : List Token) (tree1 tree2 : TreeArrays) (order
   pub marked : Marked (common (decoded s) (decoded t)) (map spelling K) number
   pub count-is : count ≡ length K
 
--- three required labels clash
-pub record Clashes (s t : Tree) (K : List Token) (a b c : Label) (tree1 tree2 : TreeArrays) (order1 order2 : List ℕ) (m : ℕ)
+-- with the places of the list
+pub record AskedOf (s t : Tree) (K : List Token) (tree1 tree2 : TreeArrays) (order1 order2 : List ℕ) (m : ℕ)
     (number : List ℕ) (places : LabelPlaces) : Type 0 where
   pub asked : Asked s t K tree1 tree2 order1 order2 m number (places .count)
   pub list-places : places ≡ placesOf K
-  pub clash : answer (decoded s) (decoded t) (map spelling K) ≡ disagree a b c
 
 -- there are such trees and lists: what keeps indices in range
 pub record SomeTree (tree : TreeArrays) (order : List ℕ) (m : ℕ) : Type 0 where
@@ -53,18 +52,22 @@ pub record SomeTree (tree : TreeArrays) (order : List ℕ) (m : ℕ) : Type 0 wh
   pub C : List Label
   pub of : RankedArrays t C tree order m
 
-pub record SomeClash (tree1 tree2 : TreeArrays) (order1 order2 : List ℕ) (m : ℕ) (number : List ℕ) (places : LabelPlaces) : Type 0 where
+pub record SomeAsked (tree1 tree2 : TreeArrays) (order1 order2 : List ℕ) (m : ℕ) (number : List ℕ) (places : LabelPlaces) : Type 0 where
   pub s : Tree
   pub t : Tree
   pub K : List Token
-  pub a : Label
-  pub b : Label
-  pub c : Label
-  pub of : Clashes s t K a b c tree1 tree2 order1 order2 m number places
+  pub of : AskedOf s t K tree1 tree2 order1 order2 m number places
 
 -- where three labels of the list stand in it
 abbrev pub placesOfThree : List Token → Label → Label → Label → Three
 placesOfThree K a b c = record { first = placeOfLabel K 0 a; second = placeOfLabel K 0 b; third = placeOfLabel K 0 c }
+
+-- three labels of the list that clash, if any do: their places in the list, and their leaves in the first tree
+pub record ThreeIs (s t : Tree) (K : List Token) (apart : Bool) (places : Three) (leaves : List ℕ) : Type 0 where
+  pub agreed : apart ≡ false → (X : List Label) × (answer (decoded s) (decoded t) (map spelling K) ≡ largest X)
+      × (places ≡ record { first = 0; second = 0; third = 0 })
+  pub clash : apart ≡ true → (a : Label) × (b : Label) × (c : Label) × (answer (decoded s) (decoded t) (map spelling K) ≡ disagree a b c)
+      × (places ≡ placesOfThree K a b c) × Numbered (decoded s) (a ∷ b ∷ c ∷ []) leaves
 
 -- label n of the list is the first that is not common
 pub record FirstMissing (s t : Tree) (K : List Token) (text1 list : List ℕ) (tree1 : TreeArrays) (places : LabelPlaces) (n : ℕ)
@@ -74,9 +77,3 @@ pub record FirstMissing (s t : Tree) (K : List Token) (text1 list : List ℕ) (t
   pub below : n < length K
   pub earlier : (k : ℕ) → k < n → isIn (getD (map spelling K) k []) (common (decoded s) (decoded t)) ≡ true
   pub missing : isIn (getD (map spelling K) n []) (common (decoded s) (decoded t)) ≡ false
-
--- with the places of the list
-pub record AskedOf (s t : Tree) (K : List Token) (tree1 tree2 : TreeArrays) (order1 order2 : List ℕ) (m : ℕ)
-    (number : List ℕ) (places : LabelPlaces) : Type 0 where
-  pub asked : Asked s t K tree1 tree2 order1 order2 m number (places .count)
-  pub list-places : places ≡ placesOf K

@@ -2,10 +2,11 @@
 use Prim.Native.Nat.{ℕ}
 use mathlib.Core.Path.{_≡_}
 use mathlib.Core.List.{List}
+use mathlib.Core.Option.{Option, some, none}
 use lib.ListN.{length}
 use Rattle.trees.specs.declared.Body.{Body}
-use Rattle.trees.specs.declared.Body.the-variants.{K as listBody}
-use Rattle.trees.specs.declared.Reason.the-variants.{EndsTooSoon}
+use Rattle.trees.specs.declared.Reason.the-variants.{EndsTooSoon, FirstLacks, SecondLacks}
+use Rattle.trees.specs.declared.Refusal.{Refusal}
 use Rattle.trees.specs.declared.TreeArrays.{TreeArrays}
 use Rattle.trees.specs.declared.Edition.{Edition}
 use Rattle.trees.specs.Edition.{inEdition, folded, keyed, ValidIn}
@@ -19,28 +20,34 @@ use Rattle.lists.specs.declared.ListAnswer.{ListAnswer}
 use Rattle.lists.specs.declared.ListAnswer.the-variants.{Labels, Refused as ListRefused}
 use Rattle.lists.specs.declared.LabelPlaces.{LabelPlaces}
 use Rattle.lists.specs.ReadList.{placesOf, foldedList, keysOf}
-use Rattle.mast.specs.declared.LargestAnswer.{LargestAnswer}
-use Rattle.mast.specs.declared.LargestAnswer.the-variants.{Refused}
 use Rattle.mast.specs.declared.LargestResult.{LargestResult}
-use Rattle.agreement.specs.Answer.{answer}
+use Rattle.agreement.specs.Answer.{Answer, firstLacks, secondLacks, disagree, largest, answer}
+use Rattle.agreement.specs.Places.{placeOfNumber}
 use Rattle.mast.specs.Largest.{solutionOf, largestOf, outputOf}
 use Rattle.mast.specs.Engine.{OwnLeaves, OwnList}
 use Rattle.mast.specs.Ranks.{Partners, mostCommon}
 
 -- a refusal, where a text was read after all: it does not come there
-unfoldable pub unreadBody : Body → LargestAnswer
-unreadBody body = Refused (record { reason = EndsTooSoon; body = body; place = 0 })
+unfoldable pub unreadBody : Body → Refusal
+unreadBody body = record { reason = EndsTooSoon; body = body; place = 0 }
 
--- the answer to a body that was turned down
-unfoldable pub unreadTree : TreeAnswer → Body → LargestAnswer
+-- the refusal of a body that was turned down
+unfoldable pub unreadTree : TreeAnswer → Body → Refusal
 unfolding unreadBody
 unreadTree (Leaves n) body = unreadBody body
-unreadTree (TreeRefused q) body = Refused q
+unreadTree (TreeRefused q) body = q
 
-unfoldable pub unreadList : ListAnswer → LargestAnswer
+unfoldable pub unreadList : ListAnswer → Body → Refusal
 unfolding unreadBody
-unreadList (Labels n) = unreadBody listBody
-unreadList (ListRefused q) = Refused q
+unreadList (Labels n) body = unreadBody body
+unreadList (ListRefused q) body = q
+
+-- 6 or 7, as the answer to a list has them
+unfoldable pub lackOf : Body → List Token → Answer → Option Refusal
+lackOf body xs (firstLacks n) = some (record { reason = FirstLacks; body = body; place = placeOfNumber xs n })
+lackOf body xs (secondLacks n) = some (record { reason = SecondLacks; body = body; place = placeOfNumber xs n })
+lackOf body xs (disagree a b c) = none
+lackOf body xs (largest X) = none
 
 -- two trees and a list that were read, as they stand: what the engine's parts are handed of them, as the edition reads them
 pub record Bodies (e : Edition) (first list : List ℕ) (tree1 tree2 : TreeArrays) (partner : List ℕ) (places : LabelPlaces) (most : ℕ)

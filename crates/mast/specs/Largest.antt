@@ -63,24 +63,24 @@ unfoldable pub strayFor : Options → Tree → Tree → Stray
 unfolding strayOf
 strayFor o s t = cond (o .strict) (strayOf (keyed (o .edition) s) (keyed (o .edition) t)) nowhere
 
--- it gets number 12, "with the letter and place of the first such leaf in S or, if S has none, in T"
-unfoldable pub solveShared : Edition → Tree → Tree → ℕ → Reading (List Token) → Stray → Solution
-unfolding solveList placeIn
-solveShared e s t room list (inFirst x) = turned (record { reason = NotShared; body = S; place = placeIn (folded e s) 0 x })
-solveShared e s t room list (inSecond x) = turned (record { reason = NotShared; body = T; place = placeIn (folded e t) 0 x })
-solveShared e s t room list nowhere = solveList e s t room list
+-- it gets number 12, "with the letter and place of the first such leaf in S or, if S has none, in T"; else the job goes on
+unfoldable pub sharedThen : {R : Type 0} → (Refusal → R) → Edition → Tree → Tree → R → Stray → R
+unfolding placeIn
+sharedThen stop e s t on (inFirst x) = stop (record { reason = NotShared; body = S; place = placeIn (folded e s) 0 x })
+sharedThen stop e s t on (inSecond x) = stop (record { reason = NotShared; body = T; place = placeIn (folded e t) 0 x })
+sharedThen stop e s t on nowhere = on
 
 -- 12 is told "after both trees are read and before K"
-unfoldable pub solveSecond : Options → Tree → ℕ → Reading Tree → Reading (List Token) → Solution
-unfolding solveShared strayFor
-solveSecond o s room (good t) list = solveShared (o .edition) s t room list (strayFor o s t)
-solveSecond o s room (refused r i) list = turned (record { reason = r; body = T; place = i })
+unfoldable pub secondThen : {R : Type 0} → (Refusal → R) → Options → Tree → Reading Tree → (Tree → Tree → R) → R
+unfolding sharedThen strayFor
+secondThen stop o s (good t) on = sharedThen stop (o .edition) s t (on s t) (strayFor o s t)
+secondThen stop o s (refused r i) on = stop (record { reason = r; body = T; place = i })
 
--- "Order: .. S, T, K, then 6 or 7, then 8, then 9 for the output. A body that fails to read ends the job there."
-unfoldable pub solveFirst : Options → ℕ → Reading Tree → Reading Tree → Reading (List Token) → Solution
-unfolding solveSecond
-solveFirst o room (good s) second list = solveSecond o s room second list
-solveFirst o room (refused r i) second list = turned (record { reason = r; body = S; place = i })
+-- "Order: .. S, T", then 12, then what is asked of the trees. "A body that fails to read ends the job there."
+unfoldable pub treesThen : {R : Type 0} → (Refusal → R) → Options → Reading Tree → Reading Tree → (Tree → Tree → R) → R
+unfolding secondThen
+treesThen stop o (good s) second on = secondThen stop o s second on
+treesThen stop o (refused r i) second on = stop (record { reason = r; body = S; place = i })
 
 -- what is asked of the engine
 pub record Task : Type 0 where
@@ -96,11 +96,12 @@ task options first second required = record { options = options; first = first; 
 abbrev pub plain : Edition → Options
 plain e = record { strict = false; edition = e }
 
+-- "Order: .. S, T, K, then 6 or 7, then 8, then 9 for the output."
 unfoldable pub solve : Task → ℕ → Solution
-unfolding solveFirst
+unfolding treesThen solveList
 solve q room =
-    solveFirst (q .options) room (readTreeIn (q .options .edition) (q .first)) (readTreeIn (q .options .edition) (q .second))
-    (readListIn (q .options .edition) (q .required))
+    treesThen turned (q .options) (readTreeIn (q .options .edition) (q .first)) (readTreeIn (q .options .edition) (q .second))
+    (λ s t. solveList (q .options .edition) s t room (readListIn (q .options .edition) (q .required)))
 
 -- where the labels of a set stand in the text of a tree, in label order: "the part of the text shown for it has both quotes"
 unfoldable pub setPlaces : Tree → List Label → LabelPlaces

@@ -1,5 +1,7 @@
 pub mod Asked
 pub mod Bodies
+pub mod Compare
+pub mod Comparing
 pub mod Engine
 pub mod Finish
 pub mod Given

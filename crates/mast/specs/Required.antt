@@ -1,5 +1,5 @@
 -- The required list by rank. Intermediate: nothing public rests on this text.
-use Prim.Native.Nat.{ℕ, zero, suc, _+_, _<_, _≤_}
+use Prim.Native.Nat.{ℕ, zero, suc, _+_, _-_, _<_, _≤_, min}
 use mathlib.Core.Path.{_≡_}
 use mathlib.Core.Bool.{true, false, cond}
 use mathlib.Core.List.{List, [], _∷_}
@@ -36,3 +36,13 @@ pub record Entries (xs array : List ℕ) : Type 0 where
 pub record Added (n number r : ℕ) (old : List ℕ) (k : ℕ) (new : List ℕ) : Type 0 where
   pub count : k ≡ cond (eqb number 0) n (n + 1)
   pub stored : new ≡ cond (eqb number 0) old (set old n r)
+
+-- the lesser of a number counted from 0 and one counted from 1, where this is one of a required label that the further list lacks
+unfoldable pub nearerOf : ℕ → ℕ → ℕ → ℕ
+nearerOf best number other = cond (eqb number 0) best (cond (eqb other 0) (min best (number - 1)) best)
+
+-- the least of them over the first m ranks, or `count`
+unfoldable pub leastMissing : List ℕ → List ℕ → ℕ → ℕ → ℕ
+unfolding nearerOf
+leastMissing number other zero count = count
+leastMissing number other (suc m) count = nearerOf (leastMissing number other m count) (getD number m 0) (getD other m 0)

@@ -10,7 +10,10 @@ use Rattle.lists.specs.ReadList.{foldedList}
 use Rattle.agreement.specs.Places.{placeOfLabel}
 use Rattle.mast.specs.declared.LargestAnswer.{LargestAnswer}
 use Rattle.mast.specs.declared.LargestAnswer.the-variants.{Found, Disagree, Refused}
+use Rattle.mast.specs.declared.CompareAnswer.{CompareAnswer}
+use Rattle.mast.specs.declared.CompareAnswer.the-variants as compare-answer
 use Rattle.mast.specs.Largest.{Solution, solved, clashed, turned}
+use Rattle.mast.specs.Compare.{Comparison, stopped, clashing, compared}
 
 pub data Said : Type 0 where
   -- no row turns the job away: the answer's own numbers
@@ -40,3 +43,17 @@ saidOfSolution (solved e s X text) = granted (length X ∷ length text ∷ [])
 saidOfSolution (clashed e s xs a b c) =
     eightRow (placeOfLabel (foldedList e xs) 0 a) (placeOfLabel (foldedList e xs) 0 b) (placeOfLabel (foldedList e xs) 0 c)
 saidOfSolution (turned q) = refusalRow q
+
+-- of a further list, the size of the largest set and its own, or a row
+unfoldable pub saidOfCompare : CompareAnswer → Said
+unfolding refusalRow eightRow
+saidOfCompare (compare-answer.Compared c) = granted (c .size ∷ c .count ∷ [])
+saidOfCompare (compare-answer.Disagree a b c) = eightRow a b c
+saidOfCompare (compare-answer.Refused q) = refusalRow q
+
+unfoldable pub saidOfComparison : Comparison → Said
+unfolding refusalRow eightRow placeOfLabel
+saidOfComparison (stopped q) = refusalRow q
+saidOfComparison (clashing e s xs a b c) =
+    eightRow (placeOfLabel (foldedList e xs) 0 a) (placeOfLabel (foldedList e xs) 0 b) (placeOfLabel (foldedList e xs) 0 c)
+saidOfComparison (compared e s xs ys size missed clash) = granted (size ∷ length ys ∷ [])

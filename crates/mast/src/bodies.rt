@@ -2,30 +2,36 @@
 //
 // Names that end in 1 are of the first tree, in 2 of the second.
 ghost use mathlib.Core.Path.{_≡_};
-ghost use mathlib.Core.Bool.{cond};
-ghost use mathlib.Core.List.{List, map};
-ghost use Prim.Native.Nat.{ℕ, _<_, _≤_};
+ghost use mathlib.Core.Bool.{true, false, cond};
+ghost use mathlib.Core.List.{List, [], _∷_, map};
+ghost use mathlib.Core.Option.{some};
+ghost use Prim.Native.Nat.{_<_, _≤_};
 ghost use Rattle.trees.specs.Edition.{inEdition, folded, keyed};
 ghost use Rattle.trees.specs.Label.{Label};
 ghost use Rattle.trees.specs.Token.{Token, spelling};
 ghost use Rattle.trees.specs.Tree.{Tree, decoded, Valid};
+ghost use Rattle.trees.specs.Arrays.{arraysOf};
+ghost use Rattle.leaves.specs.Numbered.{Numbered};
 ghost use Rattle.trees.specs.declared.Reason.the-variants.{FirstLacks, SecondLacks};
-ghost use Rattle.lists.specs.ReadList.{foldedList, keysOf};
-ghost use Rattle.agreement.specs.Answer.{answer};
-ghost use Rattle.mast.specs.Largest.{clashed, solutionOf, largestOf};
+ghost use Rattle.lists.specs.ReadList.{placesOf, foldedList, keysOf};
+ghost use Rattle.agreement.specs.Answer.{answer, disagree};
+ghost use Rattle.mast.specs.Largest.{clashed, setPlaces, largestOf};
+ghost use Rattle.mast.specs.Finish.{InRange};
 ghost use Rattle.mast.specs.Engine.{OwnLeaves, Ordered};
 ghost use Rattle.mast.specs.Ranks.{Partners, mostCommon};
 ghost use Rattle.table.specs.Choice.{Solved};
-ghost use Rattle.mast.specs.Asked.{Asked, Clashes, SomeTree, SomeClash, FirstMissing};
-ghost use Rattle.mast.specs.Bodies.{Bodies, Settled};
+ghost use Rattle.mast.specs.Asked.{Asked, AskedOf, SomeTree, SomeAsked, FirstMissing};
+ghost use Rattle.mast.specs.Bodies.{Bodies, Settled, lackOf};
+ghost use Rattle.mast.specs.Comparing.{ClashIs};
 use crate::LargestAnswer;
 use crate::LargestResult;
+use crate::finish::no_places;
 use crate::finish::set_places;
 use crate::finish::solution;
-use crate::finish::without_set;
 use crate::ranks::NO_RANK;
 use crate::ranks::common_order;
 use crate::ranks::rank_leaves;
+use crate::refused;
 use crate::required::clash_places;
 use crate::required::entries_at;
 use crate::required::holds_label;
@@ -40,9 +46,10 @@ use trees::NODE_LIMIT;
 use trees::Reason;
 use trees::Refusal;
 use trees::TreeArrays;
+use triples::Three;
 
 // The common leaves in label order, by their numbers in both trees, and how many they are.
-fn order_in(
+pub(crate) fn order_in(
     edition: Edition,
     first: &[u8],
     tree1: TreeArrays,
@@ -86,8 +93,34 @@ fn find_set(
     largest_set(tree1, tree2, &rank1, &rank2, m, number, count, chosen)
 }
 
-// Number 8: the first three labels of the list that clash.
-fn eight(
+// Where three labels that clash stand in the first tree; no place where none do.
+pub(crate) fn three_places(
+    tree1: TreeArrays,
+    apart: bool,
+    leaves: &[usize; LEAF_LIMIT],
+) -> LabelPlaces
+    requires { ⌜ (apart ≡ true → InRange (now leaves) 3) ⌝ }
+    ensures { λ r. ⌜ (apart ≡ false → r ≡ placesOf []) ⌝ }
+    ensures { λ r. ⌜ ((s : Tree) (a b c : Label) → apart ≡ true → Valid s → tree1 ≡ arraysOf s
+        → Numbered (decoded s) (a ∷ b ∷ c ∷ []) (now (leaves .entry)) → r ≡ setPlaces s (a ∷ b ∷ c ∷ [])) ⌝ }
+{
+    if apart {
+        let start1 = tree1.start;
+        let size1 = tree1.size;
+        return set_places(leaves, 3, &[true; LEAF_LIMIT], &start1, &size1);
+    }
+    no_places()
+}
+
+// Whether three labels of a list clash; if so, where the first such three stand in the list and in the first tree.
+pub(crate) struct ClashTold {
+    pub apart: bool,
+    pub three: Three,
+    pub set: LabelPlaces,
+}
+
+// The first three labels of a list that clash, numbers 8 and 14.
+pub(crate) fn clash_in(
     tree1: TreeArrays,
     tree2: TreeArrays,
     order1: &[usize; LEAF_LIMIT],
@@ -95,22 +128,19 @@ fn eight(
     m: usize,
     number: &[u8; RANKS],
     places: LabelPlaces,
-) -> LargestResult
-    requires { ⌜ SomeClash tree1 tree2 (now order1) (now order2) m (now number) places ⌝ }
-    ensures { λ r. ⌜ ((e : Edition) (s t : Tree) (xs : List Token) (a b c : Label)
-        → Clashes (folded e s) (folded e t) (foldedList e xs) a b c tree1 tree2 (now (order1 .entry)) (now (order2 .entry)) m
+) -> ClashTold
+    requires { ⌜ SomeAsked tree1 tree2 (now order1) (now order2) m (now number) places ⌝ }
+    ensures { λ r. ⌜ ((e : Edition) (s t : Tree) (xs : List Token)
+        → AskedOf (folded e s) (folded e t) (foldedList e xs) tree1 tree2 (now (order1 .entry)) (now (order2 .entry)) m
         (now (number .entry)) places
-        → r ≡ largestOf (clashed e s xs a b c)) ⌝ }
+        → ClashIs e s xs (answer (keyed e s) (keyed e t) (keysOf e xs)) (r .apart) (r .three) (r .set)) ⌝ }
 {
     let clash = clash_places(tree1, tree2, order1, order2, m, number, places);
+    let apart = clash.apart;
     let three = clash.places;
     let leaves = clash.leaves;
-    let start1 = tree1.start;
-    let size1 = tree1.size;
-    LargestResult {
-        answer: LargestAnswer::Disagree(three.first, three.second, three.third),
-        set: set_places(&leaves, 3, &[true; LEAF_LIMIT], &start1, &size1),
-    }
+    let set = three_places(tree1, apart, &leaves);
+    ClashTold { apart, three, set }
 }
 
 // The reason of a required label that is not common.
@@ -125,29 +155,43 @@ fn lacking(held: bool) -> Reason
 }
 
 // Number 6 or 7: label n of the list is the first that is not common.
-fn lacks(
+pub(crate) fn lacks(
     edition: Edition,
     first: &[u8],
     tree1: TreeArrays,
     list: &[u8],
     places: LabelPlaces,
+    body: Body,
     n: usize,
-) -> LargestResult
+) -> Refusal
     requires { ⌜ n < 80 ⌝ }
-    ensures { λ r. ⌜ ((s t : Tree) (xs : List Token) (room : ℕ)
+    ensures { λ r. ⌜ ((s t : Tree) (xs : List Token)
         → FirstMissing (folded edition s) (folded edition t) (foldedList edition xs) (inEdition edition (now (first .entry)))
         (inEdition edition (now (list .entry))) tree1 places n
-        → r ≡ largestOf (solutionOf edition s xs room (answer (keyed edition s) (keyed edition t) (keysOf edition xs)))) ⌝ }
+        → lackOf body xs (answer (keyed edition s) (keyed edition t) (keysOf edition xs)) ≡ some r) ⌝ }
 {
     let starts = places.start;
     let sizes = places.size;
     let at = starts[n];
     let held = holds_label(edition, first, tree1, trees::part(list, at, sizes[n]));
-    without_set(LargestAnswer::Refused(Refusal {
+    Refusal {
         reason: lacking(held),
-        body: Body::K,
+        body,
         place: at,
-    }))
+    }
+}
+
+// Number 8: the first three labels of the list that clash.
+fn eight(told: ClashTold) -> LargestResult
+    ensures { λ r. ⌜ ((e : Edition) (s : Tree) (xs : List Token) (a b c : Label)
+        → ClashIs e s xs (disagree a b c) (told .apart) (told .three) (told .set) → r ≡ largestOf (clashed e s xs a b c)) ⌝ }
+{
+    let three = told.three;
+    let set = told.set;
+    LargestResult {
+        answer: LargestAnswer::Disagree(three.first, three.second, three.third),
+        set,
+    }
 }
 
 // The answer to two trees and a list that were read; no more than `most` labels are common.
@@ -180,7 +224,7 @@ pub(crate) fn answer_bodies(
     let mut number = [0u8; RANKS];
     let n = mark_required(edition, first, tree1, &order1, m, list, places, &mut number);
     if n < places.count {
-        return lacks(edition, first, tree1, list, places, n);
+        return refused(lacks(edition, first, tree1, list, places, Body::K, n));
     }
     let mut chosen = [false; LEAF_LIMIT];
     if find_set(
@@ -195,6 +239,6 @@ pub(crate) fn answer_bodies(
     ) {
         solution(edition, tree1, first, &order1, m, &chosen, out)
     } else {
-        eight(tree1, tree2, &order1, &order2, m, &number, places)
+        eight(clash_in(tree1, tree2, &order1, &order2, m, &number, places))
     }
 }

@@ -102,17 +102,24 @@ fn kept_leaves(
     kept
 }
 
+// No label has no place.
+pub(crate) fn no_places() -> LabelPlaces
+    ensures { λ r. ⌜ r ≡ placesOf [] ⌝ }
+{
+    LabelPlaces {
+        count: 0,
+        start: [0usize; LEAF_LIMIT],
+        size: [0usize; LEAF_LIMIT],
+    }
+}
+
 // An answer that has no set.
 pub(crate) fn without_set(answer: LargestAnswer) -> LargestResult
     ensures { λ r. ⌜ r ≡ resultFrom answer (placesOf []) ⌝ }
 {
     LargestResult {
         answer,
-        set: LabelPlaces {
-            count: 0,
-            start: [0usize; LEAF_LIMIT],
-            size: [0usize; LEAF_LIMIT],
-        },
+        set: no_places(),
     }
 }
 

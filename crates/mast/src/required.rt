@@ -4,7 +4,7 @@
 // Names that end in 1 are of the first tree, in 2 of the second.
 ghost use mathlib.Core.Path.{_≡_};
 ghost use mathlib.Core.Bool.{true};
-ghost use mathlib.Core.List.{List, [], _∷_, map};
+ghost use mathlib.Core.List.{List, map};
 ghost use Prim.Native.Nat.{ℕ, _-_, _<_, _≤_};
 ghost use lib.ListN.{length, getD};
 ghost use Rattle.trees.specs.Label.{Label};
@@ -15,8 +15,8 @@ ghost use Rattle.agreement.specs.Closer.{holds};
 ghost use Rattle.agreement.specs.Sets.{increasing};
 ghost use Rattle.leaves.specs.Numbered.{Numbered};
 ghost use Rattle.mast.specs.Engine.{OwnLeaves, OwnList};
-ghost use Rattle.mast.specs.Required.{FoundRank, MarkedTo, ranksFrom, Entries, Added};
-ghost use Rattle.mast.specs.Asked.{Clashes, SomeClash, placesOfThree};
+ghost use Rattle.mast.specs.Required.{FoundRank, MarkedTo, ranksFrom, Entries, Added, nearerOf, leastMissing};
+ghost use Rattle.mast.specs.Asked.{AskedOf, SomeAsked, ThreeIs};
 use lists::LabelPlaces;
 use table::RANKS;
 use trees::Edition;
@@ -175,8 +175,9 @@ fn place_at(
     starts[n - 1]
 }
 
-// Three labels that clash: their places in the list, and their leaves in the first tree, the first three of the array.
+// Whether three labels clash; if so, their places in the list, and their leaves in the first tree, the first three of the array.
 pub(crate) struct ThreeTold {
+    pub apart: bool,
     pub places: Three,
     pub leaves: [usize; LEAF_LIMIT],
 }
@@ -197,7 +198,7 @@ fn leaves_of(leaf: &[usize; LEAF_LIMIT], three: Three) -> [usize; LEAF_LIMIT]
     found
 }
 
-// Number 8: where the first three required labels that clash stand in the list and in the first tree.
+// The first three labels of a list that clash: where they stand in the list and in the first tree.
 pub(crate) fn clash_places(
     tree1: TreeArrays,
     tree2: TreeArrays,
@@ -207,10 +208,10 @@ pub(crate) fn clash_places(
     number: &[u8; RANKS],
     places: LabelPlaces,
 ) -> ThreeTold
-    requires { ⌜ SomeClash tree1 tree2 (now order1) (now order2) m (now number) places ⌝ }
-    ensures { λ r. ⌜ ((s t : Tree) (K : List Token) (a b c : Label)
-        → Clashes s t K a b c tree1 tree2 (now (order1 .entry)) (now (order2 .entry)) m (now (number .entry)) places
-        → (r .places ≡ placesOfThree K a b c) × Numbered (decoded s) (a ∷ b ∷ c ∷ []) (r .leaves)) ⌝ }
+    requires { ⌜ SomeAsked tree1 tree2 (now order1) (now order2) m (now number) places ⌝ }
+    ensures { λ r. ⌜ ((s t : Tree) (K : List Token)
+        → AskedOf s t K tree1 tree2 (now (order1 .entry)) (now (order2 .entry)) m (now (number .entry)) places
+        → ThreeIs s t K (r .apart) (r .places) (r .leaves)) ⌝ }
 {
     let count = places.count;
     let starts = places.start;
@@ -228,7 +229,19 @@ pub(crate) fn clash_places(
         &leaf2,
         count,
     );
+    if count <= three.first {
+        return ThreeTold {
+            apart: false,
+            places: Three {
+                first: 0,
+                second: 0,
+                third: 0,
+            },
+            leaves: [0usize; LEAF_LIMIT],
+        };
+    }
     ThreeTold {
+        apart: true,
         places: Three {
             first: place_at(&starts, number, &ranks, three.first),
             second: place_at(&starts, number, &ranks, three.second),
@@ -236,4 +249,38 @@ pub(crate) fn clash_places(
         },
         leaves: leaves_of(&leaf1, three),
     }
+}
+
+// The lesser of two numbers in the required list, counted from 0, where the label with number `number`, counted from 1, is missing from
+// the further list.
+fn nearer(best: usize, number: u8, other: u8) -> usize
+    ensures { λ r. ⌜ r ≡ nearerOf best number other ⌝ }
+{
+    if number == 0 {
+        return best;
+    }
+    if other != 0 {
+        return best;
+    }
+    trees::least(best, wide(number) - 1)
+}
+
+// The number in the required list, counted from 0, of its first label that a further list lacks, or `count`: by the labels' numbers in
+// both lists, by rank.
+pub(crate) fn first_missing(
+    number: &[u8; RANKS],
+    other: &[u8; RANKS],
+    m: usize,
+    count: usize,
+) -> usize
+    requires { ⌜ m ≤ 80 ⌝ }
+    ensures { λ r. ⌜ r ≡ leastMissing (now (number .entry)) (now (other .entry)) m count ⌝ }
+{
+    let mut best = count;
+    let mut r: usize = 0;
+    while r < m {
+        best = nearer(best, number[r], other[r]);
+        r += 1;
+    }
+    best
 }

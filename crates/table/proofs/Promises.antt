@@ -14,11 +14,11 @@ use Rattle.agreement.specs.Closer.{Common}
 use Rattle.agreement.specs.Sets.{common, setOf}
 use Rattle.agreement.specs.Greatest.{Greatest}
 use Rattle.agreement.specs.Demand.{IsAnswer, Clash}
-use Rattle.table.specs.Choice.{Ranked, Given, chosenFrom, Solved}
+use Rattle.table.specs.Choice.{Ranked, Given, chosenFrom, Solved, SizeTold}
 use Rattle.table.specs.Table.{Filling}
 use Rattle.table.specs.Solving.{OwnColumns, TopIs}
 use Rattle.table.proofs.ColumnLaws.{given-read}
-use Rattle.table.proofs.SolveLaws.{cell-greatest, set-told, eight-told}
+use Rattle.table.proofs.SolveLaws.{cell-greatest, set-told, eight-told, size-told}
 
 -- a tree that was read is given by its arrays as the tree that it stands for
 pub read-is-given : (t : Tree) (C : List Label) (rank : List ℕ) → Valid t → Ranked (decoded t) C rank → Given (decoded t) C (arraysOf t) rank
@@ -40,3 +40,8 @@ module _ (s t : Tree) (K : List Label) (proper : Proper s) (different : distinct
   -- 8 exactly if three required labels clash
   pub eight-promise : Common s t (setOf K) → (found ≡ false) ↔ ((a : Label) × (b : Label) × (c : Label) × Clash s t K a b c)
   eight-promise = eight-told s t K proper different found chosen solved
+
+-- request C-16, "the largest size": the same without the set
+pub size-promise : (s t : Tree) (K : List Label) → Proper s → distinct K ≡ true → (found : Bool) (size : ℕ) → SizeTold s t K found size
+    → found ≡ true → (X : List Label) × IsAnswer s t K X × (size ≡ length X)
+size-promise = size-told

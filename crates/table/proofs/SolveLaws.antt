@@ -22,19 +22,19 @@ use Rattle.leaves.specs.Numbered.{LeafIs}
 use Rattle.agreement.specs.Closer.{holds, Common}
 use Rattle.agreement.specs.Sets.{common, sorted, setOf}
 use Rattle.agreement.specs.Weights.{best, forcing, forcedUnit}
-use Rattle.agreement.specs.Powers.{whole, power, telling, powerIn}
+use Rattle.agreement.specs.Powers.{whole, power, telling, powerIn, decode}
 use Rattle.agreement.specs.Greatest.{Greatest}
 use Rattle.agreement.specs.Answer.{answer, disagree, largest}
 use Rattle.agreement.specs.Demand.{IsAnswer, Clash}
 use Rattle.agreement.proofs.SetLaws.{in-sorted, common-inc, common-in, HasNumber, number-of}
 use Rattle.agreement.proofs.PowerLaws.{sum-small, power-rank}
-use Rattle.agreement.proofs.Tells.{full-places, common-few, told-set, told-eight}
+use Rattle.agreement.proofs.Tells.{full-places, common-few, told-set, told-size, told-eight}
 use Rattle.agreement.proofs.Recurrence.{best-greatest}
 use Rattle.agreement.proofs.DemandLaws.{largest-exactly, eight-exactly}
 use Rattle.table.specs.Table.{valueAt, columnAt, nodesAt, weightPlace, Filling}
 use Rattle.table.specs.Weighing.{unitOf, WeightsPut, Powers, bitsOf, Bits}
-use Rattle.table.specs.Choice.{Marked, Given, Posed, chosenFrom, Solved}
-use Rattle.table.specs.Solving.{OwnColumns, TopIs}
+use Rattle.table.specs.Choice.{Marked, Given, Posed, chosenFrom, Solved, SizeTold}
+use Rattle.table.specs.Solving.{OwnColumns, TopIs, Weighed}
 use Rattle.table.proofs.WeighingLaws.{power-79, chosen-decoded}
 use Rattle.table.proofs.FillLaws.{power-mono, few-rows}
 
@@ -211,25 +211,50 @@ module _ (s t : Tree) (K : List Label) (tree1 tree2 : TreeArrays) (rank1 rank2 :
       let kept = told _ s t (common s t) first second high1 low1 high2 low2 top one two sh sl filling top-is .1 in
       omega (arith, kept r (omega (arith, n-is, few)), put .each area area r h, power-less r (omega (arith, n-is, few)))
 
-  pub solved-set : (chosen : List Bool) → top / whole / forcedUnit ≡ count → (Powers n high2 low2 → Bits n (top % whole) chosen)
+  pub weighed : Weighed s t K n top high2 low2
+  weighed = record { great = great; powers = powers-kept }
+
+-- what the greatest weight tells
+
+module _ (s t : Tree) (K : List Label) (tree1 tree2 : TreeArrays) (rank1 rank2 : List ℕ) (m : ℕ) (number : List ℕ) (count : ℕ)
+    (posed : Posed s t K tree1 tree2 rank1 rank2 m number count) (n : ℕ) (ranks : n ≡ min m 80) (top : ℕ) (high low : List ℕ)
+    (w : Weighed s t K n top high low) where
+  own : Proper s
+  own = posed .one .proper
+
+  pub solved-set : (chosen : List Bool) → top / whole / forcedUnit ≡ count → (Powers n high low → Bits n (top % whole) chosen)
       → Solved s t K true chosen
   solved-set chosen e bits = record {
     set = λ k.
-        told-set s t K proper (posed .different) (posed .required) top great (e ∙ posed .count-is)
-        ∙ ap largest (sym (chosen-decoded leafLimit (common s t) (top % whole) chosen 0 few each));
+        told-set s t K own (posed .different) (posed .required) top (w .great) (e ∙ posed .count-is)
+        ∙ ap largest (sym (chosen-decoded leafLimit (common s t) (top % whole) chosen 0 (common-few s t own) each));
     eight = λ k. clash {b = true} refl k;
   }
     where
       each : (i : ℕ) → i < length (common s t) → getD chosen (0 + i) false ≡ getD (bitsOf leafLimit (top % whole)) i false
       each i h =
           let z : 0 + i ≡ i = omega arith in
-          ap (λ (j : ℕ). getD chosen j false) z ∙ bits powers-kept .each i (omega (arith, n-is))
+          ap (λ (j : ℕ). getD chosen j false) z ∙ bits (w .powers) .each i (omega (arith, ranks, posed .all, common-few s t own))
+
+  eight-known : (top / whole / forcedUnit ≡ count → ⊥) → (a : Label) × (b : Label) × (c : Label) × (answer s t K ≡ disagree a b c)
+  eight-known apart = told-eight s t K own (posed .different) (posed .required) top (w .great) (λ e. apart (e ∙ sym (posed .count-is)))
 
   pub solved-eight : (chosen : List Bool) → (top / whole / forcedUnit ≡ count → ⊥) → Solved s t K false chosen
-  solved-eight chosen apart = record {
-    set = λ k. clash {b = false} k refl;
-    eight = λ k. told-eight s t K proper (posed .different) (posed .required) top great (λ e. apart (e ∙ sym (posed .count-is)));
+  solved-eight chosen apart = record { set = λ k. clash {b = false} k refl; eight = λ k. eight-known apart }
+
+  pub sized-set : (size : ℕ) → top / whole / forcedUnit ≡ count → size ≡ top / whole / forcedUnit + top / whole % forcedUnit
+      → SizeTold s t K true size
+  sized-set size e is = record {
+    set = λ k. (
+      decode leafLimit (common s t) (top % whole),
+      told-set s t K own (posed .different) (posed .required) top (w .great) (e ∙ posed .count-is),
+      is ∙ sym (told-size s t K own (posed .different) (posed .required) top (w .great) (e ∙ posed .count-is)),
+    );
+    eight = λ k. clash {b = true} refl k;
   }
+
+  pub sized-eight : (top / whole / forcedUnit ≡ count → ⊥) → SizeTold s t K false 0
+  sized-eight apart = record { set = λ k. clash {b = false} k refl; eight = λ k. eight-known apart }
 
 -- demand 3 of what comes back
 
@@ -248,3 +273,10 @@ module _ (s t : Tree) (K : List Label) (proper : Proper s) (different : distinct
       apart : (found ≡ true) ⊎ (found ≡ false) → ((a : Label) × (b : Label) × (c : Label) × (answer s t K ≡ disagree a b c)) → found ≡ false
       apart (inr e) p = e
       apart (inl e) p = let f = solved .set e in let g = p .3 in let z : _≡_ {A = ℕ} 0 1 = cc in absurd (omega arith)
+
+-- the size without the set
+pub size-told : (s t : Tree) (K : List Label) → Proper s → distinct K ≡ true → (found : Bool) (size : ℕ) → SizeTold s t K found size
+    → found ≡ true → (X : List Label) × IsAnswer s t K X × (size ≡ length X)
+size-told s t K proper different found size told e =
+    let w = told .set e in
+    (w .0, largest-exactly s t K (proper .different) different (w .0) .0 (w .1), w .2)

@@ -52,3 +52,8 @@ chosenFrom chosen r (c ∷ cs) = cond (getD chosen r false) (c ∷ chosenFrom ch
 pub record Solved (s t : Tree) (K : List Label) (found : Bool) (chosen : List Bool) : Type 0 where
   pub set : found ≡ true → answer s t K ≡ largest (chosenFrom chosen 0 (common s t))
   pub eight : found ≡ false → (a : Label) × (b : Label) × (c : Label) × (answer s t K ≡ disagree a b c)
+
+-- the same without the set: the answer's size; or row 8
+pub record SizeTold (s t : Tree) (K : List Label) (found : Bool) (size : ℕ) : Type 0 where
+  pub set : found ≡ true → (X : List Label) × (answer s t K ≡ largest X) × (size ≡ length X)
+  pub eight : found ≡ false → (a : Label) × (b : Label) × (c : Label) × (answer s t K ≡ disagree a b c)

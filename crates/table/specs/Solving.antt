@@ -6,11 +6,15 @@ use mathlib.Core.Bool.{false}
 use mathlib.Core.List.{List, []}
 use lib.ListN.{length, getD}
 use Rattle.trees.specs.Label.{Label, isIn}
-use Rattle.trees.specs.Tree.{Tree, Proper}
+use Rattle.trees.specs.Tree.{Tree, leafLimit, Proper}
 use Rattle.trees.specs.Arrays.{nodesOf}
 use Rattle.trees.specs.Postorder.{postorder, subtree}
 use Rattle.leaves.specs.Numbered.{LeafIs}
+use Rattle.agreement.specs.Sets.{common, sorted}
 use Rattle.agreement.specs.Weights.{best}
+use Rattle.agreement.specs.Powers.{telling}
+use Rattle.agreement.specs.Greatest.{Greatest}
+use Rattle.table.specs.Weighing.{Powers}
 use Rattle.table.specs.Table.{valueAt, columnAt, nodesAt, weightPlace, need, Shape, Columns, Filling}
 
 -- indices stay in range, and there is a root
@@ -33,3 +37,8 @@ pub record TopIs (first second : List ℕ) (top : ℕ) (high low high' low' : Li
       → need (subtree ss (nodesAt first - 1)) ≤ 6
       → (top ≡ best w (subtree ss (nodesAt first - 1)) (subtree ts (nodesAt second - 1)))
       × ((r : ℕ) → r < 159 → valueAt high' low' (weightPlace r) ≡ valueAt high low (weightPlace r))
+
+-- the greatest weight of the common labels, n of them, and their powers by rank
+pub record Weighed (s t : Tree) (K : List Label) (n top : ℕ) (high low : List ℕ) : Type 0 where
+  pub great : Greatest (telling leafLimit (sorted K) (common s t)) s t top
+  pub powers : Powers n high low

@@ -9,11 +9,17 @@ ghost use Prim.Native.Nat.{ℕ, _≤_};
 ghost use lib.ListN.{getD};
 ghost use Rattle.trees.specs.Label.{Label};
 ghost use Rattle.trees.specs.Tree.{Tree};
-ghost use Rattle.table.specs.Choice.{Posed, Solved};
+ghost use lib.ListN.{replicate};
+ghost use Rattle.table.specs.Choice.{Posed, Solved, SizeTold};
+ghost use Rattle.table.specs.Solving.{Weighed};
+ghost use Rattle.table.specs.Table.{valueOf};
+ghost use Prim.Native.Nat.{min};
 use crate::columns::columns_of;
 use crate::fill::AREA;
+use crate::fill::Weight;
 use crate::fill::root_weight;
 use crate::weights::held;
+use crate::weights::labels;
 use crate::weights::put_weights;
 use crate::weights::read_set;
 use trees::LEAF_LIMIT;
@@ -26,6 +32,29 @@ mod weights;
 
 // Ranks of common labels, and one for a label that is not common.
 pub const RANKS: usize = LEAF_LIMIT + 1;
+
+// The greatest weight of a set on which two trees agree. The weights of the n common labels by rank stay in the area's last row.
+fn weigh(
+    tree1: TreeArrays,
+    tree2: TreeArrays,
+    rank1: &[usize; NODE_LIMIT],
+    rank2: &[usize; NODE_LIMIT],
+    n: usize,
+    number: &[u8; RANKS],
+    high: &mut [u32; AREA],
+    low: &mut [u64; AREA],
+) -> Weight
+    requires { ⌜ n ≤ 80 ⌝ }
+    ensures { λ top. ⌜ ((s t : Tree) (K : List Label) (m count : ℕ)
+        → Posed s t K tree1 tree2 (now (rank1 .entry)) (now (rank2 .entry)) m (now (number .entry)) count → n ≡ min m 80
+        → now (high .entry) ≡ replicate 1431 0 → now (low .entry) ≡ replicate 1431 0
+        → Weighed s t K n (valueOf top) (now (high .exit)) (now (low .exit))) ⌝ }
+{
+    let first = columns_of(tree1, rank1);
+    let second = columns_of(tree2, rank2);
+    put_weights(number, n, high, low);
+    root_weight(&first, &second, high, low)
+}
 
 // Whether two trees agree on the required labels, of which there are `count`; if so, the labels chosen are the answer, by rank among
 // the m common ones. A tree is given by its arrays and, by node, its leaves' ranks; `number` has by rank a required label's number in
@@ -47,16 +76,67 @@ pub fn largest_set(
     ensures { λ found. ⌜ (found ≡ true → (r : ℕ) → m ≤ r → getD (now (chosen .exit)) r false ≡ false) ⌝ }
     ensures { λ found. ⌜ (found ≡ false → now (chosen .exit) ≡ now (chosen .entry)) ⌝ }
 {
-    let first = columns_of(tree1, rank1);
-    let second = columns_of(tree2, rank2);
     let common = trees::least(m, LEAF_LIMIT);
     let mut high = [0u32; AREA];
     let mut low = [0u64; AREA];
-    put_weights(number, common, &mut high, &mut low);
-    let top = root_weight(&first, &second, &mut high, &mut low);
+    let top = weigh(
+        tree1,
+        tree2,
+        rank1,
+        rank2,
+        common,
+        number,
+        &mut high,
+        &mut low,
+    );
     if held(top) != count {
         return false;
     }
     read_set(&high, &low, top, common, chosen);
     true
+}
+
+// Whether two trees agree on the required labels, and how many labels the answer has, 0 where there is none.
+pub struct Size {
+    pub found: bool,
+    pub size: usize,
+}
+
+// The same without the set: its size is what the greatest weight counts.
+pub fn largest_size(
+    tree1: TreeArrays,
+    tree2: TreeArrays,
+    rank1: &[usize; NODE_LIMIT],
+    rank2: &[usize; NODE_LIMIT],
+    m: usize,
+    number: &[u8; RANKS],
+    count: usize,
+) -> Size
+    ensures { λ r. ⌜ ((s t : Tree) (K : List Label)
+        → Posed s t K tree1 tree2 (now (rank1 .entry)) (now (rank2 .entry)) m (now (number .entry)) count
+        → SizeTold s t K (r .found) (r .size)) ⌝ }
+    ensures { λ r. ⌜ (r .found ≡ false → r .size ≡ 0) ⌝ }
+{
+    let mut high = [0u32; AREA];
+    let mut low = [0u64; AREA];
+    let top = weigh(
+        tree1,
+        tree2,
+        rank1,
+        rank2,
+        trees::least(m, LEAF_LIMIT),
+        number,
+        &mut high,
+        &mut low,
+    );
+    if held(top) != count {
+        return Size {
+            found: false,
+            size: 0,
+        };
+    }
+    Size {
+        found: true,
+        size: labels(top),
+    }
 }

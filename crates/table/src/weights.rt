@@ -4,7 +4,7 @@
 // required labels and the size, and its low 80 bits are the set.
 ghost use mathlib.Core.Path.{_≡_};
 ghost use mathlib.Core.Bool.{false, cond};
-ghost use Prim.Native.Nat.{ℕ, _-_, _/_, _%_, _<_, _≤_};
+ghost use Prim.Native.Nat.{ℕ, _+_, _-_, _/_, _%_, _<_, _≤_};
 ghost use lib.Dec.{leb};
 ghost use lib.ListN.{getD};
 ghost use Rattle.agreement.specs.Powers.{whole};
@@ -73,6 +73,14 @@ pub(crate) fn held(top: Weight) -> usize
     ensures { λ r. ⌜ r ≡ valueOf top / whole / forcedUnit ⌝ }
 {
     (top.high / 65536 / REQUIRED) as usize
+}
+
+// How many labels a weight counts, where all required ones are among them.
+pub(crate) fn labels(top: Weight) -> usize
+    ensures { λ r. ⌜ r ≡ valueOf top / whole / forcedUnit + valueOf top / whole % forcedUnit ⌝ }
+{
+    let units = top.high / 65536;
+    (units / REQUIRED + units % REQUIRED) as usize
 }
 
 // What is left of a sum of powers once a power is looked for in it.

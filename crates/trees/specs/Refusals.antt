@@ -3,9 +3,10 @@
 use Prim.Native.Nat.{ℕ}
 use Rattle.trees.specs.declared.Refusal.{Refusal}
 use Rattle.trees.specs.declared.Reason.{Reason}
-use Rattle.trees.specs.declared.Reason.the-variants.{BadByte, EndsTooSoon, LabelTooLong, TooMany, Repeated, FirstLacks, SecondLacks, Disagree, TooShort, Contents, JobTooLong, NotShared}
+use Rattle.trees.specs.declared.Reason.the-variants.{BadByte, EndsTooSoon, LabelTooLong, TooMany, Repeated, FirstLacks, SecondLacks}
+use Rattle.trees.specs.declared.Reason.the-variants.{Disagree, TooShort, Contents, JobTooLong, NotShared, ClaimLacks, ClaimDisagrees, ClaimSmall}
 use Rattle.trees.specs.declared.Body.{Body}
-use Rattle.trees.specs.declared.Body.the-variants.{S, T, K, J, O}
+use Rattle.trees.specs.declared.Body.the-variants.{S, T, K, C, J, O}
 
 unfoldable pub numberOf : Reason → ℕ
 numberOf BadByte = 1
@@ -21,12 +22,17 @@ numberOf Contents = 10
 numberOf JobTooLong = 11
 -- C-11: a leaf that stands in only one tree of a job that wants both to hold the same leaves
 numberOf NotShared = 12
+-- C-16: a required label that the claim lacks; three claimed leaves that disagree; a claim smaller than the largest size
+numberOf ClaimLacks = 13
+numberOf ClaimDisagrees = 14
+numberOf ClaimSmall = 15
 
--- the letter's byte: S, T, K, J, O
+-- the letter's byte: S, T, K, C (C-16: "A body with letter C"), J, O
 unfoldable pub letterOf : Body → ℕ
 letterOf S = 83
 letterOf T = 84
 letterOf K = 75
+letterOf C = 67
 letterOf J = 74
 letterOf O = 79
 

@@ -80,6 +80,9 @@ pub enum Reason {
     Contents,
     JobTooLong,
     NotShared,
+    ClaimLacks,
+    ClaimDisagrees,
+    ClaimSmall,
 }
 
 // The body that a refusal speaks of.
@@ -87,6 +90,7 @@ pub enum Body {
     S,
     T,
     K,
+    C,
     J,
     O,
 }
@@ -422,6 +426,9 @@ pub fn number(r: Reason) -> u8
         Reason::Contents => 10,
         Reason::JobTooLong => 11,
         Reason::NotShared => 12,
+        Reason::ClaimLacks => 13,
+        Reason::ClaimDisagrees => 14,
+        Reason::ClaimSmall => 15,
     }
 }
 
@@ -433,6 +440,7 @@ pub fn letter(b: Body) -> u8
         Body::S => b'S',
         Body::T => b'T',
         Body::K => b'K',
+        Body::C => b'C',
         Body::J => b'J',
         Body::O => b'O',
     }

@@ -1,8 +1,8 @@
 //! The engine beside the oracle's recurrence, both from texts to answer, in one run. Times are the least of all rounds.
 
-use crate::engine::{asked, largest_with, EDITION_2, FLAGS, STRICT};
-use oracle::agree::Answer;
-use oracle::bodies::{answer, read};
+use crate::engine::{asked, claim, largest_with, EDITION_2, FLAGS, STRICT};
+use oracle::agree::{common, Answer, Label};
+use oracle::bodies::{answer, joined, read};
 use oracle::families::{all_families, families, short_labels, Family};
 use oracle::fast;
 use oracle::limits::{LEAVES, TREE_TEXT};
@@ -27,7 +27,7 @@ fn plain(flags: usize, texts: [&[u8]; 3]) -> Vec<u8> {
     let Ok(bodies) = read(asked(flags), texts) else {
         return Vec::new();
     };
-    match fast::answer(&bodies.s, &bodies.t, &bodies.k) {
+    match fast::answer(&bodies.s, &bodies.t, &bodies.k.labels) {
         Answer::Set(set) => bodies.restricted(&bodies.s, &set),
         _ => Vec::new(),
     }
@@ -166,6 +166,59 @@ fn stages_table(effort: Effort, sorts: &[(String, Vec<Family>)]) {
     names.iter().zip(least(effort, &all, stages)).for_each(|(name, took)| stages_row(name, took));
 }
 
+/// Claims about a family: the engine's own set, that less its last leaf, and all common leaves; with the number that each is told. Nothing
+/// where the required labels clash or no leaf is shared.
+fn claims(f: &Family) -> Option<[(Vec<u8>, usize); 3]> {
+    let bodies = f.bodies.texts();
+    let texts = bodies.each_ref().map(|x| &x[..]);
+    let (set, _) = answer(asked(0), texts).ok()?;
+    let (_, less) = set.split_last().map(|(last, less)| (last, less.to_vec()))?;
+    let read = read(asked(0), texts).ok()?;
+    let all = common(&read.s, &read.t);
+    let clash = if all.len() > set.len() { 14 } else { 0 };
+    let text = |xs: &[Label]| joined(xs).into_bytes();
+    // a leaf that is required is missed before it is counted
+    let missed = if read.k.labels.is_empty() { 15 } else { 13 };
+    Some([(text(&set), 0), (text(&less), missed), (text(&all), clash)])
+}
+
+/// What the answer takes, the answer with its own set required, so that a list as long as the claim is read, and the verdict on each claim.
+fn claim_times(f: &Family, rounds: usize) -> [f64; 5] {
+    let bodies = f.bodies.texts();
+    let texts = bodies.each_ref().map(|x| &x[..]);
+    let mut out = vec![0u8; TREE_TEXT];
+    let claims = claims(f).unwrap();
+    claims.iter().for_each(|(text, number)| assert_eq!(claim(0, texts, text).number, *number, "{}", f.name));
+    let required = [texts[0], texts[1], &claims[0].0[..]];
+    in_turn(rounds, |i| {
+        match i {
+            0 => black_box(largest_with(0, texts, &mut out)),
+            1 => black_box(largest_with(0, required, &mut out)),
+            _ => black_box(claim(0, texts, &claims[i - 2].0)),
+        };
+    })
+}
+
+/// Verdicts on claims beside the answer: the families of short labels, and the first over each other sort. Last the greatest ratio of all.
+/// What a claim of the answer's set takes more than the answer with that set required is the search for three labels that clash.
+fn claims_table(effort: Effort, sorts: &[(String, Vec<Family>)]) {
+    println!("| claims, {LEAVES} leaves | answer, us | its set required, us | its set, us | to answer | one leaf less, us | to answer | all common leaves, us | to answer |");
+    println!("|---|---|---|---|---|---|---|---|---|");
+    let named = sorts.iter().flat_map(|(sort, fs)| fs.iter().map(move |f| (format!("{}{sort}", f.name), f)));
+    let (names, all): (Vec<String>, Vec<&Family>) = named.filter(|(_, f)| claims(f).is_some()).unzip();
+    let took: Vec<(String, [f64; 5])> = names.into_iter().zip(least(effort, &all, claim_times)).collect();
+    let row = |(name, [answer, required, rest @ ..]): &(String, [f64; 5])| {
+        let cells = rest.map(|t| format!("{t:.0} | {:.2}", t / answer)).join(" | ");
+        println!("| {name} | {answer:.0} | {required:.0} | {cells} |");
+    };
+    let brief: Vec<&str> = sorts[0].1.iter().map(|f| f.name).collect();
+    let first = |name: &str| name.starts_with(brief[0]);
+    took.iter().filter(|(name, _)| brief.contains(&&name[..]) || first(name)).for_each(row);
+    let ratio = |(_, [answer, _, rest @ ..]): &(String, [f64; 5])| rest.iter().fold(0.0, |most: f64, t| most.max(t / answer));
+    let (name, times) = took.iter().max_by(|a, b| ratio(a).total_cmp(&ratio(b))).unwrap();
+    row(&(format!("the greatest ratio: {name}"), *times));
+}
+
 pub fn run(short: bool) {
     let mut r = Random(80);
     let effort = if short { Effort { passes: 1, rounds: 2 } } else { Effort { passes: 10, rounds: 40 } };
@@ -173,4 +226,6 @@ pub fn run(short: bool) {
     table(effort, &mut r, &sorts);
     println!();
     stages_table(effort, &sorts);
+    println!();
+    claims_table(effort, &sorts);
 }

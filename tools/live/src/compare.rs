@@ -1,19 +1,23 @@
-//! Random bodies and jobs through the archive, compared with the oracle: numbers, the text's bytes, and every byte that must stay.
+//! Random bodies, claims and jobs through the archive, compared with the oracle: numbers, the text's bytes, and every byte that must stay.
 
-use crate::engine::{self, asked, AgreeResult, FLAGS};
-use oracle::bodies::{answer, refused, Refusal};
+use crate::engine::{self, asked, AgreeResult, EDITION_2, FLAGS};
+use oracle::bodies::{answer, judged, refused, Refusal};
+use oracle::claim_jobs::{damaged_claim, greatest_claim};
+use oracle::claims::drawn_claim;
 use oracle::drawn::{
     alike_bodies, damaged_quoted, large_bodies, large_cased, large_quoted, long_bodies, small_bodies, small_cased, small_quoted,
 };
 use oracle::edition_jobs::greatest_cased;
 use oracle::families::all_families;
-use oracle::job::{job, lines, strict, with_edition, EDITION_LINES};
+use oracle::job::{claim_job, job, lines, strict, with_edition, EDITION_LINES};
 use oracle::jobs::damaged;
 use oracle::lengths::greatest;
 use oracle::limits::{LEAVES, LINES, TREE_TEXT};
 use oracle::random::Random;
 
 const FILL: u8 = 0x5a;
+/// Bytes of the longest line of a claim that passes.
+const CLAIM_LINE: usize = "claim ok 80\n".len();
 
 /// What a call must come to: the size and the text of an answer, or a refusal.
 type Wanted = Result<(usize, Vec<u8>), Refusal>;
@@ -69,14 +73,44 @@ fn check_all(r: &mut Random, bodies: &[Vec<u8>; 3], greatest: usize) {
         let shown = format!("options {flags}, {shown}");
         check(&wanted, room, &shown, |out| engine::largest_with(flags, texts, out));
     }
-    let mut whole = with_edition(EDITION_LINES[r.below(3)], &job(texts[0], texts[1], texts[2]));
-    if r.below(2) == 0 {
-        whole = strict(&whole);
-    }
+    let mut whole = any_state(r, &job(texts[0], texts[1], texts[2]));
     if r.below(8) == 0 {
         whole = damaged(r, &whole);
     }
     let room = if r.below(3) == 0 { r.below(2 * greatest) } else { LINES };
+    check_job(&whole, room);
+    check_claim(r, texts);
+}
+
+/// The job strict or not, with any line of an edition or none.
+fn any_state(r: &mut Random, job: &[u8]) -> Vec<u8> {
+    let job = with_edition(EDITION_LINES[r.below(3)], job);
+    if r.below(2) == 0 {
+        strict(&job)
+    } else {
+        job
+    }
+}
+
+/// A claim about these bodies, through its entry under all flags and in a job.
+fn check_claim(r: &mut Random, texts: [&[u8]; 3]) {
+    let edition = r.below(2) * EDITION_2;
+    let claim = drawn_claim(r, asked(edition), texts);
+    let mut calls: Vec<(usize, Result<usize, Refusal>)> =
+        (0..=FLAGS).map(|flags| (flags, judged(asked(flags), texts, &claim))).collect();
+    if r.below(4) == 0 {
+        calls.push((unknown(r), Err(refused(10, 'J', 0))));
+    }
+    for (flags, wanted) in calls {
+        let wanted = wanted.map_or_else(|q| numbers(&q), |size| AgreeResult { size, ..Default::default() });
+        let shown = || format!("options {flags}, claim {:?}, bodies {:?}", String::from_utf8_lossy(&claim), texts.map(String::from_utf8_lossy));
+        assert_eq!(engine::claim(flags, texts, &claim), wanted, "{}", shown());
+    }
+    let mut whole = any_state(r, &claim_job(texts[0], texts[1], texts[2], &claim));
+    if r.below(8) == 0 {
+        whole = damaged_claim(r, &whole);
+    }
+    let room = if r.below(3) == 0 { r.below(CLAIM_LINE + 2) } else { LINES };
     check_job(&whole, room);
 }
 
@@ -114,6 +148,11 @@ pub fn run(count: u64, seed: u64) {
     // the longest answer, in an output that just has room for it, and in shorter ones
     for whole in [greatest(), strict(&greatest()), greatest_cased()] {
         for room in [LINES, LINES - 1, 4096, 0] {
+            check_job(&whole, room);
+        }
+    }
+    for whole in EDITION_LINES.map(greatest_claim) {
+        for room in [LINES, CLAIM_LINE, CLAIM_LINE - 1, 0] {
             check_job(&whole, room);
         }
     }

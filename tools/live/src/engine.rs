@@ -49,6 +49,17 @@ extern "C" {
         out: *mut u8,
         out_length: usize,
     ) -> AgreeResult;
+    fn agree_claim(
+        options: usize,
+        first: *const u8,
+        first_length: usize,
+        second: *const u8,
+        second_length: usize,
+        required: *const u8,
+        required_length: usize,
+        claim: *const u8,
+        claim_length: usize,
+    ) -> AgreeResult;
     fn agree_job(job: *const u8, job_length: usize, out: *mut u8, out_length: usize) -> AgreeResult;
 }
 
@@ -81,6 +92,23 @@ pub fn largest_with(options: usize, [first, second, required]: [&[u8]; 3], out: 
             required.len(),
             out.as_mut_ptr(),
             out.len(),
+        )
+    }
+}
+
+pub fn claim(options: usize, [first, second, required]: [&[u8]; 3], claim: &[u8]) -> AgreeResult {
+    // As above; it writes nothing.
+    unsafe {
+        agree_claim(
+            options,
+            first.as_ptr(),
+            first.len(),
+            second.as_ptr(),
+            second.len(),
+            required.as_ptr(),
+            required.len(),
+            claim.as_ptr(),
+            claim.len(),
         )
     }
 }

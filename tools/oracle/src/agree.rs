@@ -5,12 +5,18 @@ use crate::text::Tree;
 /// The bytes of a label: decoded, or its key, by which an edition compares it.
 pub type Label = Vec<u8>;
 
+/// A label of a list, told by its number there, that the first tree lacks, or only the second.
+#[derive(Clone, Debug, PartialEq)]
+pub enum Lacks {
+    First(usize),
+    Second(usize),
+}
+
 /// What two trees and a required list come to, 1 to 5 and 9 to 12 left aside.
 #[derive(Clone, Debug, PartialEq)]
 pub enum Answer {
-    FirstLacks(usize),
-    SecondLacks(usize),
-    Disagree(Label, Label, Label),
+    Lacking(Lacks),
+    Disagree([Label; 3]),
     Set(Vec<Label>),
 }
 
@@ -46,7 +52,7 @@ fn outer(t: &Tree, three: [&Label; 3]) -> usize {
 }
 
 /// The first three of a sorted list, compared label by label, that have different closer pairs.
-fn first_clash(s: &Tree, t: &Tree, xs: &[Label]) -> Option<[Label; 3]> {
+pub fn first_clash(s: &Tree, t: &Tree, xs: &[Label]) -> Option<[Label; 3]> {
     for i in 0..xs.len() {
         for j in i + 1..xs.len() {
             for k in j + 1..xs.len() {
@@ -71,36 +77,40 @@ pub fn stray(t: &Tree, other: &Tree) -> Option<usize> {
     t.leaves().iter().position(|x| !holds(other, x))
 }
 
-pub fn lacking(s: &Tree, t: &Tree, required: &[Label]) -> Option<Answer> {
-    for (i, x) in required.iter().enumerate() {
+/// The first label of a list, in its order, that a tree lacks.
+pub fn lacking(s: &Tree, t: &Tree, list: &[Label]) -> Option<Lacks> {
+    for (i, x) in list.iter().enumerate() {
         if !holds(s, x) {
-            return Some(Answer::FirstLacks(i));
+            return Some(Lacks::First(i));
         }
         if !holds(t, x) {
-            return Some(Answer::SecondLacks(i));
+            return Some(Lacks::Second(i));
         }
     }
     None
 }
 
-fn sorted(xs: &[Label]) -> Vec<Label> {
+pub fn sorted(xs: &[Label]) -> Vec<Label> {
     let mut ys = xs.to_vec();
     ys.sort();
     ys
 }
 
-pub fn by_trying_all(s: &Tree, t: &Tree, required: &[Label]) -> Answer {
-    if let Some(a) = lacking(s, t, required) {
-        return a;
-    }
-    if let Some([a, b, c]) = first_clash(s, t, &sorted(required)) {
-        return Answer::Disagree(a, b, c);
-    }
-    let all = common(s, t);
+/// All subsets of a few labels, each in the labels' order.
+pub fn subsets(all: &[Label]) -> impl Iterator<Item = Vec<Label>> + '_ {
     assert!(all.len() <= 16);
+    (0..1u32 << all.len()).map(|mask| (0..all.len()).filter(|i| mask >> i & 1 == 1).map(|i| all[i].clone()).collect())
+}
+
+pub fn by_trying_all(s: &Tree, t: &Tree, required: &[Label]) -> Answer {
+    if let Some(lacks) = lacking(s, t, required) {
+        return Answer::Lacking(lacks);
+    }
+    if let Some(three) = first_clash(s, t, &sorted(required)) {
+        return Answer::Disagree(three);
+    }
     let mut best: Option<Vec<Label>> = None;
-    for mask in 0..1u32 << all.len() {
-        let set: Vec<Label> = (0..all.len()).filter(|i| mask >> i & 1 == 1).map(|i| all[i].clone()).collect();
+    for set in subsets(&common(s, t)) {
         let better = match &best {
             None => true,
             Some(b) => set.len() > b.len() || set.len() == b.len() && set < *b,

@@ -1,6 +1,8 @@
-//! What two trees and a required list come to, from their texts: the table's rows from the reading of S to number 8, in their order.
+//! What two trees and a required list come to, and a claim about them, from their texts: the table's rows from the reading of S on, in
+//! their order.
 
-use crate::agree::{by_trying_all, common, restrict, stray, Answer, Label};
+use crate::agree::{by_trying_all, common, restrict, stray, Answer, Label, Lacks};
+use crate::claim::{self, Verdict};
 use crate::edition::Edition;
 use crate::fast;
 use crate::text::{read_parts, read_placed, shown, Fault, Tree};
@@ -13,7 +15,8 @@ pub struct Options {
     pub edition: Edition,
 }
 
-/// A refusal. Number 8 has three labels besides, spelled as they are printed, and where each begins in the list, or in the job that holds it.
+/// A refusal. Numbers 8 and 14 have three labels besides, spelled as they are printed, and where each begins in the list or the claim, or in
+/// the job that holds it.
 #[derive(Clone, Debug, PartialEq)]
 pub struct Refusal {
     pub number: u32,
@@ -51,21 +54,49 @@ pub fn joined<'a>(xs: impl IntoIterator<Item = &'a Label>) -> String {
     xs.into_iter().map(|x| text(&shown(x))).collect::<Vec<_>>().join(",")
 }
 
+/// A list that was read: its labels, by the keys by which they are compared, and where each begins.
+pub struct Listed {
+    letter: char,
+    pub labels: Vec<Label>,
+    begins: Vec<usize>,
+}
+
+impl Listed {
+    fn read(edition: Edition, letter: char, text: &[u8]) -> Result<Listed, Refusal> {
+        let (labels, parts) = read_parts(edition, text).map_err(told(letter))?;
+        Ok(Listed { letter, labels: edition.keys(&labels), begins: parts.iter().map(|part| part.start).collect() })
+    }
+
+    /// A refusal at the label of such a number.
+    fn refused(&self, number: u32, i: usize) -> Refusal {
+        refused(number, self.letter, self.begins[i])
+    }
+
+    /// 6 or 7.
+    fn lacking(&self, lacks: Lacks) -> Refusal {
+        match lacks {
+            Lacks::First(i) => self.refused(6, i),
+            Lacks::Second(i) => self.refused(7, i),
+        }
+    }
+}
+
 /// Bodies that were read. Labels have the keys by which they are compared.
 pub struct Read {
     edition: Edition,
     pub s: Tree,
     pub t: Tree,
-    pub k: Vec<Label>,
-    /// Where the labels of the list begin.
-    begins: Vec<usize>,
+    pub k: Listed,
     /// How the first tree spells its labels, by their keys.
     spelled: HashMap<Label, Label>,
 }
 
+fn told(letter: char) -> impl Fn(Fault) -> Refusal {
+    move |f| refused(f.number, letter, f.place)
+}
+
 pub fn read(options: Options, [s, t, k]: [&[u8]; 3]) -> Result<Read, Refusal> {
     let Options { strict, edition } = options;
-    let told = |letter: char| move |f: Fault| refused(f.number, letter, f.place);
     let (first, s_places) = read_placed(edition, s).map_err(told('S'))?;
     let (second, t_places) = read_placed(edition, t).map_err(told('T'))?;
     let (s, t) = (first.keyed(edition), second.keyed(edition));
@@ -76,11 +107,13 @@ pub fn read(options: Options, [s, t, k]: [&[u8]; 3]) -> Result<Read, Refusal> {
             }
         }
     }
-    let (k, k_parts) = read_parts(edition, k).map_err(told('K'))?;
-    let begins = k_parts.iter().map(|part| part.start).collect();
+    let k = Listed::read(edition, 'K', k)?;
     let spelled = s.leaves().into_iter().zip(first.leaves()).collect();
-    Ok(Read { edition, s, t, k: edition.keys(&k), begins, spelled })
+    Ok(Read { edition, s, t, k, spelled })
 }
+
+/// So many common leaves are few enough to try all subsets.
+const FEW: usize = 10;
 
 impl Read {
     /// Labels as the first tree spells them.
@@ -93,29 +126,59 @@ impl Read {
         restrict(t, set).map_or(Vec::new(), |r| r.relabelled(&mut |x| self.spelled[x].clone()).normal_text(self.edition))
     }
 
-    /// Number 8 for these three.
-    fn clash(&self, three: [Label; 3]) -> Refusal {
-        let begins = three.each_ref().map(|x| self.begins[self.k.iter().position(|y| y == x).unwrap()]);
-        Refusal { labels: self.spelled(&three).into_iter().zip(begins).collect(), ..refused(8, 'K', 0) }
+    /// A number that names these three labels of a list.
+    fn clash(&self, number: u32, list: &Listed, three: [Label; 3]) -> Refusal {
+        let begins = three.each_ref().map(|x| list.begins[list.labels.iter().position(|y| y == x).unwrap()]);
+        Refusal { labels: self.spelled(&three).into_iter().zip(begins).collect(), ..refused(number, list.letter, 0) }
+    }
+
+    fn few(&self) -> bool {
+        common(&self.s, &self.t).len() <= FEW
+    }
+
+    /// The largest set, or 6, 7 or 8 of the required list.
+    fn largest(&self) -> Result<Vec<Label>, Refusal> {
+        let (s, t, k) = (&self.s, &self.t, &self.k);
+        let quick = fast::answer(s, t, &k.labels);
+        // all subsets where there are few enough; the recurrence must say the same
+        let answer = if self.few() { by_trying_all(s, t, &k.labels) } else { quick.clone() };
+        assert_eq!(answer, quick);
+        match answer {
+            Answer::Lacking(lacks) => Err(k.lacking(lacks)),
+            Answer::Disagree(three) => Err(self.clash(8, k, three)),
+            Answer::Set(set) => Ok(set),
+        }
+    }
+
+    /// The size of a claim that passes, or what comes after number 8.
+    fn judged(&self, claim: &Listed) -> Result<usize, Refusal> {
+        let (s, t, k, c) = (&self.s, &self.t, &self.k, &claim.labels);
+        let quick = claim::quickly(s, t, &k.labels, c);
+        let verdict = if self.few() { claim::by_trying_all(s, t, &k.labels, c) } else { quick.clone() };
+        assert_eq!(verdict, quick);
+        match verdict {
+            Verdict::Lacking(lacks) => Err(claim.lacking(lacks)),
+            Verdict::Misses(i) => Err(k.refused(13, i)),
+            Verdict::Disagree(three) => Err(self.clash(14, claim, three)),
+            Verdict::Small => Err(refused(15, claim.letter, 0)),
+            Verdict::Passes => Ok(c.len()),
+        }
     }
 }
 
 /// The set in label order, spelled as it is printed, and the normal text of its tree; or a refusal.
 pub fn answer(options: Options, texts: [&[u8]; 3]) -> Result<(Vec<Label>, Vec<u8>), Refusal> {
     let read = read(options, texts)?;
-    let (s, t, k) = (&read.s, &read.t, &read.k);
-    let quick = fast::answer(s, t, k);
-    // all subsets where there are few enough; the recurrence must say the same
-    let answer = if common(s, t).len() <= 10 { by_trying_all(s, t, k) } else { quick.clone() };
-    assert_eq!(answer, quick);
-    match answer {
-        Answer::FirstLacks(i) => Err(refused(6, 'K', read.begins[i])),
-        Answer::SecondLacks(i) => Err(refused(7, 'K', read.begins[i])),
-        Answer::Disagree(a, b, c) => Err(read.clash([a, b, c])),
-        Answer::Set(set) => {
-            let tree = read.restricted(s, &set);
-            assert_eq!(tree, read.restricted(t, &set));
-            Ok((read.spelled(&set), tree))
-        }
-    }
+    let set = read.largest()?;
+    let tree = read.restricted(&read.s, &set);
+    assert_eq!(tree, read.restricted(&read.t, &set));
+    Ok((read.spelled(&set), tree))
+}
+
+/// The size of a claim that passes, or a refusal. The claim is read before anything is said of the required list's labels.
+pub fn judged(options: Options, texts: [&[u8]; 3], claim: &[u8]) -> Result<usize, Refusal> {
+    let read = read(options, texts)?;
+    let claim = Listed::read(options.edition, 'C', claim)?;
+    read.largest()?;
+    read.judged(&claim)
 }

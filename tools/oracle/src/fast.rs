@@ -2,7 +2,7 @@
 //! labels are in its best set, its size, and the set as a number whose highest bit is the smallest label, so that the greatest
 //! cell is the first of the largest sets.
 
-use crate::agree::{common, lacking, Answer, Label};
+use crate::agree::{common, lacking, sorted, Answer, Label};
 use crate::text::Tree;
 use std::collections::HashMap;
 
@@ -92,8 +92,8 @@ pub fn solve(s: &Tree, t: &Tree, required: &[Label]) -> Option<Vec<Label>> {
         .then(|| all.iter().enumerate().filter(|(i, _)| best.set >> (127 - i) & 1 == 1).map(|(_, x)| x.clone()).collect())
 }
 
-/// The lca numbers of all pairs, then all threes.
-fn first_clash(s: &Tree, t: &Tree, xs: &[Label]) -> [Label; 3] {
+/// The lca numbers of all pairs, then all threes of a sorted list.
+pub fn first_clash(s: &Tree, t: &Tree, xs: &[Label]) -> Option<[Label; 3]> {
     let ranks: HashMap<Label, usize> = xs.iter().cloned().enumerate().map(|(i, x)| (x, i)).collect();
     let lcas = |t: &Tree| {
         let nodes = nodes(t, &ranks);
@@ -132,25 +132,20 @@ fn first_clash(s: &Tree, t: &Tree, xs: &[Label]) -> [Label; 3] {
         for j in i + 1..xs.len() {
             for k in j + 1..xs.len() {
                 if outer(&p, i, j, k) != outer(&q, i, j, k) {
-                    return [xs[i].clone(), xs[j].clone(), xs[k].clone()];
+                    return Some([xs[i].clone(), xs[j].clone(), xs[k].clone()]);
                 }
             }
         }
     }
-    unreachable!()
+    None
 }
 
 pub fn answer(s: &Tree, t: &Tree, required: &[Label]) -> Answer {
-    if let Some(a) = lacking(s, t, required) {
-        return a;
+    if let Some(lacks) = lacking(s, t, required) {
+        return Answer::Lacking(lacks);
     }
     match solve(s, t, required) {
         Some(set) => Answer::Set(set),
-        None => {
-            let mut xs = required.to_vec();
-            xs.sort();
-            let [a, b, c] = first_clash(s, t, &xs);
-            Answer::Disagree(a, b, c)
-        }
+        None => Answer::Disagree(first_clash(s, t, &sorted(required)).unwrap()),
     }
 }

@@ -1,6 +1,6 @@
 //! Jobs: contents and the printed lines.
 
-use crate::bodies::{answer, joined, refused, text, Options, Refusal};
+use crate::bodies::{answer, joined, judged, refused, text, Options, Refusal};
 use crate::edition::Edition;
 use crate::limits::{DIGITS, JOB};
 
@@ -11,10 +11,22 @@ pub const EDITION_LINES: [&str; 3] = ["", FIRST, SECOND];
 pub const FIRST: &str = "E 1\n";
 pub const SECOND: &str = "E 2\n";
 
-/// The job that holds three bodies.
+/// The letters of the bodies, in their order; a job may be without the last, the claim.
+const LETTERS: [char; 4] = ['S', 'T', 'K', 'C'];
+
+/// The job that holds three bodies, or four.
+pub fn job_of(bodies: &[&[u8]]) -> Vec<u8> {
+    let lines: String = LETTERS.iter().zip(bodies).map(|(letter, body)| format!("{letter} {}\n", body.len())).collect();
+    [lines.as_bytes(), b"\n", &bodies.concat()].concat()
+}
+
 pub fn job(s: &[u8], t: &[u8], k: &[u8]) -> Vec<u8> {
-    let head = format!("S {}\nT {}\nK {}\n\n", s.len(), t.len(), k.len());
-    [head.as_bytes(), s, t, k].concat()
+    job_of(&[s, t, k])
+}
+
+/// The job with a claim.
+pub fn claim_job(s: &[u8], t: &[u8], k: &[u8], c: &[u8]) -> Vec<u8> {
+    job_of(&[s, t, k, c])
 }
 
 /// The job with the line `strict` in front.
@@ -42,40 +54,65 @@ fn edition(text: &[u8]) -> (Edition, &[u8]) {
     }
 }
 
-/// What is asked, and the three bodies, where the contents keep their rules.
-fn contents(job: &[u8]) -> Option<(Options, [&[u8]; 3])> {
+/// The length that the next line tells of the body with this letter, and what follows the line.
+fn length(letter: char, text: &[u8]) -> Option<(usize, &[u8])> {
+    let end = text.iter().position(|&b| b == b'\n')?;
+    let digits = text[..end].strip_prefix(format!("{letter} ").as_bytes())?;
+    let plain = (1..=DIGITS).contains(&digits.len()) && digits.iter().all(u8::is_ascii_digit) && (digits.len() == 1 || digits[0] != b'0');
+    plain.then(|| (String::from_utf8_lossy(digits).parse().unwrap(), &text[end + 1..]))
+}
+
+/// A job whose contents keep their rules: what is asked, the three bodies, and the claim, if there is one.
+struct Contents<'a> {
+    options: Options,
+    bodies: [&'a [u8]; 3],
+    claim: Option<&'a [u8]>,
+}
+
+fn contents(job: &[u8]) -> Option<Contents<'_>> {
     let rest = job.strip_prefix(STRICT).unwrap_or(job);
     let strict = rest.len() < job.len();
     let (edition, mut rest) = edition(rest);
     let mut lengths = Vec::new();
-    for letter in *b"STK" {
-        let end = rest.iter().position(|&b| b == b'\n')?;
-        let (line, tail) = (&rest[..end], &rest[end + 1..]);
-        let digits = line.strip_prefix(&[letter, b' '][..])?;
-        let plain = (1..=DIGITS).contains(&digits.len()) && digits.iter().all(u8::is_ascii_digit) && (digits.len() == 1 || digits[0] != b'0');
-        if !plain {
-            return None;
+    for letter in LETTERS {
+        match length(letter, rest) {
+            Some((n, tail)) => {
+                lengths.push(n);
+                rest = tail;
+            }
+            // no claim; a line of it that breaks its rules is not the empty line either
+            None if letter == 'C' => (),
+            None => return None,
         }
-        lengths.push(String::from_utf8_lossy(digits).parse::<usize>().unwrap());
-        rest = tail;
     }
-    let rest = rest.strip_prefix(b"\n")?;
+    let mut rest = rest.strip_prefix(b"\n")?;
     if lengths.iter().sum::<usize>() != rest.len() {
         return None;
     }
-    let (s, rest) = rest.split_at(lengths[0]);
-    let (t, k) = rest.split_at(lengths[1]);
-    Some((Options { strict, edition }, [s, t, k]))
+    let mut bodies = Vec::new();
+    for n in lengths {
+        let (body, tail) = rest.split_at(n);
+        bodies.push(body);
+        rest = tail;
+    }
+    Some(Contents { options: Options { strict, edition }, bodies: [bodies[0], bodies[1], bodies[2]], claim: bodies.get(3).copied() })
 }
 
-/// The lines of the set, or a refusal.
+/// The lines of the set, or of a claim that passes; or a refusal.
 pub fn lines(job: &[u8]) -> Result<String, Refusal> {
     if job.len() > JOB {
         return Err(refused(11, 'J', 0));
     }
-    let (options, bodies) = contents(job).ok_or(refused(10, 'J', 0))?;
-    let (set, tree) = answer(options, bodies).map_err(|q| q.of_list_at(job.len() - bodies[2].len()))?;
-    Ok(format!("size {}\nset {}\ntree {}", set.len(), joined(&set), text(&tree)))
+    let Contents { options, bodies, claim } = contents(job).ok_or(refused(10, 'J', 0))?;
+    let lines = match claim {
+        None => answer(options, bodies).map(|(set, tree)| format!("size {}\nset {}\ntree {}", set.len(), joined(&set), text(&tree))),
+        Some(claim) => judged(options, bodies, claim).map(|size| format!("claim ok {size}")),
+    };
+    let claim_at = job.len() - claim.map_or(0, <[u8]>::len);
+    lines.map_err(|q| match q.letter {
+        'C' => q.of_list_at(claim_at),
+        _ => q.of_list_at(claim_at - bodies[2].len()),
+    })
 }
 
 /// What the program `agree` must print.

@@ -1,9 +1,10 @@
 //! The stored stream of jobs: each is its length as two bytes and the job.
 
 use crate::agree::Label;
+use crate::claim_jobs::claim_jobs;
 use crate::drawn::{labels, small_bodies};
 use crate::edition_jobs::{edition_jobs, otherwise};
-use crate::job::{job, printed};
+use crate::job::{job, job_of, printed};
 use crate::lengths::length_jobs;
 use crate::limits::{DIGITS, JOB, LEAVES, LIST};
 use crate::places::place_jobs;
@@ -96,13 +97,14 @@ pub fn spoilt(whole: &[u8], lines: usize) -> Vec<Vec<u8>> {
 }
 
 /// The job of just so many bytes, its contents right, that holds these bodies after one of them has grown too long by far.
-pub fn filled(n: usize, bodies: [&[u8]; 3], body: usize, filler: &[u8]) -> Vec<u8> {
-    let mut bodies = bodies.map(|x| x.to_vec());
-    let fixed = job(&bodies[0], &bodies[1], &bodies[2]).len();
+pub fn filled<const N: usize>(n: usize, bodies: [&[u8]; N], body: usize, filler: &[u8]) -> Vec<u8> {
+    let fixed = job_of(&bodies).len();
     // the contents tell the length of the body that grows in the most digits in the end
     let digits = DIGITS - bodies[body].len().to_string().len();
-    bodies[body].extend(filler.iter().cycle().take(n - fixed - digits));
-    let made = job(&bodies[0], &bodies[1], &bodies[2]);
+    let grown: Vec<u8> = bodies[body].iter().chain(filler.iter().cycle().take(n - fixed - digits)).copied().collect();
+    let mut bodies = bodies;
+    bodies[body] = &grown;
+    let made = job_of(&bodies);
     assert_eq!(made.len(), n);
     made
 }
@@ -187,6 +189,7 @@ pub fn jobs() -> Vec<Vec<u8>> {
     let again = otherwise(&out);
     out.extend(edition_jobs());
     out.extend(again);
+    out.extend(claim_jobs());
     out
 }
 

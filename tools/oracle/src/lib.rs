@@ -3,6 +3,11 @@
 pub mod agree;
 pub mod bodies;
 pub mod cases;
+pub mod claim;
+pub mod claim_contents;
+pub mod claim_jobs;
+pub mod claim_rows;
+pub mod claims;
 pub mod drawn;
 pub mod edition;
 pub mod edition_jobs;

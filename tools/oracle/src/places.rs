@@ -50,7 +50,7 @@ fn cut_trees() -> Vec<Vec<u8>> {
     cut(&long_tree()).into_iter().map(told).collect()
 }
 
-fn cut_lists() -> Vec<Vec<u8>> {
+pub fn cut_lists() -> Vec<Vec<u8>> {
     let told = |(p, x): (usize, Vec<u8>)| {
         assert_eq!(read_parts(Edition::First, &x).err(), Some(Fault { number: 1, place: p }));
         x

@@ -1,8 +1,9 @@
 //! What the programs are given.
 
+use oracle::claim_jobs::{family_claim_jobs, greatest_claim};
 use oracle::edition_jobs::greatest_cased;
 use oracle::families::{family_jobs, long_labels, long_quoted};
-use oracle::job::{every_state, job, strict, with_edition, SECOND};
+use oracle::job::{claim_job, every_state, job, strict, with_edition, FIRST, SECOND};
 use oracle::lengths::greatest;
 use oracle::limits::{JOB, LABEL, LEAVES, LIST, TREE_TEXT};
 use oracle::trees::caterpillar;
@@ -30,6 +31,12 @@ fn of_length_after(lines: &[u8], n: usize, body: usize) -> Vec<u8> {
     [lines, &of_length(n - lines.len(), body)].concat()
 }
 
+/// The same with a claim that is too long by far.
+fn claim_of_length(n: usize) -> Vec<u8> {
+    let filler = [&b",a"[..], b"a", b" ", b"'"][n % 4];
+    jobs::filled(n, [b"((a,b),c);", b"((a,c),b);", b"a", b"b"], 3, filler)
+}
+
 /// The same with the line `strict`.
 fn strict_of_length(n: usize, body: usize) -> Vec<u8> {
     of_length_after(&strict(b""), n, body)
@@ -50,6 +57,11 @@ fn answered() -> Vec<u8> {
     job(b"((a,b),(c,d));", b"((a,c),(b,d));", b"a")
 }
 
+/// A job whose claim passes, one that is too small, one without the required label, and one that disagrees.
+fn claimed() -> [Vec<u8>; 4] {
+    [&b"d,a"[..], b"a", b"b,c", b"c,b,a"].map(|claim| claim_job(b"((a,b),(c,d));", b"((a,c),(b,d));", b"a", claim))
+}
+
 /// The job, and bytes after it up to a length.
 fn with_tail(mut job: Vec<u8>, n: usize, tail: u8) -> Vec<u8> {
     job.resize(n, tail);
@@ -63,6 +75,8 @@ fn long_jobs() -> Vec<Vec<u8>> {
         out.push(with_tail(answered(), n, b'a'));
         out.push(with_tail(strict(&answered()), n, b'a'));
         out.push(with_tail(stray(), n, b','));
+        out.extend(claimed().map(|x| with_tail(x, n, b'a')));
+        out.push(claim_of_length(n));
         out.extend(every_state(b"").iter().flat_map(|lines| [0, 1, 2].map(|body| of_length_after(lines, n, body))));
     }
     for n in [2 * JOB, 2 * JOB + 1, 65_536, 65_537, 5 * MEGABYTE] {
@@ -72,6 +86,7 @@ fn long_jobs() -> Vec<Vec<u8>> {
         out.push(with_tail(of_length(JOB, 2), n, b'a'));
         out.push(with_tail(strict_of_length(JOB, 2), n, b'a'));
         out.push(with_tail(with_edition(SECOND, &answered()), n, b'a'));
+        out.extend([claimed()[0].clone(), claim_of_length(JOB)].map(|x| with_tail(x, n, b'a')));
     }
     out
 }
@@ -88,11 +103,20 @@ fn refusals() -> Vec<Vec<u8>> {
     let more = [&open[..], b",'"].concat();
     for list in [&b"a b"[..], b"a,", long.as_bytes(), &many, b"a,a", b"''", b"a,'a", quoted.as_bytes(), &more, b"a_b,'a b'"] {
         out.push(job(b"(a,b);", b"(b,c);", list));
+        out.push(claim_job(b"(a,b);", b"(b,c);", b"z", list));
     }
     out.push(job(b"(a,b);", b"(b,c);", b"b,c"));
     out.push(job(b"(a,b);", b"(b,c);", b"b,a,c"));
     out.push(job(b"((a,b),c);", b"((a,c),b);", b"c,b,a"));
     out.push(job(b"((a_b,'c_d'),'e');", b"(('a b',e),'c_d');", b"'e','c_d',a_b"));
+    // claims: each verdict, and what goes before it
+    out.extend(claimed());
+    for claim in [&b"x"[..], b"a,y", b"b,a", b"a", b"b", b""] {
+        out.push(claim_job(b"((A,b),x);", b"((b,a),y);", b"b", claim));
+    }
+    out.push(claim_job(b"a;", b"b;", b"", b""));
+    out.push(claim_job(b"((a,b),c);", b"((a,c),b);", b"c,b,a", b"a,x"));
+    out.push(claim_job(b"((a_b,'c_d'),'e');", b"(('a b',e),'c_d');", b"'e'", b"'c_d',e,a_b"));
     out.push(b"S 2".to_vec());
     out.push(job(b"((a,b),c);", b"((b,a),x);", b""));
     out.push(job(b"(a,b);", b"((b,x),a);", b"x"));
@@ -101,6 +125,10 @@ fn refusals() -> Vec<Vec<u8>> {
     out.push(job(b"((Ab,c),D);", b"((aB,C),d);", b"AB,d"));
     out.push(job(b"(A,a);", b"(a,A);", b"a,A"));
     out.push(job(b"((A,b),C);", b"((a,c),B);", b"c,B,a"));
+    // under it a claim that passes, 5 and 14
+    out.push(claim_job(b"((Ab,c),D);", b"((aB,C),d);", b"AB", b"d,C,aB"));
+    out.push(claim_job(b"(a,b);", b"(b,a);", b"a", b"a,A"));
+    out.push(claim_job(b"((A,b),C);", b"((a,c),B);", b"", b"c,B,a"));
     out
 }
 
@@ -110,11 +138,13 @@ pub fn jobs(examples: &str) -> Vec<Vec<u8>> {
     out.push(greatest());
     out.push(strict(&greatest()));
     out.push(greatest_cased());
+    out.extend(["", FIRST, SECOND].map(greatest_claim));
     out.push(all_of(&long_labels(LEAVES)));
     out.push(stray());
     out.extend(refusals().iter().flat_map(|x| every_state(x)));
     out.extend(long_jobs());
     out.extend(family_jobs());
+    out.extend(family_claim_jobs());
     out.extend(jobs::jobs());
     out
 }
@@ -130,6 +160,11 @@ pub fn slow_jobs() -> Vec<Vec<u8>> {
         greatest(),
         strict(&greatest()),
         greatest_cased(),
+        claimed()[0].clone(),
+        claimed()[3].clone(),
+        greatest_claim(SECOND),
+        claim_of_length(JOB),
+        claim_of_length(JOB + 1),
         of_length(JOB, 2),
         of_length(JOB + 1, 2),
         strict_of_length(JOB, 2),

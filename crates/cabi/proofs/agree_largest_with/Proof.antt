@@ -1,8 +1,9 @@
--- `cabi::agree_largest_with` meets its contract: flags that are not known are refused. Assumes nothing.
+-- `agree_largest_with` meets its contract. Assumes nothing.
 use mathlib.Core.Path.{_∙_, sym, ap}
 use lib.ListN.{length}
+use borrow.Author.Tests.{not-true, not-false, leb-true, leb-false}
 use Rattle.mast.specs.Largest.{Solution, outputOf}
-use Rattle.cabi.specs.Numbers.{numbersOf}
+use Rattle.cabi.specs.Numbers.{numbersOf, refusedWith}
 use Rattle.cabi.proofs.HostLaws.{flags-refused, flags-known}
 use borrow.Author.Needs.{needs}
 use Rattle.cabi.proofs.agree_largest_with.Statement.{statement}
@@ -11,16 +12,30 @@ use Rattle.cabi.proofs.agree_largest_with.Tie as tie
 returns : tie.Need-returns
 unfolding numbersOf outputOf
 returns c =
-    let a = c .before .before .before .before .before .before .args in
-    let e = flags-refused (a .first .now) (a .second .now) (a .required .now) (length (a .out .now)) (a .flags) (c .before .if1 .taken) in
-    (c .refused-with .ensures ∙ ap numbersOf (sym e), ap (λ (x : Solution). outputOf x (a .out .now)) (sym e))
+    let a = c .before .before .before .before .before .before .before .before .args in
+    let l = leb-false (a .flags) 3 (sym (c .before .before .before .is-known .ensures) ∙ not-true _ (c .before .before .if1 .taken)) in
+    let e = flags-refused (a .first .now) (a .second .now) (a .required .now) (length (a .out .now)) (a .flags) l in
+    (c .refused-with .ensures ∙ ap refusedWith (c .before .unknown-flags .ensures) ∙ ap numbersOf (sym e), ap (λ (x : Solution). outputOf x (a .out .now)) (sym e))
+
+options-of-requires : tie.Need-options-of-requires
+options-of-requires c κs =
+    leb-true (c .before .before .before .before .before .before .args .flags) 3 (sym (c .before .is-known .ensures) ∙ not-false _ (c .if1 .left))
 
 returns-2 : tie.Need-returns-2
 returns-2 c =
-    let o = c .before .before .before .before in
-    let a = o .before .before .before .before .before .before .args in
-    let e = flags-known (a .first .now) (a .second .now) (a .required .now) (length (a .out .now)) (a .flags) (o .options-of .result) (o .options-of .ensures) in
+    let a = c .before .before .before .before .before .before .before .before .before .before .before .args in
+    let e = flags-known (a .first .now) (a .second .now) (a .required .now) (length (a .out .now)) (a .flags) _ (c .before .before .before .before .options-of .ensures) in
     (c .before .before .answered .ensures .0 ∙ ap numbersOf (sym e), c .before .before .answered .ensures .1 ∙ ap (λ (x : Solution). outputOf x (a .out .now)) (sym e))
 
 pub agree-largest-with-spec : {M : Type 1} → statement M
-agree-largest-with-spec = tie.close (tie.spec (λ c. search needs) (λ c κs. search needs) returns (λ c κs. search needs) (λ c κs. search needs) (λ c. search needs) returns-2)
+agree-largest-with-spec =
+    tie.close
+    (tie.spec
+    (λ c κs. search needs)
+    (λ c κs. search needs)
+    (λ c κs. search needs)
+    returns
+    options-of-requires
+    (λ c κs. search needs)
+    (λ c. search needs)
+    returns-2)

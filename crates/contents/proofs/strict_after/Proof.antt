@@ -24,9 +24,9 @@ returns-2 c =
       small-at _ _ (g .0 .0) (g .0 .1 .0) (g .1) (s2 .pre),
     )
 
-add-t13 : tie.Need-add-t13
+add-t14 : tie.Need-add-t14
 unfolding line bytesOf
-add-t13 c =
+add-t14 c =
     let s1 = c .before .before .before .before .before in
     let s2 = s1 .before .before .before in
     let g = s1 .state .given in
@@ -42,10 +42,10 @@ returns-3 c =
     let s = small-at _ _ (g .0 .0) (g .0 .1 .0) (g .1) (s2 .pre) in
     let e = sym (c .before .begins-at .ensures) ∙ not-false _ (c .if1 .left) in (
       from-at _ _ _ _ (g .0 .0) (g .0 .1 .0) (g .1) (line-stood (bytesOf "strict") withStrict stay (s2 .args .job .now) (g .0 .1 .0) (g .0 .0) _ refl e),
-      (record { one = s .0 .one; two = s .0 .two; three = s .0 .three }, begins-inside (line (bytesOf "strict")) (s2 .args .job .now) (g .0 .1 .0) (s .1) e),
+      (record { one = s .0 .one; two = s .0 .two; three = s .0 .three; four = s .0 .four }, begins-inside (line (bytesOf "strict")) (s2 .args .job .now) (g .0 .1 .0) (s .1) e),
     )
 
 pub strict-after-spec : {M : Type 1} → statement M
 strict-after-spec =
     tie.close
-    (tie.spec (λ c. search needs) (λ c. search needs) returns (λ c κs. search needs) returns-2 add-t13 returns-3)
+    (tie.spec (λ c. search needs) (λ c. search needs) returns (λ c κs. search needs) returns-2 add-t14 returns-3)

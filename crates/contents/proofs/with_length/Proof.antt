@@ -6,21 +6,6 @@ use borrow.Author.Needs.{needs}
 use Rattle.contents.proofs.with_length.Statement.{statement}
 use Rattle.contents.proofs.with_length.Tie as tie
 
-enum-told : tie.Need-enum-told
-enum-told c = search needs
-
-enum-told-2 : tie.Need-enum-told-2
-enum-told-2 c = search needs
-
-enum-told-3 : tie.Need-enum-told-3
-enum-told-3 c = search needs
-
-enum-told-4 : tie.Need-enum-told-4
-enum-told-4 c = search needs
-
-enum-told-5 : tie.Need-enum-told-5
-enum-told-5 c = search needs
-
 returns : tie.Need-returns
 unfolding withLength
 returns c =
@@ -51,17 +36,25 @@ returns-5 c =
     let a = c .before .before .args in
     ap (λ (b : Body). withLength b (a .n) (a .table)) (sym (c .enum-told5 .given .1))
 
+returns-6 : tie.Need-returns-6
+unfolding withLength
+returns-6 c =
+    let a = c .before .before .args in
+    ap (λ (b : Body). withLength b (a .n) (a .table)) (sym (c .enum-told6 .given .1))
+
 pub with-length-spec : {M : Type 1} → statement M
 with-length-spec =
     tie.close
     (tie.spec
-    enum-told
-    enum-told-2
-    enum-told-3
-    enum-told-4
-    enum-told-5
+    (λ c. search needs)
+    (λ c. search needs)
+    (λ c. search needs)
+    (λ c. search needs)
+    (λ c. search needs)
+    (λ c. search needs)
     returns
     returns-2
     returns-3
     returns-4
-    returns-5)
+    returns-5
+    returns-6)

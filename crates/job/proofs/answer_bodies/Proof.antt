@@ -1,8 +1,9 @@
 -- `job::answer_bodies` meets its contract: the engine's answer is that of the job. Assumes nothing.
-use Rattle.job.proofs.AnswerLaws.{blank, blank-room, named-eq, found-set, found-eight, found-refusal}
+use Rattle.job.proofs.AnswerLaws.{blank, blank-room, found-set, found-eight, found-refusal, found-named, found-near}
 use Rattle.job.proofs.AnswerLaws.{answered-solved, output-solved, answered-clashed, output-clashed, answered-turned, output-turned}
-use Rattle.job.specs.Answered.{Begin, lineOutput, recordAnswer}
-use Rattle.job.specs.Printed.{recordLines}
+use Rattle.job.specs.Answered.{lineOutput, recordAnswer}
+use Rattle.job.specs.Printed.{recordLines, jobLimit}
+use Rattle.job.specs.declared.JobAnswer.the-variants as job-answer
 use mathlib.Core.Path.{_∙_, ap, ap₂}
 use mathlib.Core.List.{List}
 use lib.ListN.{length, length-take}
@@ -29,26 +30,12 @@ answer-set-requires c κs =
     let f = found-set _ blank _ _ blank-room (l .ensures .0) (l .ensures .1) _ _ (c .before .before .before .answer .given .1) in
     (f .few, omega (arith, f .short, ap (length {A = ℕ}) (f .front)))
 
-spelled-label-requires : tie.Need-spelled-label-requires
-spelled-label-requires c κs =
-    let l = c .before .before .before .before .before .before .before .largest in
-    let f = found-eight _ blank _ _ blank-room (l .ensures .0) (l .ensures .1) _ _ _ (c .before .before .before .answer2 .given .1) in
-    let p = c .before .before .before .before .before .before .before .before .before .before .before .before .before .pre in
-    (omega (arith, f .one .inside, p .0), omega (arith, f .one .within, p .1))
-
-spelled-label-requires-2 : tie.Need-spelled-label-requires-2
-spelled-label-requires-2 c κs =
-    let l = c .before .before .before .before .before .before .before .before .largest in
-    let f = found-eight _ blank _ _ blank-room (l .ensures .0) (l .ensures .1) _ _ _ (c .before .before .before .before .answer2 .given .1) in
-    let p = c .before .before .before .before .before .before .before .before .before .before .before .before .before .before .pre in
-    (omega (arith, f .two .inside, p .0), omega (arith, f .two .within, p .1))
-
-spelled-label-requires-3 : tie.Need-spelled-label-requires-3
-spelled-label-requires-3 c κs =
+named-labels-requires : tie.Need-named-labels-requires
+named-labels-requires c κs =
     let l = c .before .before .before .before .before .before .before .before .before .largest in
     let f = found-eight _ blank _ _ blank-room (l .ensures .0) (l .ensures .1) _ _ _ (c .before .before .before .before .before .answer2 .given .1) in
-    let p = c .before .before .before .before .before .before .before .before .before .before .before .before .before .before .before .pre in
-    (omega (arith, f .three .inside, p .0), omega (arith, f .three .within, p .1))
+    let start = c .before .before .before .before .before .before .before .before .before .before .before .before .before .before .before in
+    found-near f (start .args .at .tree) (start .args .at .list) jobLimit (start .pre .0) (start .pre .1)
 
 returns : tie.Need-returns
 returns c =
@@ -57,18 +44,17 @@ returns c =
     let p = ap₂ recordLines (f .labels) (f .front) in
     let out = c .before .before .before .before .before .before .before .before .before .before .before .before .before .before .before .before .args .out .now in (
       c .before .before .answer-set .ensures .0 ∙ ap (λ (t : List ℕ). recordAnswer t (length out)) p ∙ answered-solved _ _ _ (f .e) (f .s) (f .X) (f .text) (f .solution),
-      c .before .before .answer-set .ensures .1 ∙ ap (λ (t : List ℕ). lineOutput t out) p ∙ output-solved _ (f .e) (f .s) (f .X) (f .text) out (f .solution),
+      c .before .before .answer-set .ensures .1 ∙ ap (λ (t : List ℕ). lineOutput t out) p ∙ output-solved _ out (f .e) (f .s) (f .X) (f .text) (f .solution),
     )
 
 returns-2 : tie.Need-returns-2
 returns-2 c =
     let l = c .before .before .before .before .before .before .before .before .before .before .largest in
     let f = found-eight _ blank _ _ blank-room (l .ensures .0) (l .ensures .1) _ _ _ (c .before .before .before .before .before .before .answer2 .given .1) in
-    let a = c .before .before .before .before .before .before .before .before .before .before .before .before .before .before .before .before .args in
-    let at : Begin = record { tree = a .origin; list = a .base } in (
-      named-eq (c .before .before .spelled-label .ensures ∙ f .one .label at) (c .before .spelled-label2 .ensures ∙ f .two .label at) (c .spelled-label3 .ensures ∙ f .three .label at)
-          ∙ answered-clashed _ _ _ (f .e) (f .s) (f .xs) (f .a) (f .b) (f .c) (f .solution),
-      output-clashed _ (f .e) (f .s) (f .xs) (f .a) (f .b) (f .c) _ (f .solution),
+    let at = c .before .before .before .before .before .before .before .before .before .before .before .before .before .before .before .before .args .at in (
+      ap job-answer.Disagree (c .named-labels .ensures ∙ found-named f (at .tree) (at .list))
+          ∙ answered-clashed at _ _ (f .e) (f .s) (f .xs) (f .a) (f .b) (f .c) (f .solution),
+      output-clashed _ _ (f .e) (f .s) (f .xs) (f .a) (f .b) (f .c) (f .solution),
     )
 
 returns-3 : tie.Need-returns-3
@@ -88,15 +74,7 @@ answer-bodies-spec =
     slice-aggregate-answer-set
     answer-set-requires
     (λ c. search needs)
-    (λ c. search needs)
-    (λ c. search needs)
-    spelled-label-requires
-    (λ c. search needs)
-    (λ c. search needs)
-    spelled-label-requires-2
-    (λ c. search needs)
-    (λ c. search needs)
-    spelled-label-requires-3
+    named-labels-requires
     (λ c. search needs)
     (λ c. search needs)
     returns

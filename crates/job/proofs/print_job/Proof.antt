@@ -3,8 +3,8 @@ use mathlib.Core.Path.{_∙_, sym, ap, ap₂}
 use lib.ListN.{length}
 use borrow.Author.Needs.{needs}
 use Rattle.job.specs.Answered.{lineAnswer, lineOutput}
-use Rattle.job.proofs.ClashLaws.{clash-line}
-use Rattle.job.proofs.PrintLaws.{printed-lines, output-clash, printed-nine, printed-refusal}
+use Rattle.job.proofs.ClashLaws.{clash-line, apart-line}
+use Rattle.job.proofs.PrintLaws.{printed-lines, output-named, printed-nine, printed-refusal}
 use Rattle.job.proofs.print_job.Statement.{statement}
 use Rattle.job.proofs.print_job.Tie as tie
 
@@ -20,8 +20,14 @@ enum-known-answer-2 c = search needs
 disagreement-line-requires : tie.Need-disagreement-line-requires
 disagreement-line-requires c κs = search needs
 
+disagreement-line-requires-2 : tie.Need-disagreement-line-requires-2
+disagreement-line-requires-2 c κs = search needs
+
 enum-known-answer-3 : tie.Need-enum-known-answer-3
 enum-known-answer-3 c = search needs
+
+enum-known-answer-4 : tie.Need-enum-known-answer-4
+enum-known-answer-4 c = search needs
 
 number-requires : tie.Need-number-requires
 number-requires c κs = search needs
@@ -34,7 +40,7 @@ returns c =
     let at-answer = c .before .before .before .before .before .before .before in
     let start = at-answer .before .before .before .before in
     let a = at-answer .answer-job in
-    let e = sym (a .ensures .0) ∙ c .before .before .before .answer3 .given .1 in
+    let e = sym (a .ensures .0) ∙ c .before .before .before .answer4 .given .1 in
     let p = printed-nine (start .args .job .now) (start .args .out .now) _ e (sym (c .before .number .ensures) ∙ c .if1 .taken) in
     (p .0, a .ensures .1 ∙ p .1)
 
@@ -63,7 +69,7 @@ returns-3 c =
     let line = c .before .before .disagreement-line in
     let e = sym (a .ensures .0) ∙ c .before .before .before .before .before .answer2 .given .1 in
     let text = clash-line (start .args .job .now) (length (start .args .out .now)) _ e in
-    let same = a .ensures .1 ∙ output-clash (start .args .job .now) (start .args .out .now) _ e in
+    let same = a .ensures .1 ∙ output-named (start .args .job .now) (start .args .out .now) _ e tt in
     (line .ensures .0 ∙ ap₂ lineAnswer text (ap length same), line .ensures .1 ∙ ap₂ lineOutput text same)
 
 same-length-4 : tie.Need-same-length-4
@@ -71,11 +77,25 @@ same-length-4 c = search needs
 
 returns-4 : tie.Need-returns-4
 returns-4 c =
+    let at-answer = c .before .before .before .before .before .before .before .before .before in
+    let start = at-answer .before .before .before .before in
+    let a = at-answer .answer-job in
+    let line = c .before .before .disagreement-line2 in
+    let e = sym (a .ensures .0) ∙ c .before .before .before .before .before .answer3 .given .1 in
+    let text = apart-line (start .args .job .now) (length (start .args .out .now)) _ e in
+    let same = a .ensures .1 ∙ output-named (start .args .job .now) (start .args .out .now) _ e tt in
+    (line .ensures .0 ∙ ap₂ lineAnswer text (ap length same), line .ensures .1 ∙ ap₂ lineOutput text same)
+
+same-length-5 : tie.Need-same-length-5
+same-length-5 c = search needs
+
+returns-5 : tie.Need-returns-5
+returns-5 c =
     let at-answer = c .before .before .before .before .before .before .before .before .before .before .before in
     let start = at-answer .before .before .before .before in
     let a = at-answer .answer-job in
     let line = c .before .before .refusal-line in
-    let e = sym (a .ensures .0) ∙ c .before .before .before .before .before .before .before .answer3 .given .1 in
+    let e = sym (a .ensures .0) ∙ c .before .before .before .before .before .before .before .answer4 .given .1 in
     let p = printed-refusal (start .args .job .now) (start .args .out .now) _ e (λ k. c .before .before .before .before .if1 .left (c .before .before .before .before .before .number .ensures ∙ k)) in
     let same = a .ensures .1 ∙ p .1 in
     (line .ensures .0 ∙ ap₂ lineAnswer (p .0) (ap length same), line .ensures .1 ∙ ap₂ lineOutput (p .0) same)
@@ -89,6 +109,8 @@ print-job-spec =
     enum-known-answer-2
     disagreement-line-requires
     enum-known-answer-3
+    disagreement-line-requires-2
+    enum-known-answer-4
     number-requires
     same-length
     returns
@@ -98,4 +120,6 @@ print-job-spec =
     same-length-3
     returns-3
     same-length-4
-    returns-4)
+    returns-4
+    same-length-5
+    returns-5)

@@ -1,13 +1,13 @@
--- `proofs::unread` meets its contract. Assumes nothing.
+-- `unread` meets its contract. Assumes nothing.
+use mathlib.Core.Path.{refl}
 use Rattle.mast.specs.Bodies.{unreadBody}
-use borrow.Author.Needs.{needs}
 use Rattle.mast.proofs.unread.Statement.{statement}
 use Rattle.mast.proofs.unread.Tie as tie
 
 returns : tie.Need-returns
 unfolding unreadBody
 returns c =
-    c .without-set .ensures
+    refl
 
 pub unread-spec : {M : Type 1} → statement M
-unread-spec = tie.close (tie.spec (λ c κs. search needs) returns)
+unread-spec = tie.close (tie.spec returns)

@@ -1,4 +1,4 @@
--- `proofs::unread_tree` meets its contract. Assumes nothing.
+-- `unread_tree` meets its contract. Assumes nothing.
 use mathlib.Core.Path.{_∙_, refl}
 use Rattle.mast.specs.Bodies.{unreadTree}
 use borrow.Author.Needs.{needs}
@@ -13,9 +13,8 @@ returns c =
 returns-2 : tie.Need-returns-2
 unfolding unreadTree
 returns-2 c =
-    c .without-set .ensures ∙ (rw (c .before .before .answer .given .1) refl)
+    rw (c .before .answer .given .1) refl
 
 pub unread-tree-spec : {M : Type 1} → statement M
 unread-tree-spec =
-    tie.close
-    (tie.spec (λ c. search needs) (λ c κs. search needs) (λ c. search needs) (λ c κs. search needs) returns returns-2)
+    tie.close (tie.spec (λ c. search needs) (λ c κs. search needs) (λ c. search needs) returns returns-2)

@@ -9,30 +9,23 @@ use Rattle.table.proofs.largest_set.Statement.{statement}
 use Rattle.table.proofs.largest_set.Tie as tie
 
 returns : tie.Need-returns
-returns c =
-    let p = c .before .before .before .before .before .before .before in
-    let a = p .before .before .before in (
-      λ s t K posed.
-          solved-eight s t K _ _ _ _ _ _ _ posed _ _ (a .before .before .columns-of .ensures .1) (a .before .columns-of2 .ensures .1) _
-          (a .least .ensures) _ _ _ _ (p .put-weights .ensures) _ (c .before .before .root-weight .ensures) _
-          (λ e. c .if1 .taken (c .before .held .ensures ∙ e)),
-      (λ e. clash {b = false} e refl, λ e. refl),
-    )
+returns c = (
+  λ s t K posed.
+      solved-eight s t K _ _ _ _ _ _ _ posed _ (c .before .before .before .before .before .least .ensures) _ _ _
+      (c .before .before .weigh .ensures s t K _ _ posed (c .before .before .before .before .before .least .ensures) refl refl) _ (λ e. c .if1 .taken (c .before .held .ensures ∙ e)),
+  (λ e. clash {b = false} e refl, λ e. refl),
+)
 
 returns-2 : tie.Need-returns-2
-returns-2 c =
-    let i = c .before .before .before .before in
-    let p = i .before .before .before .before .before .before .before in
-    let a = p .before .before .before in (
-      λ s t K posed.
-          solved-set s t K _ _ _ _ _ _ _ posed _ _ (a .before .before .columns-of .ensures .1) (a .before .columns-of2 .ensures .1) _
-          (a .least .ensures) _ _ _ _ (p .put-weights .ensures) _ (i .before .before .root-weight .ensures) _
-          (sym (i .before .held .ensures) ∙ i .if1 .left) (c .read-set .ensures .0),
-      (λ e r h. c .read-set .ensures .1 r (omega (arith, a .least .ensures)), λ e. clash {b = true} refl e),
-    )
+returns-2 c = (
+  λ s t K posed.
+      solved-set s t K _ _ _ _ _ _ _ posed _ (c .before .before .before .before .before .before .before .before .before .least .ensures) _ _ _
+      (c .before .before .before .before .before .before .weigh .ensures s t K _ _ posed (c .before .before .before .before .before .before .before .before .before .least .ensures) refl refl) _
+      (sym (c .before .before .before .before .before .held .ensures) ∙ c .before .before .before .before .if1 .left) (c .read-set .ensures .0),
+  (λ e r h. c .read-set .ensures .1 r (omega (arith, c .before .before .before .before .before .before .before .before .before .least .ensures)), λ e. clash {b = true} refl e),
+)
 
 pub largest-set-spec : {M : Type 1} → statement M
 largest-set-spec =
     tie.close
-    (tie.spec (λ c κs. search needs) (λ c κs. search needs) (λ c κs. search needs) (λ c κs. search needs) (λ c κs. search needs)
-    (λ c κs. search needs) returns (λ c κs. search needs) returns-2)
+    (tie.spec (λ c κs. search needs) (λ c κs. search needs) (λ c κs. search needs) returns (λ c κs. search needs) returns-2)

@@ -2,8 +2,6 @@
 use Rattle.job.proofs.AreaLaws.{put-then, put-as}
 use Rattle.job.proofs.LineLaws.{words-short, named-parts, named-short, item-named}
 use Rattle.job.specs.Areas.{item}
-use Rattle.trees.specs.declared.Reason.the-variants.{Disagree}
-use Rattle.trees.specs.declared.Body.the-variants.{K}
 use mathlib.Core.Path.{ap}
 use native.Mathlib.Omega.{arith}
 use borrow.Author.Needs.{needs}
@@ -15,7 +13,7 @@ put-refusal-requires c κs = search needs
 
 put-byte-requires : tie.Need-put-byte-requires
 put-byte-requires c κs =
-    omega (arith, c .before .before .before .put-refusal .ensures, words-short (record { reason = Disagree; body = K; place = 0 }), c .before .before .before .before .before .before .before .pre)
+    omega (arith, c .before .before .before .put-refusal .ensures, words-short (c .before .before .before .before .before .before .before .args .refusal), c .before .before .before .before .before .before .before .pre)
 
 label-in-requires : tie.Need-label-in-requires
 label-in-requires c κs = search needs
@@ -25,7 +23,7 @@ put-item-requires c κs =
     let s1 = c .before .before .before .before .before in
     let s2 = s1 .before .before .before .before in
     let s3 = s2 .before .before .before .before in
-    let w = words-short (record { reason = Disagree; body = K; place = 0 }) in
+    let w = words-short (s3 .args .refusal) in
     omega (arith, s2 .put-refusal .ensures, s1 .put-byte .ensures, w, named-short _ _ _ (c .before .label-in .ensures), s3 .pre)
 
 label-in-requires-2 : tie.Need-label-in-requires-2
@@ -38,7 +36,7 @@ put-item-requires-2 c κs =
     let s3 = s2 .before .before .before .before in
     let s4 = s3 .before .before .before .before in
     let s5 = s4 .before .before .before .before in
-    let w = words-short (record { reason = Disagree; body = K; place = 0 }) in
+    let w = words-short (s5 .args .refusal) in
     omega (arith, s4 .put-refusal .ensures, s3 .put-byte .ensures, w, item-named 0 _ _ _ (s2 .label-in .ensures), s1 .put-item .ensures, named-short _ _ _ (c .before .label-in2 .ensures), s5 .pre)
 
 label-in-requires-3 : tie.Need-label-in-requires-3
@@ -53,7 +51,7 @@ put-item-requires-3 c κs =
     let s5 = s4 .before .before .before .before in
     let s6 = s5 .before .before .before .before in
     let s7 = s6 .before .before .before .before in
-    let w = words-short (record { reason = Disagree; body = K; place = 0 }) in
+    let w = words-short (s7 .args .refusal) in
     omega (
       arith,
       s6 .put-refusal .ensures,
@@ -78,7 +76,7 @@ put-byte-requires-2 c κs =
     let s7 = s6 .before .before .before .before in
     let s8 = s7 .before .before .before .before in
     let s9 = s8 .before .before .before .before in
-    let w = words-short (record { reason = Disagree; body = K; place = 0 }) in
+    let w = words-short (s9 .args .refusal) in
     omega (
       arith,
       s8 .put-refusal .ensures,
@@ -115,7 +113,7 @@ returns c =
     let s8 = s7 .before .before .before .before in
     let s9 = s8 .before .before .before .before in
     let s10 = s9 .before .before .before .before in
-    put-as _ _ (named-parts (s10 .args .job .now) (s10 .args .named))
+    put-as _ _ (named-parts (s10 .args .job .now) (s10 .args .refusal) (s10 .args .named))
     (put-then (put-then (put-then (put-then (put-then (s9 .put-refusal .ensures) (s8 .put-byte .ensures))
     (put-as _ _ (ap (item 0) (s7 .label-in .ensures)) (s6 .put-item .ensures)))
     (put-as _ _ (ap (item 1) (s5 .label-in2 .ensures)) (s4 .put-item2 .ensures))) (put-as _ _ (ap (item 1) (s3 .label-in3 .ensures)) (s2 .put-item3 .ensures))) (s1 .put-byte2 .ensures))

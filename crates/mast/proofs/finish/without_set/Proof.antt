@@ -1,13 +1,13 @@
--- No label has no place. Assumes nothing.
-use mathlib.Core.Path.{refl}
-use Rattle.lists.specs.ReadList.{placesOf}
+-- `finish::without_set` meets its contract. Assumes nothing.
+use mathlib.Core.Path.{ap}
+use Rattle.mast.specs.Finish.{resultFrom}
+use borrow.Author.Needs.{needs}
 use Rattle.mast.proofs.finish.without_set.Statement.{statement}
 use Rattle.mast.proofs.finish.without_set.Tie as tie
 
 returns : tie.Need-returns
-unfolding placesOf
 returns c =
-    refl
+    ap (λ p. resultFrom (c .before .args .answer) p) (c .no-places .ensures)
 
 pub without-set-spec : {M : Type 1} → statement M
-without-set-spec = tie.close (tie.spec returns)
+without-set-spec = tie.close (tie.spec (λ c κs. search needs) returns)

@@ -1,0 +1,4 @@
+pub mod JudgeLaws
+pub mod Promises
+pub mod TellLaws
+pub mod VerdictLaws

@@ -1,0 +1,4 @@
+pub mod Claim
+pub mod Judge
+pub mod Rows
+pub mod Steps
