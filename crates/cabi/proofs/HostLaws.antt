@@ -84,7 +84,7 @@ pub claim-size : (q : Task) (claim : List ℕ) (s t : Tree) (xs ys : List Token)
 unfolding claimNumbers
 claim-size q claim s t xs ys r h =
     ap claimNumbers
-    (claims.passes-promise q claim s t xs ys r (claims.passing-is-clear _ _ _ _ h) (length ys) .1 (h, refl))
+    (claims.passes-promise q claim s t xs ys r (length ys) .1 (h, refl))
 
 -- the options of known flags, from the code's test
 pub flags-first : (flags : ℕ) → flags < 2

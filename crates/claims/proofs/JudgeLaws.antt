@@ -31,6 +31,7 @@ use Rattle.agreement.specs.Sets.{setOf}
 use Rattle.agreement.specs.Answer.{Answer, firstLacks, secondLacks, disagree, largest, largestSet, answer}
 use Rattle.agreement.specs.Places.{placeIn, placeOfNumber}
 use Rattle.agreement.specs.Demand.{IsAnswer, IsDisagreement, IsFirstLacks, IsSecondLacks}
+use Rattle.agreement.proofs.AnswerLaws.{agree-no-clash}
 use Rattle.agreement.proofs.Promises as agreement
 use Rattle.mast.specs.Largest.{Task}
 use Rattle.mast.specs.Compare.{missing, compareOther, compareAnswers}
@@ -41,7 +42,7 @@ use Rattle.mast.proofs.StrayLaws.{shared-nowhere, stray-told}
 use Rattle.claims.specs.Claim.{IsClaim, Verdict, claimFirstLacks, claimSecondLacks, claimLacks, claimDisagrees, claimSmall, claimPasses, Clear, VerdictIs}
 use Rattle.claims.specs.Judge.{Judgement, passes, disagrees, apart, declined, ReadsClaim, judgedBySize, judgedByThree, judgedByList, judgedBy, judge, judgementOf, claimResult}
 use Rattle.claims.specs.Rows.{saidOfClaim, saidOfJudgement}
-use Rattle.claims.proofs.VerdictLaws.{bySize, byMissing, found, found-is, found-only}
+use Rattle.claims.proofs.VerdictLaws.{bySize, byMissing, found, found-is, found-only, passes-clear}
 
 -- what is told of the comparison is what is told of the verdict
 judged-found : (e : Edition) (s : Tree) (xs ys : List Token) (size : ℕ) (B : Answer)
@@ -162,7 +163,7 @@ module _ (q : Task) (claim : List ℕ) (s t : Tree) (xs ys : List Token) (read :
     told-back : (j : Judgement) {G : Type 0} → ((v : Verdict) → VerdictIs one two L Y v → judgementOf E s xs ys v ≡ j → G) → judge q claim ≡ j → G
     told-back j f e = let w = verdict-found in f (w .0) (w .1) (sym (w .2) ∙ e)
 
-    pub passes-exactly : (n : ℕ) → (judge q claim ≡ passes n) ↔ (IsClaim one two L Y × (n ≡ length ys))
+    passes-exactly : (n : ℕ) → (judge q claim ≡ passes n) ↔ (IsClaim one two L Y × (n ≡ length ys))
     unfolding judgementOf numberOf
     passes-exactly n = (told-back (passes n) go, λ (h : IsClaim one two L Y × (n ≡ length ys)). verdict-decides (claimPasses n) (h .0, h .1 ∙ sym counted))
       where
@@ -174,7 +175,7 @@ module _ (q : Task) (claim : List ℕ) (s t : Tree) (xs ys : List Token) (read :
         go claimSmall h e = absurd (omega (arith, ap kindOf e))
         go (claimPasses m) h e = let k : m ≡ n = cc in (h .0, sym k ∙ h .1 ∙ counted)
 
-    pub thirteen-exactly : (p : ℕ) → (judge q claim ≡ declined (record { reason = ClaimLacks; body = K; place = p }))
+    thirteen-exactly : (p : ℕ) → (judge q claim ≡ declined (record { reason = ClaimLacks; body = K; place = p }))
         ↔ ((n : ℕ) × VerdictIs one two L Y (claimLacks n) × (p ≡ placeOfNumber xs n))
     unfolding judgementOf numberOf
     thirteen-exactly p = (
@@ -193,7 +194,7 @@ module _ (q : Task) (claim : List ℕ) (s t : Tree) (xs ys : List Token) (read :
         go claimSmall h e = absurd (omega (arith, ap kindOf e))
         go (claimPasses m) h e = absurd (omega (arith, ap kindOf e))
 
-    pub fourteen-exactly : (a b c : Label) → (judge q claim ≡ apart E s ys a b c) ↔ VerdictIs one two L Y (claimDisagrees a b c)
+    fourteen-exactly : (a b c : Label) → (judge q claim ≡ apart E s ys a b c) ↔ VerdictIs one two L Y (claimDisagrees a b c)
     unfolding judgementOf numberOf
     fourteen-exactly a b c = (told-back (apart E s ys a b c) go, verdict-decides (claimDisagrees a b c))
       where
@@ -210,7 +211,7 @@ module _ (q : Task) (claim : List ℕ) (s t : Tree) (xs ys : List Token) (read :
         go claimSmall h e = absurd (omega (arith, ap kindOf e))
         go (claimPasses m) h e = absurd (omega (arith, ap kindOf e))
 
-    pub fifteen-exactly : (judge q claim ≡ declined (record { reason = ClaimSmall; body = C; place = 0 })) ↔ VerdictIs one two L Y claimSmall
+    fifteen-exactly : (judge q claim ≡ declined (record { reason = ClaimSmall; body = C; place = 0 })) ↔ VerdictIs one two L Y claimSmall
     unfolding judgementOf numberOf
     fifteen-exactly = (told-back (declined (record { reason = ClaimSmall; body = C; place = 0 })) go, verdict-decides claimSmall)
       where
@@ -222,6 +223,58 @@ module _ (q : Task) (claim : List ℕ) (s t : Tree) (xs ys : List Token) (read :
         go (claimDisagrees a b c) h e = absurd (omega (arith, ap kindOf e))
         go claimSmall h e = h
         go (claimPasses m) h e = absurd (omega (arith, ap kindOf e))
+
+  -- where what is told is none of 6, 7 and 8, these do not turn the job away
+  clear-of : (X : List Label) → answer one two L ≡ largest X → Clear one two L
+  clear-of X h =
+      let a = agreement.set-promise one two L proper listed X .0 h .allowedSet in
+      record {
+        commonLeaves = λ x k. a .commonLeaves x (a .required x k);
+        free = agree-no-clash one two (setOf X) L (a .agreed) (a .required);
+      }
+
+  past-eight : (j : Judgement) → judge q claim ≡ j → (kindOf j ≡ 6 → ⊥) → (kindOf j ≡ 7 → ⊥) → (kindOf j ≡ 8 → ⊥) → Clear one two L
+  unfolding compareAnswers judgedBy numberOf
+  past-eight j e six seven eight = go (answer one two L) refl
+    where
+      read-as : (A : Answer) → answer one two L ≡ A → j ≡ judgedBy (compareAnswers E s xs ys A (answer one two Y))
+      read-as A h = sym e ∙ judge-read ∙ ap (λ (B : Answer). judgedBy (compareAnswers E s xs ys B (answer one two Y))) h
+
+      go : (A : Answer) → answer one two L ≡ A → Clear one two L
+      go (firstLacks n) h = absurd (six (ap kindOf (read-as (firstLacks n) h)))
+      go (secondLacks n) h = absurd (seven (ap kindOf (read-as (secondLacks n) h)))
+      go (disagree a b c) h = absurd (eight (ap kindOf (read-as (disagree a b c) h)))
+      go (largest X) h = clear-of X h
+
+  pub accepted-exactly : (n : ℕ) → (judge q claim ≡ passes n) ↔ (IsClaim one two L Y × (n ≡ length ys))
+  accepted-exactly n = (
+    λ (e : judge q claim ≡ passes n).
+        passes-exactly (past-eight (passes n) e (λ k. omega (arith, k)) (λ k. omega (arith, k)) (λ k. omega (arith, k))) n .0 e,
+    λ (h : IsClaim one two L Y × (n ≡ length ys)). passes-exactly (passes-clear one two L Y (h .0)) n .1 h,
+  )
+
+  -- a judgement that is told exactly if its sentence holds, where 6, 7 and 8 do not, is told exactly if these do not and it holds
+  once-clear : (j : Judgement) (P : Type 0) → (kindOf j ≡ 6 → ⊥) → (kindOf j ≡ 7 → ⊥) → (kindOf j ≡ 8 → ⊥)
+      → (Clear one two L → (judge q claim ≡ j) ↔ P) → (judge q claim ≡ j) ↔ (Clear one two L × P)
+  once-clear j P six seven eight f = (
+    λ (e : judge q claim ≡ j). let c = past-eight j e six seven eight in (c, f c .0 e),
+    λ (h : Clear one two L × P). f (h .0) .1 (h .1),
+  )
+
+  pub missing-exactly : (p : ℕ) → (judge q claim ≡ declined (record { reason = ClaimLacks; body = K; place = p }))
+      ↔ (Clear one two L × ((n : ℕ) × VerdictIs one two L Y (claimLacks n) × (p ≡ placeOfNumber xs n)))
+  unfolding numberOf
+  missing-exactly p = once-clear _ _ (λ k. omega (arith, k)) (λ k. omega (arith, k)) (λ k. omega (arith, k)) (λ c. thirteen-exactly c p)
+
+  pub apart-exactly : (a b c : Label)
+      → (judge q claim ≡ apart E s ys a b c) ↔ (Clear one two L × VerdictIs one two L Y (claimDisagrees a b c))
+  apart-exactly a b c =
+      once-clear _ _ (λ k. omega (arith, k)) (λ k. omega (arith, k)) (λ k. omega (arith, k)) (λ d. fourteen-exactly d a b c)
+
+  pub small-exactly : (judge q claim ≡ declined (record { reason = ClaimSmall; body = C; place = 0 }))
+      ↔ (Clear one two L × VerdictIs one two L Y claimSmall)
+  unfolding numberOf
+  small-exactly = once-clear _ _ (λ k. omega (arith, k)) (λ k. omega (arith, k)) (λ k. omega (arith, k)) (λ c. fifteen-exactly c)
 
 -- ---- bodies that are not read, and a leaf in only one tree of a strict job
 

@@ -108,20 +108,22 @@ module _ (q : Task) (claim : List ℕ) (s t : Tree) (xs ys : List Token) (read :
     pub verdict-promise : (v : Verdict) → VerdictIs one two L Y v → judge q claim ≡ judgementOf (q .options .edition) s xs ys v
     verdict-promise = JudgeLaws.verdict-decides q claim s t xs ys read clear
 
-    -- "It is accepted exactly if it holds every required label, the trees agree on it and no larger such set exists", with its size
-    pub passes-promise : (n : ℕ) → (judge q claim ≡ passes n) ↔ (IsClaim one two L Y × (n ≡ length ys))
-    passes-promise = JudgeLaws.passes-exactly q claim s t xs ys read clear
+  -- "It is accepted exactly if it holds every required label, the trees agree on it and no larger such set exists", with its size
+  pub passes-promise : (n : ℕ) → (judge q claim ≡ passes n) ↔ (IsClaim one two L Y × (n ≡ length ys))
+  passes-promise = JudgeLaws.accepted-exactly q claim s t xs ys read
 
-    -- 13, 14, 15, each exactly if its sentence holds and none before it does
-    pub thirteen-promise : (p : ℕ) → (judge q claim ≡ declined (record { reason = ClaimLacks; body = K; place = p }))
-        ↔ ((n : ℕ) × VerdictIs one two L Y (claimLacks n) × (p ≡ placeOfNumber xs n))
-    thirteen-promise = JudgeLaws.thirteen-exactly q claim s t xs ys read clear
+  -- 13, 14, 15, each exactly if its sentence holds and none before it does
+  pub thirteen-promise : (p : ℕ) → (judge q claim ≡ declined (record { reason = ClaimLacks; body = K; place = p }))
+      ↔ (Clear one two L × ((n : ℕ) × VerdictIs one two L Y (claimLacks n) × (p ≡ placeOfNumber xs n)))
+  thirteen-promise = JudgeLaws.missing-exactly q claim s t xs ys read
 
-    pub fourteen-promise : (a b c : Label) → (judge q claim ≡ apart (q .options .edition) s ys a b c) ↔ VerdictIs one two L Y (claimDisagrees a b c)
-    fourteen-promise = JudgeLaws.fourteen-exactly q claim s t xs ys read clear
+  pub fourteen-promise : (a b c : Label)
+      → (judge q claim ≡ apart (q .options .edition) s ys a b c) ↔ (Clear one two L × VerdictIs one two L Y (claimDisagrees a b c))
+  fourteen-promise = JudgeLaws.apart-exactly q claim s t xs ys read
 
-    pub fifteen-promise : (judge q claim ≡ declined (record { reason = ClaimSmall; body = C; place = 0 })) ↔ VerdictIs one two L Y claimSmall
-    fifteen-promise = JudgeLaws.fifteen-exactly q claim s t xs ys read clear
+  pub fifteen-promise : (judge q claim ≡ declined (record { reason = ClaimSmall; body = C; place = 0 }))
+      ↔ (Clear one two L × VerdictIs one two L Y claimSmall)
+  fifteen-promise = JudgeLaws.small-exactly q claim s t xs ys read
 
 -- "If an answer is an enum, the promises use a definition that gives this paper's number and values for each of its cases."
 pub rows-promise : (j : Judgement) → saidOfClaim (claimResult j .answer) ≡ saidOfJudgement j
