@@ -48,6 +48,7 @@ unfoldable pub judgedBySize : List Token → ℕ → Judgement
 judgedBySize ys size =
     cond (ltb (length ys) size) (declined (record { reason = ClaimSmall; body = C; place = 0 })) (passes (length ys))
 
+-- "14 for three claimed leaves that disagree"
 unfoldable pub judgedByThree : Edition → Tree → List Token → ℕ → Option Three → Judgement
 unfolding judgedBySize
 judgedByThree e s ys size (some r) = apart e s ys (r .one) (r .two) (r .three)
@@ -59,12 +60,14 @@ unfolding judgedByThree
 judgedByList e s xs ys size (some n) clash = declined (record { reason = ClaimLacks; body = K; place = placeOfNumber xs n })
 judgedByList e s xs ys size none clash = judgedByThree e s ys size clash
 
+-- "after number 8": what turns the trees, the lists or the claimed labels away goes first
 unfoldable pub judgedBy : Comparison → Judgement
 unfolding judgedByList
 judgedBy (stopped q) = declined q
 judgedBy (clashing e s xs a b c) = disagrees e s xs a b c
 judgedBy (compared e s xs ys size missed clash) = judgedByList e s xs ys size missed clash
 
+-- the judgement of a claim, beside two trees and a list
 unfoldable pub judge : Task → List ℕ → Judgement
 unfolding judgedBy compare
 judge q claim = judgedBy (compare q claim)

@@ -65,6 +65,7 @@ compareAnswers e s xs ys (secondLacks n) other = stopped (record { reason = Seco
 compareAnswers e s xs ys (disagree a b c) other = clashing e s xs a b c
 compareAnswers e s xs ys (largest X) other = compareOther e s xs ys (length X) other
 
+-- "A body that fails to read ends the job there.": the further list, with its letter
 unfoldable pub compareLists : Edition → Tree → Tree → List Token → Reading (List Token) → Comparison
 unfolding compareAnswers
 compareLists e s t xs (good ys) =
@@ -77,6 +78,7 @@ unfolding compareLists
 compareRead e s t (good xs) other = compareLists e s t xs other
 compareRead e s t (refused r i) other = stopped (record { reason = r; body = K; place = i })
 
+-- S, T, then 12, then both lists
 unfoldable pub compare : Task → List ℕ → Comparison
 unfolding treesThen compareRead
 compare q other =
@@ -85,6 +87,7 @@ compare q other =
 
 -- what comes back
 
+-- whether there is such a label, or such three
 unfoldable pub isThere : {A : Type 0} → Option A → Bool
 isThere none = false
 isThere (some x) = true
@@ -104,6 +107,8 @@ unfolding setPlaces
 threeIn s none = placesOf []
 threeIn s (some r) = setPlaces s (r .one ∷ r .two ∷ r .three ∷ [])
 
+-- the sizes, the first missing label's place and the three clashing ones' in their lists, and where the first tree spells these; number 8
+-- with its places; or the refusal
 unfoldable pub comparedOf : Comparison → CompareResult
 unfolding setPlaces isThere placeIf threeAt threeIn
 comparedOf (stopped q) = record { answer = compare-answer.Refused q; set = placesOf [] }
