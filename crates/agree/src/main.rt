@@ -1,7 +1,8 @@
-// Reads a job from standard input and writes its answer to standard output: the three lines of the set, or one refusal line.
+// Reads a job from standard input and writes its answer to standard output: the three lines of the set, the line of a claim that passes, or
+// one refusal line.
 //
-// At most one byte over the job limit is kept in memory: a longer input is number 11 whatever it holds. If standard
-// output fails, the program ends quietly.
+// At most one byte over the job limit is kept in memory: a longer input is number 11 whatever it holds. If standard output fails, the
+// program ends quietly.
 use job::RECORD_ROOM;
 
 fn main() {

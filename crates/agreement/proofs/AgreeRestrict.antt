@@ -1,4 +1,4 @@
--- Source paper 003, Lemma 1: trees agree on a set of common leaves exactly if their restrictions to it are equal trees.
+-- 003, Lemma 1: trees agree on a set of common leaves exactly if their restrictions to it are equal trees.
 -- Assumes nothing.
 use mathlib.Core.Path.{_≡_, refl, sym, _∙_, ap}
 use mathlib.Core.Bool.{Bool, true, false, cond}

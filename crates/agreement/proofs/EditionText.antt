@@ -1,26 +1,24 @@
 -- Restriction, its text and printed labels by an edition: what is left of a tree of tokens has the keys that are left, the restrictions
 -- of two trees have one text up to spelling, and the first tree's spelling of a key has that key. Assumes nothing.
-use Prim.Native.Nat.{ℕ, _+_, _≤_}
+use Prim.Native.Nat.{ℕ}
 use mathlib.Core.Path.{_≡_, refl, sym, _∙_, ap, ap₂}
 use mathlib.Core.Bool.{Bool, true, false, cond}
-use mathlib.Core.List.{List, [], _∷_, _++_, map-append}
+use mathlib.Core.List.{List, [], _∷_}
 use mathlib.Core.Option.{Option, some, none, Option·map}
 use native.Mathlib.Omega.{arith}
-use lib.ListN.{length, take, drop, length-append, length-take, take-append-drop}
-use borrow.Author.Tests.{le-leb}
+use lib.ListN.{length}
 use Rattle.trees.specs.declared.Edition.{Edition}
 use Rattle.trees.specs.declared.Edition.the-variants.{One}
 use Rattle.trees.specs.Label.{Label}
 use Rattle.trees.specs.Token.{Token, spelling, tokenOf, goodLabel, goodLabels}
 use Rattle.trees.specs.Tree.{Tree, leaf, node, leaves, relabel, decoded}
 use Rattle.trees.specs.Text.{textOf}
-use Rattle.trees.specs.Words.{Within}
 use Rattle.trees.specs.Stored.{partOf}
-use Rattle.trees.specs.Edition.{foldByte, inEdition, key, folded, keyed, ValidIn, normalTextIn}
+use Rattle.trees.specs.Edition.{inEdition, key, folded, keyed, ValidIn, normalTextIn}
 use Rattle.trees.specs.Reading.{good}
 use Rattle.trees.proofs.AmongLaws.{part-here}
-use Rattle.trees.proofs.FoldLaws.{fold-part, fold-size, good-fold, one-itself}
-use Rattle.trees.proofs.EditionLaws.{text-folded, normal-text-folded, valid-folded, normalTree}
+use Rattle.trees.proofs.FoldLaws.{fold-size, good-fold, one-itself}
+use Rattle.trees.proofs.EditionLaws.{normal-text-folded, valid-folded, normalTree}
 use Rattle.trees.proofs.ListLaws.{good-head, good-cons}
 use Rattle.trees.proofs.RelabelLaws.{relabel-twice}
 use Rattle.newick.specs.ReadTree.{readTreeIn}
@@ -28,11 +26,11 @@ use Rattle.newick.proofs.EditionReads.{normal-read-in}
 use Rattle.agreement.specs.Closer.{holds, Agree, Common}
 use Rattle.agreement.specs.Restrict.{joinKept, restrict, restrictIn, keyedKept}
 use Rattle.agreement.specs.Sets.{keep}
-use Rattle.agreement.specs.Places.{placeIn, tokenIn, LeafShown, keptText, keptTextIn, spelledIn, nameIn, printedIn}
-use Rattle.agreement.proofs.PlaceLaws.{leaf-shown, tree-shown, token-spelled, token-good}
+use Rattle.agreement.specs.Places.{placeIn, tokenIn, LeafShown, keptTextIn, spelledIn, nameIn, printedIn}
+use Rattle.agreement.proofs.PlaceLaws.{leafBy, leaf-folded, leaf-shown, token-spelled, token-good}
 use Rattle.agreement.proofs.SetLaws.{keep-few}
 use Rattle.agreement.proofs.RestrictLaws.{keptLeaves, restrict-leaves, restrict-distinct}
-use Rattle.agreement.proofs.RestrictText.{one-text}
+use Rattle.agreement.proofs.RestrictText.{keptText, one-text}
 
 -- ---- restriction and other labels
 
@@ -57,18 +55,6 @@ restrict-relabel f X (leaf x) = leaf-relabelled f x (X (f x))
 restrict-relabel f X (node a b) =
     join-relabelled f (restrict (λ (y : Label). X (f y)) a) (restrict (λ (y : Label). X (f y)) b)
     ∙ ap₂ joinKept (restrict-relabel f X a) (restrict-relabel f X b)
-
--- a part that lies in a text stands there
-part-within : (text : List ℕ) (p n : ℕ) → p + n ≤ length text → Within text p (partOf p n text)
-unfolding partOf
-part-within text p n h =
-    rw (le-leb (p + n) (length text) h)
-    (record {
-      before = take p text;
-      after = drop n (drop p text);
-      is = sym (take-append-drop p text) ∙ ap (λ (l : List ℕ). take p text ++ l) (sym (take-append-drop n (drop p text)));
-      place = omega (arith, length-take p text);
-    })
 
 module _ (e : Edition) where
   keyed-relabel : (t : Tree) → keyed e t ≡ relabel (key e) t
@@ -141,56 +127,33 @@ module _ (e : Edition) where
 
   -- ---- printed labels
 
-  -- what stands in a text stands there as the edition reads both
-  pub within-folded : (text x : List ℕ) (p : ℕ) → Within text p x → Within (inEdition e text) p (inEdition e x)
-  within-folded text x p w =
-      record {
-        before = inEdition e (w .before);
-        after = inEdition e (w .after);
-        is =
-            ap (inEdition e) (w .is) ∙ map-append (foldByte e) (w .before) (x ++ w .after)
-            ∙ ap (λ (l : List ℕ). inEdition e (w .before) ++ l) (map-append (foldByte e) x (w .after));
-        place = w .place ∙ sym (fold-size e (w .before));
-      }
-
-  within-part : (text x : List ℕ) (p : ℕ) → Within text p x → partOf p (length x) text ≡ x
-  within-part text x p w = ap (partOf p (length x)) (w .is) ∙ part-here (w .before) x (w .after) p (w .place)
-
-  -- the part of the text, as the edition reads it, is the leaf's token as it reads it
-  pub spelled-folded : (t : Tree) (x : Label) → holds (keyed e t) x ≡ true → inEdition e (spelledIn e t x) ≡ tokenIn (folded e t) x
+  -- the part of the text is the leaf with the key
+  pub spelled-leaf : (t : Tree) (x : Label) → spelledIn e t x ≡ leafBy e t x
   unfolding spelledIn
-  spelled-folded t x h =
-      sym (fold-part e (placeIn (folded e t) 0 x) (length (tokenIn (folded e t) x)) (textOf t))
-      ∙ ap (partOf (placeIn (folded e t) 0 x) (length (tokenIn (folded e t) x))) (sym (text-folded e t))
-      ∙ within-part (textOf (folded e t)) (tokenIn (folded e t) x) (placeIn (folded e t) 0 x) (tree-shown (folded e t) x h)
+  spelled-leaf t x =
+      let w = leaf-shown e t x .shown in
+      let n : length (tokenIn (folded e t) x) ≡ length (leafBy e t x) = ap length (sym (leaf-folded e t x)) ∙ fold-size e (leafBy e t x) in
+      ap (λ (k : ℕ). partOf (placeIn (folded e t) 0 x) k (textOf t)) n ∙ ap (partOf (placeIn (folded e t) 0 x) (length (leafBy e t x))) (w .is)
+      ∙ part-here (w .before) (leafBy e t x) (w .after) (placeIn (folded e t) 0 x) (w .place)
 
-  -- it stands in the text as a whole leaf, as the edition reads both
-  pub spelled-shown : (t : Tree) (x : Label) → holds (keyed e t) x ≡ true
-      → LeafShown (inEdition e (textOf t)) (placeIn (folded e t) 0 x) (inEdition e (spelledIn e t x))
-  spelled-shown t x h = rw (spelled-folded t x h, ← text-folded e t) (leaf-shown (folded e t) x h)
+  -- as the edition reads it, it is the leaf's token as it reads that
+  spelled-folded : (t : Tree) (x : Label) → inEdition e (spelledIn e t x) ≡ tokenIn (folded e t) x
+  spelled-folded t x = ap (inEdition e) (spelled-leaf t x) ∙ leaf-folded e t x
 
-  -- and as it is spelled there
-  pub spelled-within : (t : Tree) (x : Label) → holds (keyed e t) x ≡ true → Within (textOf t) (placeIn (folded e t) 0 x) (spelledIn e t x)
-  unfolding spelledIn
-  spelled-within t x h =
-      let w = tree-shown (folded e t) x h in
-      let p : ℕ = placeIn (folded e t) 0 x in
-      let n : ℕ = length (tokenIn (folded e t) x) in
-      let size = sym (fold-size e (textOf t)) ∙ ap length (sym (text-folded e t)) ∙ ap length (w .is) in
-      let room : p + n ≤ length (textOf t) =
-      omega (arith, size, w .place, length-append (w .before) (tokenIn (folded e t) x ++ w .after), length-append (tokenIn (folded e t) x) (w .after)) in
-      part-within (textOf t) p n room
+  -- it stands in the text as a whole leaf
+  pub spelled-shown : (t : Tree) (x : Label) → LeafShown (textOf t) (placeIn (folded e t) 0 x) (spelledIn e t x)
+  spelled-shown t x = rw (spelled-leaf t x) (leaf-shown e t x)
 
-  pub spelled-size : (t : Tree) (x : Label) → holds (keyed e t) x ≡ true → length (spelledIn e t x) ≡ length (tokenIn (folded e t) x)
-  spelled-size t x h = sym (fold-size e (spelledIn e t x)) ∙ ap length (spelled-folded t x h)
+  pub spelled-size : (t : Tree) (x : Label) → length (spelledIn e t x) ≡ length (tokenIn (folded e t) x)
+  spelled-size t x = sym (fold-size e (spelledIn e t x)) ∙ ap length (spelled-folded t x)
 
   -- "Labels are printed as the first tree spells them": the leaf has that key
   pub spelled-key : (t : Tree) (x : Label) → holds (keyed e t) x ≡ true → key e (spelledIn e t x) ≡ x
-  spelled-key t x h = ap spelling (spelled-folded t x h) ∙ token-spelled (folded e t) x h
+  spelled-key t x h = ap spelling (spelled-folded t x) ∙ token-spelled (folded e t) x h
 
-  pub spelled-good : (t : Tree) (x : Label) → ValidIn e t → holds (keyed e t) x ≡ true → goodLabel (spelledIn e t x) ≡ true
-  spelled-good t x v h =
-      sym (good-fold e (spelledIn e t x)) ∙ ap goodLabel (spelled-folded t x h) ∙ token-good (folded e t) x (valid-folded e t v .labels)
+  pub spelled-good : (t : Tree) (x : Label) → ValidIn e t → goodLabel (spelledIn e t x) ≡ true
+  spelled-good t x v =
+      sym (good-fold e (spelledIn e t x)) ∙ ap goodLabel (spelled-folded t x) ∙ token-good (folded e t) x (valid-folded e t v .labels)
 
 -- under edition 1 texts that are read alike are the same bytes
 pub one-same : (x y : List ℕ) → inEdition One x ≡ inEdition One y → x ≡ y

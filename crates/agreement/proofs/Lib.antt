@@ -17,6 +17,8 @@ pub mod RestrictLaws
 pub mod RestrictText
 pub mod SameLaws
 pub mod SetLaws
+pub mod SidesLaws
+pub mod SidesText
 pub mod StrictLaws
 pub mod Table
 pub mod Tells

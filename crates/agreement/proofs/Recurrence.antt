@@ -1,4 +1,4 @@
--- Source paper 001, Lemma 3.1, with weights: no set on which two trees agree weighs more than the recurrence says, and one
+-- 001, Lemma 3.1, with weights: no set on which two trees agree weighs more than the recurrence says, and one
 -- weighs as much. Leaf sets may differ; each tree's labels are distinct. Assumes nothing.
 use Prim.Native.Nat.{ℕ, _+_, _≤_, max}
 use mathlib.Core.Path.{_≡_, refl, sym, _∙_, ap}

@@ -1,8 +1,9 @@
 -- The restrictions of two trees to a set on which they agree have one text. Assumes nothing.
-use mathlib.Core.Path.{_≡_, refl, _∙_, ap}
+use Prim.Native.Nat.{ℕ}
+use mathlib.Core.Path.{_≡_, refl, ap}
 use mathlib.Core.Bool.{Bool, true}
-use mathlib.Core.List.{_∷_}
-use mathlib.Core.Option.{Option}
+use mathlib.Core.List.{List, []}
+use mathlib.Core.Option.{Option, some, none}
 use Rattle.trees.specs.Label.{Label, distinct}
 use Rattle.trees.specs.Token.{tokenOf}
 use Rattle.trees.specs.Tree.{Tree, leaves, relabel}
@@ -11,9 +12,14 @@ use Rattle.trees.proofs.NormalLaws.{normal-of-same}
 use Rattle.agreement.specs.Closer.{Agree, Common}
 use Rattle.agreement.specs.Restrict.{restrict}
 use Rattle.agreement.specs.SameKept.{SameKept, both-none, both-some}
-use Rattle.agreement.specs.Places.{keptText}
 use Rattle.agreement.proofs.RestrictLaws.{restrict-distinct}
 use Rattle.agreement.proofs.AgreeRestrict.{agree-restrict}
+
+-- the text of a restriction of a tree of decoded labels
+unfoldable pub keptText : Option Tree → List ℕ
+unfolding normalText
+keptText none = []
+keptText (some t) = normalText t
 
 -- "the normal text of the common restriction": either tree gives it
 pub one-text : (s t : Tree) (X : Label → Bool) → distinct (leaves s) ≡ true → distinct (leaves t) ≡ true → Common s t X → Agree s t X

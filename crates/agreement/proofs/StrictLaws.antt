@@ -123,7 +123,7 @@ least-node X a b f g x h p y m n = go (firstOutside X first) refl
     left k (inr e) =
         let q : holds (decoded a) x ≡ true = outside-in X first x k in
         rw (q, e)
-        (omega (arith, place-inside a x q (p + 1) .1, place-inside b y (in-second e) (p + 1 + length (written a) + 1) .0))
+        (omega (arith, place-inside a x (p + 1) .1, place-inside b y (p + 1 + length (written a) + 1) .0))
 
     go : (o : Option Label) → firstOutside X first ≡ o → placeIn (node a b) p x ≤ placeIn (node a b) p y
     go (some z) k =

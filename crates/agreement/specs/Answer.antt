@@ -1,4 +1,4 @@
--- The answer to two trees and a required list, by trying all sets. Scope paper, "Agreement" and rows 6 to 8 of "Why a job is
+-- The answer to two trees and a required list, by trying all sets. 01, "Agreement" and rows 6 to 8 of "Why a job is
 -- turned down".
 use Prim.Native.Nat.{ℕ, suc}
 use mathlib.Core.Bool.{Bool, true, false, cond, not, _&&_, _||_}
@@ -12,7 +12,7 @@ use Rattle.agreement.specs.Closer.{holds, closer}
 use Rattle.agreement.specs.Sets.{sorted, common, allIn, sublists}
 
 pub data Answer : Type 0 where
-  -- 6: the first tree lacks the required label with this number in the list, counted from 0
+  -- 6: the first tree lacks the required label with this index in the list, counted from 0
   firstLacks : ℕ → Answer
   -- 7: only the second lacks it
   secondLacks : ℕ → Answer
@@ -41,7 +41,7 @@ unfoldable pub orElse : Option Three → Option Three → Option Three
 orElse none y = y
 orElse (some x) y = some x
 
--- the first three that clash, compared label by label: with both a and b, with a, and of any
+-- the first three with different closer pairs, compared label by label: with both a and b, with a, and of any
 unfoldable pub clashWithTwo : Tree → Tree → Label → Label → List Label → Option Three
 unfolding clashing
 clashWithTwo s t a b [] = none
@@ -63,7 +63,7 @@ unfoldable pub agreeOn : Tree → Tree → List Label → Bool
 unfolding firstClash
 agreeOn s t xs = elim (firstClash s t xs) [ none ↦ true | some c ↦ false ]
 
--- the sets of common leaves that hold the required ones and on which the trees agree
+-- the sets of common leaves that contain the required ones and on which the trees agree
 unfoldable pub allowed : Tree → Tree → List Label → List (List Label) → List (List Label)
 unfolding agreeOn allIn
 allowed s t K [] = []

@@ -1,4 +1,4 @@
--- Least common ancestor, closer pair and agreement. Scope paper, "Agreement"; source paper 003, section 2.
+-- Least common ancestor, closer pair and agreement. 01, "Agreement"; 003, section 2.
 use mathlib.Core.Path.{_≡_}
 use mathlib.Core.Bool.{Bool, true, false, cond, not, _&&_}
 use mathlib.Core.Logic.{_⊎_}
@@ -10,15 +10,15 @@ unfoldable pub holds : Tree → Label → Bool
 unfolding leaves isIn
 holds t x = isIn x (leaves t)
 
--- the least common ancestor of two leaves, as the smallest subtree that holds both
+-- the least common ancestor of two leaves, as the smallest subtree that contains both
 unfoldable pub lca : Tree → Label → Label → Tree
 unfolding holds
 lca (leaf x) a b = leaf x
 lca (node p q) a b =
     cond (holds p a && holds p b) (lca p a b) (cond (holds q a && holds q b) (lca q a b) (node p q))
 
--- a and b are the closer pair of a, b and c: their least common ancestor is below that of all three, since it does not hold c.
--- "Closer pair" is the scope paper's own term; the field says that the tree has the rooted triple ab|c.
+-- a and b are the closer pair of a, b and c: their least common ancestor is below that of all three, since it does not contain c. "Closer
+-- pair" is 01's term; the field says that the tree has the rooted triple ab|c.
 unfoldable pub closer : Tree → Label → Label → Label → Bool
 unfolding lca holds
 closer t a b c = not (holds (lca t a b) c)

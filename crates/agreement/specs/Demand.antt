@@ -1,4 +1,4 @@
--- Demand 3, sentence by sentence, over every set. Scope paper, "Agreement" and "Conditions of acceptance".
+-- Demand 3, sentence by sentence, over every set. 01, "Agreement" and "Conditions of acceptance".
 use Prim.Native.Nat.{ℕ, _≤_, _<_}
 use mathlib.Core.Path.{_≡_}
 use mathlib.Core.Logic.{_⊎_}
@@ -11,18 +11,18 @@ use Rattle.agreement.specs.Closer.{holds, Agree, Common}
 use Rattle.agreement.specs.Sets.{increasing, setOf, First}
 use Rattle.agreement.specs.Answer.{clashing}
 
--- a set that may be given
+-- a set that may be the answer
 pub record Allowed (s t : Tree) (K X : List Label) : Type 0 where
   -- in label order, each once
   pub ordered : increasing X ≡ true
-  -- holds every required label
+  -- contains every required label
   pub required : (x : Label) → isIn x K ≡ true → isIn x X ≡ true
   -- only common leaves
   pub commonLeaves : Common s t (setOf X)
   -- both trees agree on it
   pub agreed : Agree s t (setOf X)
 
--- the set that is given
+-- the set that is the answer
 pub record IsAnswer (s t : Tree) (K X : List Label) : Type 0 where
   pub allowedSet : Allowed s t K X
   -- no larger such set exists
@@ -51,7 +51,7 @@ pub record IsDisagreement (s t : Tree) (K : List Label) (a b c : Label) : Type 0
   pub clash : Clash s t K a b c
   pub firstThree : (x y z : Label) → Clash s t K x y z → Before3 a b c x y z
 
--- numbers 6 and 7: the label with number n is the first in list order that either tree lacks
+-- numbers 6 and 7: the label with index n is the first in list order that either tree lacks
 pub record FirstLacking (s t : Tree) (K : List Label) (n : ℕ) : Type 0 where
   pub inList : n < length K
   pub earlier : (m : ℕ) → m < n → (holds s (getD K m []) ≡ true) × (holds t (getD K m []) ≡ true)

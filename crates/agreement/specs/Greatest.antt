@@ -1,4 +1,4 @@
--- The greatest weight of a set on which two trees agree, said of every set. Scope paper, "Agreement"; source paper 001, section 3.
+-- The greatest weight of a set on which two trees agree, stated over every set. 01, "Agreement"; 001, section 3.
 use Prim.Native.Nat.{ℕ, _≤_}
 use mathlib.Core.Path.{_≡_}
 use mathlib.Core.Bool.{Bool}

@@ -1,4 +1,4 @@
--- What the papers say of each answer, in one definition. Scope paper, "Agreement" and rows 6 to 8 of "Why a job is turned down".
+-- Each answer by the papers' sentences, in one definition. 01, "Agreement" and rows 6 to 8 of "Why a job is turned down".
 use mathlib.Core.List.{List}
 use Rattle.trees.specs.Label.{Label}
 use Rattle.trees.specs.Tree.{Tree}
@@ -7,7 +7,7 @@ use Rattle.agreement.specs.Sets.{setOf}
 use Rattle.agreement.specs.Answer.{Answer, firstLacks, secondLacks, disagree, largest}
 use Rattle.agreement.specs.Demand.{IsFirstLacks, IsSecondLacks, IsDisagreement, IsAnswer}
 
--- number 8 is "about jobs that nothing before 8 in this order .. turns away": both trees hold every required label
+-- number 8 is "about jobs that nothing before 8 in this order .. turns away": both trees have every required label
 abbrev pub Outcome : Tree → Tree → List Label → Answer → Type 0
 Outcome s t K (firstLacks n) = IsFirstLacks s t K n
 Outcome s t K (secondLacks n) = IsSecondLacks s t K n

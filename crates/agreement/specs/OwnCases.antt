@@ -1,6 +1,5 @@
--- Cases of our own beside the starred ones: numbers 6 and 7, trees with different leaves, trees and lists out of label order, labels in
--- quotes.
--- Scope paper, "Agreement" and rows 6 to 8 of "Why a job is turned down".
+-- Cases of our own, in addition to the starred ones: numbers 6 and 7, trees with different leaves, trees and lists out of label order,
+-- labels in quotes. 01, "Agreement" and rows 6 to 8 of "Why a job is turned down".
 use mathlib.Core.List.{List, [], _∷_}
 use Rattle.trees.specs.Words.{bytesOf}
 use Rattle.agreement.specs.Answer.{firstLacks, secondLacks, disagree, largest}
@@ -11,7 +10,7 @@ ownRows =
     -- the examples of rows 6 and 7
     row "a;" "b;" "b" (firstLacks 0)
     ∷ row "a;" "b;" "a" (secondLacks 0)
-    -- "the first label in list order that either tree lacks"; one that both lack is told by 6
+    -- "the first label in list order that either tree lacks"; one that both lack is 6
     ∷ row "((a,b),c);" "((a,c),d);" "c,d,b" (firstLacks 1)
     ∷ row "((a,b),c);" "((a,c),d);" "a,b,d" (secondLacks 1)
     ∷ row "(a,b);" "(a,b);" "b,a,c" (firstLacks 2)

@@ -1,5 +1,5 @@
--- Where the labels of an answer stand in the texts, and as which tokens. Scope paper, "Why a job is turned down": the places of 6 and 7
--- are the label's "first byte in K".
+-- Where the labels of an answer are in the texts, and as which tokens. 01, "Why a job is turned down": the places of 6 and 7 are the
+-- label's "first byte in K".
 use Prim.Native.Nat.{ℕ, _+_}
 use mathlib.Core.Path.{_≡_}
 use mathlib.Core.Bool.{cond}
@@ -11,22 +11,22 @@ use Rattle.trees.specs.Bytes.{openByte, closeByte, commaByte, semicolonByte}
 use Rattle.trees.specs.Label.{Label, sameLabel}
 use Rattle.trees.specs.Token.{Token, spelling}
 use Rattle.trees.specs.Tree.{Tree, leaf, node, decoded}
-use Rattle.trees.specs.Text.{written, textOf, normalText}
-use Rattle.trees.specs.Edition.{folded, rewritten, normalTextIn}
+use Rattle.trees.specs.Text.{written, textOf}
+use Rattle.trees.specs.Edition.{key, folded, rewritten, normalTextIn}
 use Rattle.trees.specs.declared.Edition.{Edition}
 use Rattle.trees.specs.Stored.{partOf}
 use Rattle.trees.specs.Words.{Within}
 use Rattle.lists.specs.ReadList.{startsOf}
 use Rattle.agreement.specs.Closer.{holds}
 
--- the first byte of the leaf that stands for x in the text of a tree that starts at p
+-- the first byte of the leaf that decodes to x, in the text of a tree that starts at p
 unfoldable pub placeIn : Tree → ℕ → Label → ℕ
 unfolding holds written
 placeIn (leaf y) p x = p
 placeIn (node a b) p x =
     cond (holds (decoded a) x) (placeIn a (p + 1) x) (placeIn b (p + 1 + length (written a) + 1) x)
 
--- that leaf as it stands there
+-- the token of that leaf
 unfoldable pub tokenIn : Tree → Label → Token
 unfolding holds
 tokenIn (leaf y) x = y
@@ -39,54 +39,49 @@ BeforeLabel b = (b ≡ []) ⊎ ((rest : List ℕ) × (c : ℕ) × (b ≡ rest ++
 abbrev pub AfterLabel : List ℕ → Type 0
 AfterLabel a = (a ≡ []) ⊎ ((c : ℕ) × (rest : List ℕ) × (a ≡ c ∷ rest) × ((c ≡ commaByte) ⊎ ((c ≡ closeByte) ⊎ (c ≡ semicolonByte))))
 
--- a leaf's token stands at place p as a whole, not as a part of a longer one
+-- a leaf's token is at place p as a whole, not as a part of a longer one
 pub record LeafShown (text : List ℕ) (p : ℕ) (x : Token) : Type 0 where
   pub shown : Within text p x
   pub starts : BeforeLabel (shown .before)
   pub ends : AfterLabel (shown .after)
 
--- the first byte of the label with number n in a list's text
+-- the first byte of the label with index n in a list's text
 unfoldable pub placeOfNumber : List Token → ℕ → ℕ
 unfolding startsOf
 placeOfNumber xs n = getD (startsOf xs 0) n 0
 
--- the first byte of the token that stands for x in the text of a list that starts at p
+-- the first byte of the token that decodes to x, in the text of a list that starts at p
 unfoldable pub placeOfLabel : List Token → ℕ → Label → ℕ
 placeOfLabel [] p x = p
 placeOfLabel (y ∷ ys) p x = cond (sameLabel x (spelling y)) p (placeOfLabel ys (p + length y + 1) x)
 
--- that token as it stands there
-unfoldable pub tokenOfLabel : List Token → Label → Token
-tokenOfLabel [] x = []
-tokenOfLabel (y ∷ ys) x = cond (sameLabel x (spelling y)) y (tokenOfLabel ys x)
+-- the token of a list that an edition reads as x, as it stands there
+unfoldable pub tokenOfKey : Edition → List Token → Label → Token
+tokenOfKey e [] x = []
+tokenOfKey e (y ∷ ys) x = cond (sameLabel x (key e y)) y (tokenOfKey e ys x)
 
--- a list's token stands at place p as a whole: from the list's start or a `,` to a `,` or the list's end
+-- a list's token is at place p as a whole: from the list's start or a `,` to a `,` or the list's end
 pub record Listed (text : List ℕ) (p : ℕ) (x : Token) : Type 0 where
   pub shown : Within text p x
   pub starts : (shown .before ≡ []) ⊎ ((rest : List ℕ) × (shown .before ≡ rest ++ (commaByte ∷ [])))
   pub ends : (shown .after ≡ []) ⊎ ((rest : List ℕ) × (shown .after ≡ commaByte ∷ rest))
 
--- the text of a restriction of a tree of decoded labels: "The empty set of leaves has a text of no bytes"
-unfoldable pub keptText : Option Tree → List ℕ
-unfolding normalText
-keptText none = []
-keptText (some t) = normalText t
-
--- the same of a tree of tokens, by an edition's order and as the tree spells its labels
+-- the text of a restriction of a tree, by an edition's order and as the tree spells its labels: "The empty set of leaves has a text of
+-- no bytes"
 unfoldable pub keptTextIn : Edition → Option Tree → List ℕ
 unfolding normalTextIn
 keptTextIn e none = []
 keptTextIn e (some t) = normalTextIn e t
 
--- request C-15: the leaf of a tree that an edition reads as x, "as the first tree spells" it: the part of its text where that leaf stands
+-- C-15: the token of the leaf that an edition reads as x, "as the first tree spells" it
 unfoldable pub spelledIn : Edition → Tree → Label → Token
 unfolding placeIn tokenIn partOf textOf
 spelledIn e t x = partOf (placeIn (folded e t) 0 x) (length (tokenIn (folded e t) x)) (textOf t)
 
--- the label that it stands for there
+-- the label that this token decodes to
 abbrev pub nameIn : Edition → Tree → Label → Label
 nameIn e t x = spelling (spelledIn e t x)
 
--- and as it is printed
+-- and its printed form
 abbrev pub printedIn : Edition → Tree → Label → Token
 printedIn e t x = rewritten (spelledIn e t x)

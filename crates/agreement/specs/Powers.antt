@@ -1,5 +1,5 @@
--- Weights that tell a set: a label weighs its unit and, by its rank among the common labels, a power of two, so that the greatest
--- weight is the size and the set in one number. The recurrence is a means, and no promise is stated by these weights.
+-- Weights that determine a set. A label weighs its unit and, by its rank among the common labels, a power of two, so the greatest weight
+-- has the size and the set in one number. The recurrence is a means, and no promise is stated by these weights.
 use Prim.Native.Nat.{ℕ, zero, suc, _+_, _*_, _-_}
 use mathlib.Core.Bool.{Bool, cond}
 use mathlib.Core.List.{List, [], _∷_}

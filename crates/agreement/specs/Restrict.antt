@@ -1,5 +1,5 @@
--- Restriction of a tree to a set of leaves. Source paper 003, section 2: discard the other leaves and the inner nodes left
--- with one child. Scope paper, "Agreement".
+-- Restriction of a tree to a set of leaves. 003, section 2: discard the other leaves and the inner nodes left
+-- with one child. 01, "Agreement".
 use mathlib.Core.Bool.{Bool, cond}
 use mathlib.Core.Option.{Option, some, none}
 use Rattle.trees.specs.Label.{Label}
@@ -8,20 +8,20 @@ use Rattle.trees.specs.Token.{Token}
 use Rattle.trees.specs.Edition.{key, keyed}
 use Rattle.trees.specs.declared.Edition.{Edition}
 
--- a node whose children are these, where each may have no leaf left
+-- a node with these children, each of which may have no leaf left
 unfoldable pub joinKept : Option Tree → Option Tree → Option Tree
 joinKept none none = none
 joinKept none (some q) = some q
 joinKept (some p) none = some p
 joinKept (some p) (some q) = some (node p q)
 
--- none where no leaf is left
+-- none if no leaf is left
 unfoldable pub restrict : (Label → Bool) → Tree → Option Tree
 unfolding joinKept
 restrict X (leaf x) = cond (X x) (some (leaf x)) none
 restrict X (node a b) = joinKept (restrict X a) (restrict X b)
 
--- request C-15: a tree of tokens restricted to the leaves whose keys are in the set; what is left keeps its spelling
+-- C-15: a tree of tokens restricted to the leaves whose keys are in the set; what is left keeps its spelling
 abbrev pub restrictIn : Edition → (Label → Bool) → Tree → Option Tree
 restrictIn e X t = restrict (λ (y : Token). X (key e y)) t
 

@@ -1,4 +1,4 @@
--- Equal restrictions. Source paper 003, Lemma 1: trees agree on a set exactly if their restrictions to it are equal trees.
+-- Equal restrictions. 003, Lemma 1: trees agree on a set exactly if their restrictions to it are equal trees.
 use mathlib.Core.Option.{Option, some, none}
 use Rattle.trees.specs.Tree.{Tree, Same}
 

@@ -1,4 +1,4 @@
--- Sets of labels as lists in label order. Scope paper, "Agreement": largest and first.
+-- Sets of labels as lists in label order. 01, "Agreement": largest and first.
 use mathlib.Core.Path.{_≡_}
 use mathlib.Core.Bool.{Bool, true, false, cond}
 use mathlib.Core.List.{List, [], _∷_, _++_, map}
@@ -39,7 +39,7 @@ common s t = sorted (keep (holds t) (leaves s))
 abbrev pub setOf : List Label → Label → Bool
 setOf xs = λ x. isIn x xs
 
--- all labels of the first list stand in the second
+-- all labels of the first list are in the second
 unfoldable pub allIn : List Label → List Label → Bool
 allIn [] ys = true
 allIn (x ∷ xs) ys = cond (isIn x ys) (allIn xs ys) false

@@ -1,4 +1,4 @@
--- The starred cases of the scope paper's "Trees to try", as a table of texts and answers.
+-- The starred cases of 01's "Trees to try", as a table of texts and answers.
 use Prim.Native.String.{String}
 use mathlib.Core.Option.{Option, some, none}
 use mathlib.Core.List.{List, [], _∷_, map}
@@ -17,7 +17,7 @@ pub record Row : Type 0 where
   pub required : String
   pub expected : Answer
 
--- the answer to the texts of a row, none where one of them cannot be read
+-- the answer to the texts of a row; none if one of them cannot be read
 unfoldable pub answered : Row → Option Answer
 unfolding bytesOf
 answered row =
@@ -62,7 +62,7 @@ e = bytesOf "e"
 abbrev pub row : String → String → String → Answer → Row
 row s t K A = record { first = s; second = t; required = K; expected = A }
 
--- in the paper's order
+-- in 01's order
 unfoldable pub rows : List Row
 rows =
     row P Q "" (largest (a ∷ b ∷ d ∷ e ∷ []))

@@ -1,4 +1,4 @@
--- Leaves that stand in only one tree. Request paper, C-11: "a leaf that stands in only one tree stops the job".
+-- Leaves in only one tree. C-11: "a leaf that stands in only one tree stops the job".
 use mathlib.Core.Path.{_≡_}
 use mathlib.Core.Bool.{Bool, true, false, cond}
 use mathlib.Core.List.{List, [], _∷_, _++_}
@@ -19,11 +19,11 @@ pub record FirstOutside (X : Label → Bool) (xs : List Label) (x : Label) : Typ
   pub outside : X x ≡ false
   pub earlier : (y : Label) → isIn y before ≡ true → X y ≡ true
 
--- "the first such leaf" of a tree, in the order of its text: the other lacks it and holds every leaf to the left of it
+-- "the first such leaf" of a tree, in the order of its text: the other tree lacks it and has every leaf to the left of it
 abbrev pub IsStray : Tree → Tree → Label → Type 0
 IsStray t other x = FirstOutside (holds other) (leaves t) x
 
--- a leaf that stands in only one tree
+-- a leaf in only one tree
 pub data Stray : Type 0 where
   inFirst : Label → Stray
   inSecond : Label → Stray

@@ -1,4 +1,4 @@
--- Weights of sets of leaves, and the recurrence over pairs of nodes. Source paper 001, Lemma 3.1, with weights for leaves:
+-- Weights of sets of leaves, and the recurrence over pairs of nodes. 001, Lemma 3.1, with weights for leaves:
 -- with every weight 1 it is the lemma. The recurrence is a means, and no promise is stated by it.
 use Prim.Native.Nat.{ℕ, _+_, max}
 use mathlib.Core.Bool.{Bool, cond}

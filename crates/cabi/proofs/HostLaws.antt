@@ -22,12 +22,12 @@ use Rattle.agreement.specs.Sets.{setOf}
 use Rattle.agreement.specs.Places.{placeOfLabel, nameIn}
 use Rattle.agreement.specs.Answer.{disagree}
 use Rattle.agreement.specs.Demand.{IsDisagreement}
-use Rattle.contents.specs.Contents.{layoutOf, listPlace, claimPlace}
+use Rattle.contents.specs.Contents.{layoutOf, bodyPlace}
 use Rattle.mast.specs.declared.Options.{Options}
 use Rattle.mast.specs.Given.{Reads, SetGiven}
 use Rattle.mast.specs.Largest.{turned, solutionOf, Task, task, solve}
 use Rattle.mast.proofs.Promises as mast
-use Rattle.claims.specs.Claim.{IsClaim}
+use Rattle.claims.specs.Claim.{IsClaim, claimDisagrees, Clear, VerdictIs}
 use Rattle.claims.specs.Judge.{declined, ReadsClaim, judge}
 use Rattle.claims.proofs.Promises as claims
 use Rattle.job.specs.Printed as printed
@@ -86,6 +86,27 @@ claim-size q claim s t xs ys r h =
     ap claimNumbers
     (claims.passes-promise q claim s t xs ys r (length ys) .1 (h, refl))
 
+module _ (q : Task) (claim : List ℕ) where
+  module _ (s t : Tree) (xs ys : List Token) (read : ReadsClaim q claim s t xs ys) where
+    pub claim-eight : (a b c : Label) → Common (keyed (q .options .edition) s) (keyed (q .options .edition) t) (setOf (keysOf (q .options .edition) xs))
+        → IsDisagreement (keyed (q .options .edition) s) (keyed (q .options .edition) t) (keysOf (q .options .edition) xs) a b c
+        → claimNumbers (judge q claim) ≡ disagreed Disagree K (placeOfLabel (foldedList (q .options .edition) xs) 0 a)
+        (placeOfLabel (foldedList (q .options .edition) xs) 0 b) (placeOfLabel (foldedList (q .options .edition) xs) 0 c)
+    unfolding claimNumbers
+    claim-eight a b c held d = ap claimNumbers (claims.eight-promise q claim s t xs ys read a b c held d)
+
+    pub claim-fourteen : (a b c : Label) → Clear (keyed (q .options .edition) s) (keyed (q .options .edition) t) (keysOf (q .options .edition) xs)
+        → VerdictIs (keyed (q .options .edition) s) (keyed (q .options .edition) t) (keysOf (q .options .edition) xs) (keysOf (q .options .edition) ys)
+        (claimDisagrees a b c)
+        → claimNumbers (judge q claim) ≡ disagreed ClaimDisagrees C (placeOfLabel (foldedList (q .options .edition) ys) 0 a)
+        (placeOfLabel (foldedList (q .options .edition) ys) 0 b) (placeOfLabel (foldedList (q .options .edition) ys) 0 c)
+    unfolding claimNumbers
+    claim-fourteen a b c clear d = ap claimNumbers (claims.fourteen-promise q claim s t xs ys read a b c .1 (clear, d))
+
+  pub claim-refusal : (p : Refusal) → judge q claim ≡ declined p → claimNumbers (judge q claim) ≡ refusedWith p
+  unfolding claimNumbers
+  claim-refusal p e = ap claimNumbers e
+
 -- the options of known flags, from the code's test
 pub flags-first : (flags : ℕ) → flags < 2
     → _≡_ {A = Option Options} (some (record { strict = eqb flags 1; edition = One })) (optionsOf flags)
@@ -122,12 +143,12 @@ module _ (bytes : List ℕ) (room : ℕ) where
 
   pub job-eight-numbers : (e : Edition) (s : Tree) (xs : List Token) (a b c : Label) → JobOutcome bytes (printed.clashed e s xs a b c)
       → jobNumbers (answerTo bytes room)
-      ≡ disagreed Disagree K (listPlace (layoutOf bytes) + placeOfLabel (foldedList e xs) 0 a) (listPlace (layoutOf bytes) + placeOfLabel (foldedList e xs) 0 b)
-      (listPlace (layoutOf bytes) + placeOfLabel (foldedList e xs) 0 c)
+      ≡ disagreed Disagree K (bodyPlace K (layoutOf bytes) + placeOfLabel (foldedList e xs) 0 a) (bodyPlace K (layoutOf bytes) + placeOfLabel (foldedList e xs) 0 b)
+      (bodyPlace K (layoutOf bytes) + placeOfLabel (foldedList e xs) 0 c)
   unfolding answered namedLabel namedThree jobNumbers namedIn
   job-eight-numbers e s xs a b c o = ap jobNumbers (told (printed.clashed e s xs a b c) o)
 
-  -- request C-16: the line of a claim that passes, and 14 with the places of the first three in the job's claim
+  -- C-16: the line of a claim that passes, and 14 with the places of the first three in the job's claim
   pub job-claim-numbers : (n : ℕ) → JobOutcome bytes (printed.passed n) → length (claimLine n) ≤ room
       → jobNumbers (answerTo bytes room) ≡ succeeded 0 (length (claimLine n))
   unfolding answered recordAnswer linesAnswer lineAnswer jobNumbers
@@ -135,8 +156,8 @@ module _ (bytes : List ℕ) (room : ℕ) where
 
   pub job-fourteen-numbers : (e : Edition) (s : Tree) (ys : List Token) (a b c : Label) → JobOutcome bytes (printed.apart e s ys a b c)
       → jobNumbers (answerTo bytes room)
-      ≡ disagreed ClaimDisagrees C (claimPlace (layoutOf bytes) + placeOfLabel (foldedList e ys) 0 a)
-      (claimPlace (layoutOf bytes) + placeOfLabel (foldedList e ys) 0 b) (claimPlace (layoutOf bytes) + placeOfLabel (foldedList e ys) 0 c)
+      ≡ disagreed ClaimDisagrees C (bodyPlace C (layoutOf bytes) + placeOfLabel (foldedList e ys) 0 a)
+      (bodyPlace C (layoutOf bytes) + placeOfLabel (foldedList e ys) 0 b) (bodyPlace C (layoutOf bytes) + placeOfLabel (foldedList e ys) 0 c)
   unfolding answered namedLabel namedThree jobNumbers namedIn
   job-fourteen-numbers e s ys a b c o = ap jobNumbers (told (printed.apart e s ys a b c) o)
 

@@ -1,4 +1,4 @@
--- What hosts written in C get for each outcome, in the scope paper's order; each theorem cites one name. Assumes nothing.
+-- What hosts written in C receive for each outcome, in 01's order. Each theorem cites one name. Assumes nothing.
 use Prim.Native.Nat.{ℕ, _+_, _≤_, _<_}
 use mathlib.Core.Path.{_≡_, refl}
 use mathlib.Core.Bool.{true}
@@ -19,10 +19,10 @@ use Rattle.agreement.specs.Closer.{Common}
 use Rattle.agreement.specs.Sets.{setOf}
 use Rattle.agreement.specs.Places.{placeOfLabel, nameIn}
 use Rattle.agreement.specs.Demand.{IsDisagreement}
-use Rattle.contents.specs.Contents.{layoutOf, listPlace, claimPlace}
+use Rattle.contents.specs.Contents.{layoutOf, bodyPlace}
 use Rattle.mast.specs.Given.{Reads, SetGiven}
 use Rattle.mast.specs.Largest.{turned, Task, task, plain, solve}
-use Rattle.claims.specs.Claim.{IsClaim}
+use Rattle.claims.specs.Claim.{IsClaim, claimDisagrees, Clear, VerdictIs}
 use Rattle.claims.specs.Judge.{declined, ReadsClaim, judge}
 use Rattle.mast.specs.declared.Options.{Options}
 use Rattle.job.specs.Printed as printed
@@ -32,25 +32,25 @@ use Rattle.job.specs.Outcome.{JobOutcome}
 use Rattle.cabi.specs.Numbers.{succeeded, disagreed, refusedWith, numbersOf, optionsOf, unknownFlags, solveWith, claimNumbers, judgeWith, jobNumbers}
 use Rattle.cabi.proofs.HostLaws
 
--- two trees and a list, with whatever is asked beside them. Demand 3: number 0, the size of the answer, the length of its text
+-- Two trees and a list, with any options. Demand 3: number 0, the size of the answer, the length of its text.
 module _ (q : Task) (room : ℕ) where
   module _ (s t : Tree) (xs : List Token) (reads : Reads q s t xs) where
     pub set-promise : (X : List Label) (text : List ℕ) → SetGiven (q .options .edition) s t xs X text room
         → numbersOf (solve q room) ≡ succeeded (length X) (length text)
     set-promise = HostLaws.set-numbers q room s t xs reads
 
-    -- number 8 with the places of the first three in the list
+    -- Number 8 comes with the places of its three labels in the list.
     pub eight-promise : (a b c : Label) → Common (keyed (q .options .edition) s) (keyed (q .options .edition) t) (setOf (keysOf (q .options .edition) xs))
         → IsDisagreement (keyed (q .options .edition) s) (keyed (q .options .edition) t) (keysOf (q .options .edition) xs) a b c
         → numbersOf (solve q room) ≡ disagreed Disagree K (placeOfLabel (foldedList (q .options .edition) xs) 0 a) (placeOfLabel (foldedList (q .options .edition) xs) 0 b)
         (placeOfLabel (foldedList (q .options .edition) xs) 0 c)
     eight-promise = HostLaws.eight-numbers q room s t xs reads
 
-  -- any other row: its number, letter and place
+  -- Any other refusal: its number, letter and place.
   pub refusal-promise : (p : Refusal) → solve q room ≡ turned p → numbersOf (solve q room) ≡ refusedWith p
   refusal-promise = HostLaws.refusal-numbers q room
 
--- flags: 0 asks for nothing beside the texts, 1 for `strict`, 2 for the second edition, 3 for both; any other number is refused with 10, J 0
+-- Flags: 0 for none, 1 for `strict`, 2 for edition 2, 3 for both. Any other number is refused with 10, J 0.
 module _ (first second required : List ℕ) (room : ℕ) where
   pub no-flags : solveWith 0 first second required room ≡ solve (task (plain One) first second required) room
   unfolding solveWith
@@ -71,11 +71,42 @@ module _ (first second required : List ℕ) (room : ℕ) where
   pub unknown-flags : (flags : ℕ) → 3 < flags → solveWith flags first second required room ≡ turned (record { reason = Contents; body = J; place = 0 })
   unknown-flags = HostLaws.flags-refused first second required room
 
--- request C-16, a claim: its size exactly as the claim passes, or the row of its judgement; flags as above
+-- 8 and 14 in the papers' numbers: K is the byte 75 and C 67
+pub numbers-told : (a b c : ℕ)
+    → (disagreed Disagree K a b c
+    ≡ record { number = 8; letter = 75; place = 0; size = 0; length = 0; first = a; second = b; third = c })
+    × (disagreed ClaimDisagrees C a b c
+    ≡ record { number = 14; letter = 67; place = 0; size = 0; length = 0; first = a; second = b; third = c })
+unfolding disagreed
+numbers-told a b c = (refl, refl)
+
+-- C-16, a claim: its size exactly as the claim passes, or the row of its judgement; flags as above
 pub claim-promise : (q : Task) (claim : List ℕ) (s t : Tree) (xs ys : List Token) → ReadsClaim q claim s t xs ys
     → IsClaim (keyed (q .options .edition) s) (keyed (q .options .edition) t) (keysOf (q .options .edition) xs) (keysOf (q .options .edition) ys)
     → claimNumbers (judge q claim) ≡ succeeded (length ys) 0
 claim-promise = HostLaws.claim-size
+
+module _ (q : Task) (claim : List ℕ) where
+  module _ (s t : Tree) (xs ys : List Token) (read : ReadsClaim q claim s t xs ys) where
+    -- 8 with the places of the first three in the list, 14 with those in the claim
+    pub claim-eight-promise : (a b c : Label)
+        → Common (keyed (q .options .edition) s) (keyed (q .options .edition) t) (setOf (keysOf (q .options .edition) xs))
+        → IsDisagreement (keyed (q .options .edition) s) (keyed (q .options .edition) t) (keysOf (q .options .edition) xs) a b c
+        → claimNumbers (judge q claim) ≡ disagreed Disagree K (placeOfLabel (foldedList (q .options .edition) xs) 0 a)
+        (placeOfLabel (foldedList (q .options .edition) xs) 0 b) (placeOfLabel (foldedList (q .options .edition) xs) 0 c)
+    claim-eight-promise = HostLaws.claim-eight q claim s t xs ys read
+
+    pub claim-fourteen-promise : (a b c : Label)
+        → Clear (keyed (q .options .edition) s) (keyed (q .options .edition) t) (keysOf (q .options .edition) xs)
+        → VerdictIs (keyed (q .options .edition) s) (keyed (q .options .edition) t) (keysOf (q .options .edition) xs) (keysOf (q .options .edition) ys)
+        (claimDisagrees a b c)
+        → claimNumbers (judge q claim) ≡ disagreed ClaimDisagrees C (placeOfLabel (foldedList (q .options .edition) ys) 0 a)
+        (placeOfLabel (foldedList (q .options .edition) ys) 0 b) (placeOfLabel (foldedList (q .options .edition) ys) 0 c)
+    claim-fourteen-promise = HostLaws.claim-fourteen q claim s t xs ys read
+
+  -- Any other refusal: its number, letter and place.
+  pub claim-refusal-promise : (p : Refusal) → judge q claim ≡ declined p → claimNumbers (judge q claim) ≡ refusedWith p
+  claim-refusal-promise = HostLaws.claim-refusal q claim
 
 pub claim-flags : (first second required claim : List ℕ) (flags : ℕ) (o : Options) → some o ≡ optionsOf flags
     → judgeWith flags first second required claim ≡ judge (task o first second required) claim
@@ -85,7 +116,7 @@ pub claim-unknown-flags : (first second required claim : List ℕ) (flags : ℕ)
     → judgeWith flags first second required claim ≡ declined unknownFlags
 claim-unknown-flags = HostLaws.claim-flags-refused
 
--- a job: the length of its lines, or number 9 where the output has fewer bytes
+-- A job: the length of its lines, or number 9 if the output has fewer bytes.
 module _ (bytes : List ℕ) (room : ℕ) where
   pub job-promise : (e : Edition) (s : Tree) (X : List Label) (text : List ℕ) → JobOutcome bytes (printed.solved e s X text) → length (recordLines (map (nameIn e s) X) text) ≤ room
       → jobNumbers (answerTo bytes room) ≡ succeeded 0 (length (recordLines (map (nameIn e s) X) text))
@@ -95,22 +126,22 @@ module _ (bytes : List ℕ) (room : ℕ) where
       → jobNumbers (answerTo bytes room) ≡ refusedWith outputShort
   job-nine-promise = HostLaws.job-nine-numbers bytes room
 
-  -- number 8 with the places of the first three in the job's list
+  -- Number 8 comes with the places of its three labels in the job's list.
   pub job-eight-promise : (e : Edition) (s : Tree) (xs : List Token) (a b c : Label) → JobOutcome bytes (printed.clashed e s xs a b c)
       → jobNumbers (answerTo bytes room)
-      ≡ disagreed Disagree K (listPlace (layoutOf bytes) + placeOfLabel (foldedList e xs) 0 a) (listPlace (layoutOf bytes) + placeOfLabel (foldedList e xs) 0 b)
-      (listPlace (layoutOf bytes) + placeOfLabel (foldedList e xs) 0 c)
+      ≡ disagreed Disagree K (bodyPlace K (layoutOf bytes) + placeOfLabel (foldedList e xs) 0 a) (bodyPlace K (layoutOf bytes) + placeOfLabel (foldedList e xs) 0 b)
+      (bodyPlace K (layoutOf bytes) + placeOfLabel (foldedList e xs) 0 c)
   job-eight-promise = HostLaws.job-eight-numbers bytes room
 
-  -- request C-16: the line of a claim that passes; 14 with the places of the first three in the job's claim
+  -- C-16: the line of a claim that passes. Number 14 comes with the places of its three labels in the job's claim.
   pub job-claim-promise : (n : ℕ) → JobOutcome bytes (printed.passed n) → length (claimLine n) ≤ room
       → jobNumbers (answerTo bytes room) ≡ succeeded 0 (length (claimLine n))
   job-claim-promise = HostLaws.job-claim-numbers bytes room
 
   pub job-fourteen-promise : (e : Edition) (s : Tree) (ys : List Token) (a b c : Label) → JobOutcome bytes (printed.apart e s ys a b c)
       → jobNumbers (answerTo bytes room)
-      ≡ disagreed ClaimDisagrees C (claimPlace (layoutOf bytes) + placeOfLabel (foldedList e ys) 0 a)
-      (claimPlace (layoutOf bytes) + placeOfLabel (foldedList e ys) 0 b) (claimPlace (layoutOf bytes) + placeOfLabel (foldedList e ys) 0 c)
+      ≡ disagreed ClaimDisagrees C (bodyPlace C (layoutOf bytes) + placeOfLabel (foldedList e ys) 0 a)
+      (bodyPlace C (layoutOf bytes) + placeOfLabel (foldedList e ys) 0 b) (bodyPlace C (layoutOf bytes) + placeOfLabel (foldedList e ys) 0 c)
   job-fourteen-promise = HostLaws.job-fourteen-numbers bytes room
 
   pub job-refusal-promise : (q : Refusal) → JobOutcome bytes (printed.turned q) → jobNumbers (answerTo bytes room) ≡ refusedWith q

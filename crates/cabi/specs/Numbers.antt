@@ -1,4 +1,4 @@
--- The numbers that a host gets. Scope paper, "Why a job is turned down".
+-- The numbers that a host receives. 01, "Why a job is turned down".
 use Prim.Native.Nat.{ℕ}
 use mathlib.Core.Bool.{cond, _||_}
 use mathlib.Core.List.{List}
@@ -27,7 +27,7 @@ unfoldable pub succeeded : ℕ → ℕ → AgreeResult
 succeeded size length =
     record { number = 0; letter = 0; place = 0; size = size; length = length; first = 0; second = 0; third = 0 }
 
--- number 8, K 0, or 14, C 0 (request C-16), with the places of the three labels
+-- number 8, K 0, or 14, C 0 (C-16), with the places of the three labels
 unfoldable pub disagreed : Reason → Body → ℕ → ℕ → ℕ → AgreeResult
 unfolding numberOf letterOf
 disagreed r body a b c =
@@ -48,7 +48,7 @@ refusedWith q =
       third = 0;
     }
 
--- of two trees and a list: the places of number 8 are in the list
+-- for two trees and a list; the places of number 8 are in the list
 unfoldable pub numbersOf : Solution → AgreeResult
 unfolding succeeded disagreed refusedWith placeOfLabel
 numbersOf (solved e s X text) = succeeded (length X) (length text)
@@ -56,13 +56,12 @@ numbersOf (clashed e s xs a b c) =
     disagreed Disagree K (placeOfLabel (foldedList e xs) 0 a) (placeOfLabel (foldedList e xs) 0 b) (placeOfLabel (foldedList e xs) 0 c)
 numbersOf (turned q) = refusedWith q
 
--- what the flags ask for: 1 is `strict` (request C-11), 2 the second edition (request C-15), 3 both; a greater number asks for something
--- that is not known
+-- the options of the flags: 1 is `strict` (C-11), 2 edition 2 (C-15), 3 both; a greater number is unknown
 unfoldable pub optionsOf : ℕ → Option Options
 optionsOf flags =
     cond (leb flags 3) (some (record { strict = eqb flags 1 || eqb flags 3; edition = cond (ltb flags 2) One Two })) none
 
--- flags that are not known break the rules of what may be asked: 10, J 0
+-- unknown flags are refused with 10, J 0
 abbrev pub unknownFlags : Refusal
 unknownFlags = record { reason = Contents; body = J; place = 0 }
 
@@ -75,7 +74,7 @@ unfoldable pub solveWith : ℕ → List ℕ → List ℕ → List ℕ → ℕ �
 unfolding solveIf optionsOf
 solveWith flags first second required room = solveIf (optionsOf flags) first second required room
 
--- request C-16, of a claim: its size, or the row that turns it away; the places of 8 are in the list, those of 14 in the claim
+-- C-16, for a claim: its size, or its refusal; the places of 8 are in the list, those of 14 in the claim
 unfoldable pub claimNumbers : Judgement → AgreeResult
 unfolding succeeded disagreed refusedWith placeOfLabel
 claimNumbers (passes n) = succeeded n 0
@@ -95,7 +94,7 @@ unfoldable pub judgeWith : ℕ → List ℕ → List ℕ → List ℕ → List �
 unfolding judgeIf optionsOf
 judgeWith flags first second required claim = judgeIf (optionsOf flags) first second required claim
 
--- of a job: the length of its lines, of which the first tells the size; the places of 8 are those in the job's list, of 14 in its claim
+-- for a job: the length of its lines, the first of which has the size; the places of 8 are in the job's list, those of 14 in its claim
 unfoldable pub namedIn : Reason → Body → Named → AgreeResult
 unfolding disagreed
 namedIn r body n = disagreed r body (n .first .place) (n .second .place) (n .third .place)

@@ -1,7 +1,7 @@
 // The engine for hosts written in C: numbers and byte slices in, numbers out. One archive, one header (include/agree.h).
 //
-// No function has a `requires`. A struct of numbers comes back by value, since every answer is a handful of numbers and a host
-// then reads them by name; a packed number would have to be taken apart.
+// No function has a `requires`. A struct of numbers is returned by value: every answer is a few numbers, and a host reads them by name. A
+// packed number would have to be taken apart.
 ghost use mathlib.Core.Path.{_≡_};
 ghost use mathlib.Core.Option.{some};
 ghost use Prim.Native.Nat.{_≤_};
@@ -22,15 +22,15 @@ use trees::Edition;
 use trees::Reason;
 use trees::Refusal;
 
-// The flag for a job that a leaf in only one tree stops.
+// The flag for `strict`: a leaf in only one tree stops the job.
 const STRICT: usize = 1;
 
-// The flag for the second edition of the naming code; no greater flag is known.
+// The flag for edition 2; no greater flag is known.
 const EDITION_2: usize = 2;
 
-// The refusal's number (0 on success), its letter and place; on success the length of the text in the output and, of `agree_largest` and
-// `agree_claim`, the size of the set; for numbers 8 and 14 where the three labels stand, in the list, in the claim or, of `agree_job`, in
-// the job.
+// The refusal's number (0 on success), its letter and place. On success `length` is that of the text in the output; `size` is the size of
+// the set for `agree_largest` and `agree_claim`. For numbers 8 and 14 `first`, `second` and `third` are the places of the three labels: in
+// the list, in the claim or, for `agree_job`, in the job.
 #[repr(C)]
 pub struct AgreeResult {
     pub number: usize,
@@ -59,7 +59,7 @@ fn succeeded(size: usize, length: usize) -> AgreeResult
     }
 }
 
-// Number 8 of the list, or 14 of the claim, with the places of its three labels.
+// Number 8 for the list, or 14 for the claim, with the places of its three labels.
 fn disagreed(reason: Reason, body: Body, a: usize, b: usize, c: usize) -> AgreeResult
     ensures { λ r. ⌜ r ≡ disagreed reason body a b c ⌝ }
 {
@@ -77,7 +77,7 @@ fn disagreed(reason: Reason, body: Body, a: usize, b: usize, c: usize) -> AgreeR
     }
 }
 
-// Any other row of the table.
+// Any other refusal.
 fn refused_with(refusal: Refusal) -> AgreeResult
     ensures { λ r. ⌜ r ≡ refusedWith refusal ⌝ }
 {
@@ -145,7 +145,7 @@ pub extern "C" fn agree_largest(
     answered(options, first, second, required, out)
 }
 
-// What flags of at most 3 ask for.
+// The options of flags of at most 3.
 fn options_of(flags: usize) -> Options
     requires { ⌜ flags ≤ 3 ⌝ }
     ensures { λ r. ⌜ some r ≡ optionsOf flags ⌝ }
@@ -169,7 +169,7 @@ fn is_known(flags: usize) -> bool
     flags <= STRICT + EDITION_2
 }
 
-// The refusal of flags that are not known.
+// The refusal of unknown flags.
 fn unknown_flags() -> Refusal
     ensures { λ r. ⌜ r ≡ unknownFlags ⌝ }
 {
@@ -180,8 +180,7 @@ fn unknown_flags() -> Refusal
     }
 }
 
-// The same with flags: 1 asks for `strict`, 2 for the second edition, 3 for both. Flags that are not known are refused with
-// 10, J, 0, before anything is read.
+// The same with flags: 1 for `strict`, 2 for edition 2, 3 for both. Unknown flags are refused with 10, J, 0, before anything is read.
 #[no_mangle]
 pub extern "C" fn agree_largest_with(
     flags: usize,
@@ -205,8 +204,8 @@ pub extern "C" fn agree_largest_with(
     answered(options, first, second, required, out)
 }
 
-// Whether a claimed set holds every required label, the trees agree on it and no larger such set exists: its size, or the first row that
-// turns it away. Flags as above.
+// Whether a claimed set contains every required label, the trees agree on it and no larger such set exists: its size, or the first refusal.
+// Flags are as above.
 #[no_mangle]
 pub extern "C" fn agree_claim(
     flags: usize,
@@ -233,7 +232,7 @@ pub extern "C" fn agree_claim(
     }
 }
 
-// Three labels of a job that disagree, by their places in it.
+// Three labels of a job with different closer pairs, by their places in it.
 fn named_in(reason: Reason, body: Body, named: Named) -> AgreeResult
     ensures { λ r. ⌜ r ≡ namedIn reason body named ⌝ }
 {
@@ -243,7 +242,7 @@ fn named_in(reason: Reason, body: Body, named: Named) -> AgreeResult
     disagreed(reason, body, one.place, two.place, three.place)
 }
 
-// The answer to a job; its lines go into `out`. The size is told by the first of them, or by the only one of a job with a claim.
+// The answer to a job; its lines go into `out`. The size is in the first of them, or in the only one for a job with a claim.
 #[no_mangle]
 pub extern "C" fn agree_job(bytes: &[u8], out: &mut [u8]) -> AgreeResult
     ensures numbers { λ r. ⌜ r ≡ jobNumbers (answerTo (now (bytes .entry)) (length (now (out .entry)))) ⌝ }

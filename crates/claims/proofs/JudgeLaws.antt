@@ -1,5 +1,5 @@
 -- The judgement of a claim, from texts to the verdict. Assumes nothing.
-use Prim.Native.Nat.{ℕ}
+use Prim.Native.Nat.{ℕ, _+_, _*_}
 use mathlib.Core.Path.{_≡_, refl, sym, _∙_, ap}
 use mathlib.Core.Bool.{Bool, true, false, cond}
 use mathlib.Core.List.{List}
@@ -12,7 +12,7 @@ use Rattle.trees.specs.declared.Reason.{Reason}
 use Rattle.trees.specs.declared.Reason.the-variants.{FirstLacks, SecondLacks, NotShared, ClaimLacks, ClaimSmall}
 use Rattle.trees.specs.declared.Body.{Body}
 use Rattle.trees.specs.declared.Body.the-variants.{S, T, K, C}
-use Rattle.trees.specs.Refusals.{numberOf}
+use Rattle.trees.specs.Refusals.{numberOf, letterOf}
 use Rattle.trees.specs.declared.Edition.{Edition}
 use Rattle.trees.specs.Edition.{inEdition, folded, keyed}
 use Rattle.trees.specs.Label.{Label, distinct}
@@ -26,7 +26,7 @@ use Rattle.newick.proofs.EditionReads.{accepts-in}
 use Rattle.lists.specs.ReadList.{readListIn, foldedList, keysOf}
 use Rattle.lists.proofs.EditionLists.{list-accepts-in}
 use Rattle.agreement.specs.Closer.{holds, Common}
-use Rattle.agreement.specs.Strict.{SameLeaves, IsStray, inFirst, inSecond}
+use Rattle.agreement.specs.Strict.{SameLeaves, IsStray}
 use Rattle.agreement.specs.Sets.{setOf}
 use Rattle.agreement.specs.Answer.{Answer, firstLacks, secondLacks, disagree, largest, largestSet, answer}
 use Rattle.agreement.specs.Places.{placeIn, placeOfNumber}
@@ -35,13 +35,11 @@ use Rattle.agreement.proofs.AnswerLaws.{agree-no-clash}
 use Rattle.agreement.proofs.Promises as agreement
 use Rattle.mast.specs.Largest.{Task}
 use Rattle.mast.specs.Compare.{missing, compareOther, compareAnswers}
-use Rattle.mast.specs.Strays.{sharedOf}
 use Rattle.mast.proofs.BodyLaws.{Unread}
-use Rattle.mast.proofs.CompareLaws.{compare-first, compare-second, compare-stray, compare-list, compare-other, compare-read, size-first}
-use Rattle.mast.proofs.StrayLaws.{shared-nowhere, stray-told}
+use Rattle.mast.proofs.CompareLaws.{compare-first, compare-second, compare-stray-first, compare-stray-second, compare-list, compare-other, compare-read, size-first}
+use Rattle.mast.proofs.StrayLaws.{shared-nowhere}
 use Rattle.claims.specs.Claim.{IsClaim, Verdict, claimFirstLacks, claimSecondLacks, claimLacks, claimDisagrees, claimSmall, claimPasses, Clear, VerdictIs}
-use Rattle.claims.specs.Judge.{Judgement, passes, disagrees, apart, declined, ReadsClaim, judgedBySize, judgedByThree, judgedByList, judgedBy, judge, judgementOf, claimResult}
-use Rattle.claims.specs.Rows.{saidOfClaim, saidOfJudgement}
+use Rattle.claims.specs.Judge.{Judgement, passes, disagrees, apart, declined, ReadsClaim, judgedBySize, judgedByThree, judgedByList, judgedBy, judge, judgementOf}
 use Rattle.claims.proofs.VerdictLaws.{bySize, byMissing, found, found-is, found-only, passes-clear}
 
 -- what is told of the comparison is what is told of the verdict
@@ -71,12 +69,15 @@ judged-found e s xs ys size (largest Z) = go (missing (keysOf e xs) (keysOf e ys
     go none = sized (ltb (length ys) size)
     go (some n) = refl
 
--- judgements that differ: by their numbers, 0 for none
+-- judgements that differ: by number and letter, 0 for none
+abbrev rowAt : ℕ → ℕ → ℕ
+rowAt number letter = number * 256 + letter
+
 abbrev kindOf : Judgement → ℕ
 kindOf (passes n) = 0
-kindOf (disagrees e s xs a b c) = 8
-kindOf (apart e s ys a b c) = 14
-kindOf (declined q) = numberOf (q .reason)
+kindOf (disagrees e s xs a b c) = rowAt 8 75
+kindOf (apart e s ys a b c) = rowAt 14 67
+kindOf (declined q) = rowAt (numberOf (q .reason)) (letterOf (q .body))
 
 abbrev placeOf : Judgement → ℕ
 placeOf (passes n) = 0
@@ -164,7 +165,7 @@ module _ (q : Task) (claim : List ℕ) (s t : Tree) (xs ys : List Token) (read :
     told-back j f e = let w = verdict-found in f (w .0) (w .1) (sym (w .2) ∙ e)
 
     passes-exactly : (n : ℕ) → (judge q claim ≡ passes n) ↔ (IsClaim one two L Y × (n ≡ length ys))
-    unfolding judgementOf numberOf
+    unfolding judgementOf numberOf letterOf
     passes-exactly n = (told-back (passes n) go, λ (h : IsClaim one two L Y × (n ≡ length ys)). verdict-decides (claimPasses n) (h .0, h .1 ∙ sym counted))
       where
         go : (v : Verdict) → VerdictIs one two L Y v → judgementOf E s xs ys v ≡ passes n → IsClaim one two L Y × (n ≡ length ys)
@@ -175,9 +176,47 @@ module _ (q : Task) (claim : List ℕ) (s t : Tree) (xs ys : List Token) (read :
         go claimSmall h e = absurd (omega (arith, ap kindOf e))
         go (claimPasses m) h e = let k : m ≡ n = cc in (h .0, sym k ∙ h .1 ∙ counted)
 
+    lacks-exactly : (p : ℕ) → (judge q claim ≡ declined (record { reason = FirstLacks; body = C; place = p }))
+        ↔ ((n : ℕ) × IsFirstLacks one two Y n × (p ≡ placeOfNumber ys n))
+    unfolding judgementOf numberOf letterOf
+    lacks-exactly p = (
+      told-back (declined (record { reason = FirstLacks; body = C; place = p })) go,
+      λ (h : (n : ℕ) × IsFirstLacks one two Y n × (p ≡ placeOfNumber ys n)).
+          verdict-decides (claimFirstLacks (h .0)) (h .1)
+          ∙ ap (λ (i : ℕ). declined (record { reason = FirstLacks; body = C; place = i })) (sym (h .2)),
+    )
+      where
+        go : (v : Verdict) → VerdictIs one two L Y v → judgementOf E s xs ys v ≡ declined (record { reason = FirstLacks; body = C; place = p })
+            → (n : ℕ) × IsFirstLacks one two Y n × (p ≡ placeOfNumber ys n)
+        go (claimFirstLacks m) h e = (m, h, sym (ap placeOf e))
+        go (claimSecondLacks m) h e = absurd (omega (arith, ap kindOf e))
+        go (claimLacks m) h e = absurd (omega (arith, ap kindOf e))
+        go (claimDisagrees a b c) h e = absurd (omega (arith, ap kindOf e))
+        go claimSmall h e = absurd (omega (arith, ap kindOf e))
+        go (claimPasses m) h e = absurd (omega (arith, ap kindOf e))
+
+    only-second-exactly : (p : ℕ) → (judge q claim ≡ declined (record { reason = SecondLacks; body = C; place = p }))
+        ↔ ((n : ℕ) × IsSecondLacks one two Y n × (p ≡ placeOfNumber ys n))
+    unfolding judgementOf numberOf letterOf
+    only-second-exactly p = (
+      told-back (declined (record { reason = SecondLacks; body = C; place = p })) go,
+      λ (h : (n : ℕ) × IsSecondLacks one two Y n × (p ≡ placeOfNumber ys n)).
+          verdict-decides (claimSecondLacks (h .0)) (h .1)
+          ∙ ap (λ (i : ℕ). declined (record { reason = SecondLacks; body = C; place = i })) (sym (h .2)),
+    )
+      where
+        go : (v : Verdict) → VerdictIs one two L Y v → judgementOf E s xs ys v ≡ declined (record { reason = SecondLacks; body = C; place = p })
+            → (n : ℕ) × IsSecondLacks one two Y n × (p ≡ placeOfNumber ys n)
+        go (claimFirstLacks m) h e = absurd (omega (arith, ap kindOf e))
+        go (claimSecondLacks m) h e = (m, h, sym (ap placeOf e))
+        go (claimLacks m) h e = absurd (omega (arith, ap kindOf e))
+        go (claimDisagrees a b c) h e = absurd (omega (arith, ap kindOf e))
+        go claimSmall h e = absurd (omega (arith, ap kindOf e))
+        go (claimPasses m) h e = absurd (omega (arith, ap kindOf e))
+
     thirteen-exactly : (p : ℕ) → (judge q claim ≡ declined (record { reason = ClaimLacks; body = K; place = p }))
         ↔ ((n : ℕ) × VerdictIs one two L Y (claimLacks n) × (p ≡ placeOfNumber xs n))
-    unfolding judgementOf numberOf
+    unfolding judgementOf numberOf letterOf
     thirteen-exactly p = (
       told-back (declined (record { reason = ClaimLacks; body = K; place = p })) go,
       λ (h : (n : ℕ) × VerdictIs one two L Y (claimLacks n) × (p ≡ placeOfNumber xs n)).
@@ -195,7 +234,7 @@ module _ (q : Task) (claim : List ℕ) (s t : Tree) (xs ys : List Token) (read :
         go (claimPasses m) h e = absurd (omega (arith, ap kindOf e))
 
     fourteen-exactly : (a b c : Label) → (judge q claim ≡ apart E s ys a b c) ↔ VerdictIs one two L Y (claimDisagrees a b c)
-    unfolding judgementOf numberOf
+    unfolding judgementOf numberOf letterOf
     fourteen-exactly a b c = (told-back (apart E s ys a b c) go, verdict-decides (claimDisagrees a b c))
       where
         go : (v : Verdict) → VerdictIs one two L Y v → judgementOf E s xs ys v ≡ apart E s ys a b c
@@ -212,7 +251,7 @@ module _ (q : Task) (claim : List ℕ) (s t : Tree) (xs ys : List Token) (read :
         go (claimPasses m) h e = absurd (omega (arith, ap kindOf e))
 
     fifteen-exactly : (judge q claim ≡ declined (record { reason = ClaimSmall; body = C; place = 0 })) ↔ VerdictIs one two L Y claimSmall
-    unfolding judgementOf numberOf
+    unfolding judgementOf numberOf letterOf
     fifteen-exactly = (told-back (declined (record { reason = ClaimSmall; body = C; place = 0 })) go, verdict-decides claimSmall)
       where
         go : (v : Verdict) → VerdictIs one two L Y v → judgementOf E s xs ys v ≡ declined (record { reason = ClaimSmall; body = C; place = 0 })
@@ -233,8 +272,8 @@ module _ (q : Task) (claim : List ℕ) (s t : Tree) (xs ys : List Token) (read :
         free = agree-no-clash one two (setOf X) L (a .agreed) (a .required);
       }
 
-  past-eight : (j : Judgement) → judge q claim ≡ j → (kindOf j ≡ 6 → ⊥) → (kindOf j ≡ 7 → ⊥) → (kindOf j ≡ 8 → ⊥) → Clear one two L
-  unfolding compareAnswers judgedBy numberOf
+  past-eight : (j : Judgement) → judge q claim ≡ j → (kindOf j ≡ rowAt 6 75 → ⊥) → (kindOf j ≡ rowAt 7 75 → ⊥) → (kindOf j ≡ rowAt 8 75 → ⊥) → Clear one two L
+  unfolding compareAnswers judgedBy numberOf letterOf
   past-eight j e six seven eight = go (answer one two L) refl
     where
       read-as : (A : Answer) → answer one two L ≡ A → j ≡ judgedBy (compareAnswers E s xs ys A (answer one two Y))
@@ -254,16 +293,26 @@ module _ (q : Task) (claim : List ℕ) (s t : Tree) (xs ys : List Token) (read :
   )
 
   -- a judgement that is told exactly if its sentence holds, where 6, 7 and 8 do not, is told exactly if these do not and it holds
-  once-clear : (j : Judgement) (P : Type 0) → (kindOf j ≡ 6 → ⊥) → (kindOf j ≡ 7 → ⊥) → (kindOf j ≡ 8 → ⊥)
+  once-clear : (j : Judgement) (P : Type 0) → (kindOf j ≡ rowAt 6 75 → ⊥) → (kindOf j ≡ rowAt 7 75 → ⊥) → (kindOf j ≡ rowAt 8 75 → ⊥)
       → (Clear one two L → (judge q claim ≡ j) ↔ P) → (judge q claim ≡ j) ↔ (Clear one two L × P)
   once-clear j P six seven eight f = (
     λ (e : judge q claim ≡ j). let c = past-eight j e six seven eight in (c, f c .0 e),
     λ (h : Clear one two L × P). f (h .0) .1 (h .1),
   )
 
+  pub six-exactly : (p : ℕ) → (judge q claim ≡ declined (record { reason = FirstLacks; body = C; place = p }))
+      ↔ (Clear one two L × ((n : ℕ) × IsFirstLacks one two Y n × (p ≡ placeOfNumber ys n)))
+  unfolding numberOf letterOf
+  six-exactly p = once-clear _ _ (λ k. omega (arith, k)) (λ k. omega (arith, k)) (λ k. omega (arith, k)) (λ c. lacks-exactly c p)
+
+  pub seven-exactly : (p : ℕ) → (judge q claim ≡ declined (record { reason = SecondLacks; body = C; place = p }))
+      ↔ (Clear one two L × ((n : ℕ) × IsSecondLacks one two Y n × (p ≡ placeOfNumber ys n)))
+  unfolding numberOf letterOf
+  seven-exactly p = once-clear _ _ (λ k. omega (arith, k)) (λ k. omega (arith, k)) (λ k. omega (arith, k)) (λ c. only-second-exactly c p)
+
   pub missing-exactly : (p : ℕ) → (judge q claim ≡ declined (record { reason = ClaimLacks; body = K; place = p }))
       ↔ (Clear one two L × ((n : ℕ) × VerdictIs one two L Y (claimLacks n) × (p ≡ placeOfNumber xs n)))
-  unfolding numberOf
+  unfolding numberOf letterOf
   missing-exactly p = once-clear _ _ (λ k. omega (arith, k)) (λ k. omega (arith, k)) (λ k. omega (arith, k)) (λ c. thirteen-exactly c p)
 
   pub apart-exactly : (a b c : Label)
@@ -273,7 +322,7 @@ module _ (q : Task) (claim : List ℕ) (s t : Tree) (xs ys : List Token) (read :
 
   pub small-exactly : (judge q claim ≡ declined (record { reason = ClaimSmall; body = C; place = 0 }))
       ↔ (Clear one two L × VerdictIs one two L Y claimSmall)
-  unfolding numberOf
+  unfolding numberOf letterOf
   small-exactly = once-clear _ _ (λ k. omega (arith, k)) (λ k. omega (arith, k)) (λ k. omega (arith, k)) (λ c. fifteen-exactly c)
 
 -- ---- bodies that are not read, and a leaf in only one tree of a strict job
@@ -297,15 +346,15 @@ module _ (q : Task) (claim : List ℕ) where
   module _ (s t : Tree) (e : readTreeIn (q .options .edition) (q .first) ≡ good s) (f : readTreeIn (q .options .edition) (q .second) ≡ good t) where
     pub stray-first : q .options .strict ≡ true → (x : Label) → IsStray (keyed (q .options .edition) s) (keyed (q .options .edition) t) x
         → judge q claim ≡ declined (record { reason = NotShared; body = S; place = placeIn (folded (q .options .edition) s) 0 x })
-    unfolding judge judgedBy sharedOf
-    stray-first h x k = ap judgedBy (compare-stray q claim s t e f _ (rw (stray-told (q .options) s t h (inFirst x) k) refl))
+    unfolding judge judgedBy
+    stray-first h x k = ap judgedBy (compare-stray-first q claim s t e f h x k)
 
     pub stray-second : q .options .strict ≡ true → (x : Label)
         → ((y : Label) → holds (keyed (q .options .edition) s) y ≡ true → holds (keyed (q .options .edition) t) y ≡ true)
         → IsStray (keyed (q .options .edition) t) (keyed (q .options .edition) s) x
         → judge q claim ≡ declined (record { reason = NotShared; body = T; place = placeIn (folded (q .options .edition) t) 0 x })
-    unfolding judge judgedBy sharedOf
-    stray-second h x a k = ap judgedBy (compare-stray q claim s t e f _ (rw (stray-told (q .options) s t h (inSecond x) (a, k)) refl))
+    unfolding judge judgedBy
+    stray-second h x a k = ap judgedBy (compare-stray-second q claim s t e f h x a k)
 
     module _ (h : q .options .strict ≡ true → SameLeaves (keyed (q .options .edition) s) (keyed (q .options .edition) t)) (r : Reason) (i : ℕ) where
       pub list-refused : readListIn (q .options .edition) (q .required) ≡ refused r i
@@ -321,11 +370,3 @@ module _ (q : Task) (claim : List ℕ) where
       claim-refused xs g k =
           ap judgedBy
           (compare-other q claim s t e f (shared-nowhere (q .options) s t h) xs g _ (unread (readListIn (q .options .edition) claim) C r i k))
-
--- the papers' numbers and values
-pub claim-said : (j : Judgement) → saidOfClaim (claimResult j .answer) ≡ saidOfJudgement j
-unfolding claimResult saidOfClaim saidOfJudgement
-claim-said (passes n) = refl
-claim-said (disagrees e s xs a b c) = refl
-claim-said (apart e s ys a b c) = refl
-claim-said (declined q) = refl

@@ -1,16 +1,18 @@
--- What is promised of a claim, in the order of request C-16; each theorem cites one name. The contract of `judge` says that its judgement
--- is what comes back. Trees and lists are as they stand; agreement is asked of their keys, for each edition at once. Assumes nothing.
+-- What is promised about a claim, in the order of C-16. Each theorem cites one name. The contract of `judge` states that its judgement is
+-- what is returned. Trees and lists are of tokens; agreement is about their keys, for both editions at once. Assumes nothing.
 use Prim.Native.Nat.{ℕ}
-use mathlib.Core.Path.{_≡_}
+use mathlib.Core.Path.{_≡_, refl}
 use mathlib.Core.Bool.{true}
-use mathlib.Core.List.{List}
+use mathlib.Core.List.{List, [], _∷_}
 use mathlib.Core.Logic.{_↔_}
 use lib.ListN.{length}
 use Rattle.trees.specs.declared.Reason.{Reason}
 use Rattle.trees.specs.declared.Reason.the-variants.{FirstLacks, SecondLacks, NotShared, ClaimLacks, ClaimSmall}
 use Rattle.trees.specs.declared.Body.the-variants.{S, T, K, C}
+use Rattle.trees.specs.declared.Refusal.{Refusal}
+use Rattle.trees.specs.Refusals.{numberOf, letterOf}
 use Rattle.trees.specs.Edition.{folded, keyed}
-use Rattle.trees.specs.Label.{Label, distinct}
+use Rattle.trees.specs.Label.{Label}
 use Rattle.trees.specs.Token.{Token}
 use Rattle.trees.specs.Tree.{Tree}
 use Rattle.trees.specs.Reading.{good, refused}
@@ -23,12 +25,14 @@ use Rattle.agreement.specs.Places.{placeIn, placeOfNumber}
 use Rattle.agreement.specs.Demand.{Allowed, IsAnswer, IsFirstLacks, IsSecondLacks, IsDisagreement}
 use Rattle.mast.specs.Largest.{Task}
 use Rattle.claims.specs.Claim.{IsClaim, Verdict, claimLacks, claimDisagrees, claimSmall, Clear, VerdictIs}
-use Rattle.claims.specs.Judge.{Judgement, passes, disagrees, apart, declined, ReadsClaim, judge, judgementOf, claimResult}
-use Rattle.claims.specs.Rows.{saidOfClaim, saidOfJudgement}
+use Rattle.claims.specs.Judge.{passes, disagrees, apart, declined, ReadsClaim, judge, judgementOf}
+use Rattle.claims.specs.declared.ClaimAnswer.the-variants as claim-answer
+use Rattle.claims.specs.Rows.{saidOfClaim}
+use Rattle.mast.specs.Rows.{granted, row}
 use Rattle.claims.proofs.JudgeLaws
 use Rattle.claims.proofs.VerdictLaws
 
--- "any of the tied largest ones passes, whoever made it": the engine's own set, and each that may be given and is as large
+-- "any of the tied largest ones passes, whoever made it": the engine's own set passes, and each allowed set of the same size.
 pub own-set-passes : (s t : Tree) (L X : List Label) → IsAnswer s t L X → IsClaim s t L X
 own-set-passes = VerdictLaws.answer-passes
 
@@ -36,14 +40,14 @@ pub tied-set-passes : (s t : Tree) (L X Y : List Label) → IsAnswer s t L X →
 tied-set-passes = VerdictLaws.tied-passes
 
 -- "no larger such set exists": whatever passes has the size of the engine's set
-pub passing-size : (s t : Tree) (L X Y : List Label) → distinct Y ≡ true → IsAnswer s t L X → IsClaim s t L Y → length Y ≡ length X
+pub passing-size : (s t : Tree) (L X Y : List Label) → IsAnswer s t L X → IsClaim s t L Y → length Y ≡ length X
 passing-size = VerdictLaws.passes-size
 
--- no claim passes where number 8 or one before it stands
+-- No claim passes if number 8 or a number before it is given.
 pub passing-is-clear : (s t : Tree) (L Y : List Label) → IsClaim s t L Y → Clear s t L
 passing-is-clear = VerdictLaws.passes-clear
 
--- "A body .. listed and read right after K": S, T, 12, K, then C, before 6, 7 and 8
+-- "A body .. listed and read right after K": S, T, 12, K, then C, before 6, 7 and 8.
 module _ (q : Task) (claim : List ℕ) where
   pub first-body : (r : Reason) (i : ℕ) → readTreeIn (q .options .edition) (q .first) ≡ refused r i
       → judge q claim ≡ declined (record { reason = r; body = S; place = i })
@@ -87,7 +91,7 @@ module _ (q : Task) (claim : List ℕ) (s t : Tree) (xs ys : List Token) (read :
   abbrev Y : List Label
   Y = keysOf (q .options .edition) ys
 
-  -- "after number 8": 6, 7 and 8 of the required list go first
+  -- "after number 8": 6, 7 and 8 of the required list come first.
   pub six-promise : (n : ℕ) → IsFirstLacks one two L n
       → judge q claim ≡ declined (record { reason = FirstLacks; body = K; place = placeOfNumber xs n })
   six-promise = JudgeLaws.six-of-list q claim s t xs ys read
@@ -101,18 +105,27 @@ module _ (q : Task) (claim : List ℕ) (s t : Tree) (xs ys : List Token) (read :
   eight-promise = JudgeLaws.eight-of-list q claim s t xs ys read
 
   module _ (clear : Clear one two L) where
-    -- then one of the sentences on the claim holds, and whichever holds decides
+    -- Then one of the verdicts on the claim holds, and it decides.
     pub some-verdict : (v : Verdict) × VerdictIs one two L Y v × (judge q claim ≡ judgementOf (q .options .edition) s xs ys v)
     some-verdict = JudgeLaws.verdict-found q claim s t xs ys read clear
 
     pub verdict-promise : (v : Verdict) → VerdictIs one two L Y v → judge q claim ≡ judgementOf (q .options .edition) s xs ys v
     verdict-promise = JudgeLaws.verdict-decides q claim s t xs ys read clear
 
-  -- "It is accepted exactly if it holds every required label, the trees agree on it and no larger such set exists", with its size
+  -- "It is accepted exactly if it holds every required label, the trees agree on it and no larger such set exists"; its size is returned.
   pub passes-promise : (n : ℕ) → (judge q claim ≡ passes n) ↔ (IsClaim one two L Y × (n ≡ length ys))
   passes-promise = JudgeLaws.accepted-exactly q claim s t xs ys read
 
-  -- 13, 14, 15, each exactly if its sentence holds and none before it does
+  -- "A label of C absent from a tree takes 6 or 7 with letter C, after number 8", then 13, 14, 15: each exactly if its sentence holds and
+  -- none before it does
+  pub claim-six-promise : (p : ℕ) → (judge q claim ≡ declined (record { reason = FirstLacks; body = C; place = p }))
+      ↔ (Clear one two L × ((n : ℕ) × IsFirstLacks one two Y n × (p ≡ placeOfNumber ys n)))
+  claim-six-promise = JudgeLaws.six-exactly q claim s t xs ys read
+
+  pub claim-seven-promise : (p : ℕ) → (judge q claim ≡ declined (record { reason = SecondLacks; body = C; place = p }))
+      ↔ (Clear one two L × ((n : ℕ) × IsSecondLacks one two Y n × (p ≡ placeOfNumber ys n)))
+  claim-seven-promise = JudgeLaws.seven-exactly q claim s t xs ys read
+
   pub thirteen-promise : (p : ℕ) → (judge q claim ≡ declined (record { reason = ClaimLacks; body = K; place = p }))
       ↔ (Clear one two L × ((n : ℕ) × VerdictIs one two L Y (claimLacks n) × (p ≡ placeOfNumber xs n)))
   thirteen-promise = JudgeLaws.missing-exactly q claim s t xs ys read
@@ -126,5 +139,9 @@ module _ (q : Task) (claim : List ℕ) (s t : Tree) (xs ys : List Token) (read :
   fifteen-promise = JudgeLaws.small-exactly q claim s t xs ys read
 
 -- "If an answer is an enum, the promises use a definition that gives this paper's number and values for each of its cases."
-pub rows-promise : (j : Judgement) → saidOfClaim (claimResult j .answer) ≡ saidOfJudgement j
-rows-promise = JudgeLaws.claim-said
+pub rows-promise : (n a b c : ℕ) (q : Refusal)
+    → (saidOfClaim (claim-answer.Passed n) ≡ granted (n ∷ [])) × (saidOfClaim (claim-answer.Disagree a b c) ≡ row 8 75 0 (a ∷ b ∷ c ∷ []))
+    × (saidOfClaim (claim-answer.Apart a b c) ≡ row 14 67 0 (a ∷ b ∷ c ∷ []))
+    × (saidOfClaim (claim-answer.Refused q) ≡ row (numberOf (q .reason)) (letterOf (q .body)) (q .place) [])
+unfolding saidOfClaim
+rows-promise n a b c q = (refl, refl, refl, refl)

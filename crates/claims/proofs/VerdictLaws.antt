@@ -17,7 +17,7 @@ use Rattle.agreement.specs.Sets.{sorted, setOf}
 use Rattle.agreement.specs.Answer.{Answer, firstLacks, secondLacks, disagree, largest, largestSet, answer}
 use Rattle.agreement.specs.Demand.{Allowed, IsAnswer}
 use Rattle.agreement.specs.Outcome.{Outcome}
-use Rattle.agreement.proofs.SetLaws.{in-sorted, length-sorted, sorted-inc}
+use Rattle.agreement.proofs.SetLaws.{in-sorted, length-sorted, sorted-inc, inc-distinct}
 use Rattle.agreement.proofs.AnswerLaws.{agree-no-clash}
 use Rattle.agreement.proofs.Promises as agreement
 use Rattle.mast.specs.Compare.{missing}
@@ -55,6 +55,7 @@ claim-allowed s t K Y d r c a = record {
 -- the set that the engine gives passes
 pub answer-passes : (s t : Tree) (K X : List Label) → IsAnswer s t K X → IsClaim s t K X
 answer-passes s t K X h = record {
+  different = inc-distinct X (h .allowedSet .ordered);
   required = h .allowedSet .required;
   commonLeaves = h .allowedSet .commonLeaves;
   agreed = h .allowedSet .agreed;
@@ -64,6 +65,7 @@ answer-passes s t K X h = record {
 -- so does any that may be given and is as large
 pub tied-passes : (s t : Tree) (K X Y : List Label) → IsAnswer s t K X → Allowed s t K Y → length Y ≡ length X → IsClaim s t K Y
 tied-passes s t K X Y h k e = record {
+  different = inc-distinct Y (k .ordered);
   required = k .required;
   commonLeaves = k .commonLeaves;
   agreed = k .agreed;
@@ -71,9 +73,9 @@ tied-passes s t K X Y h k e = record {
 }
 
 -- and whatever passes has the size of the engine's set
-pub passes-size : (s t : Tree) (K X Y : List Label) → distinct Y ≡ true → IsAnswer s t K X → IsClaim s t K Y → length Y ≡ length X
-passes-size s t K X Y d h k =
-    let a = claim-allowed s t K Y d (k .required) (k .commonLeaves) (k .agreed) in
+pub passes-size : (s t : Tree) (K X Y : List Label) → IsAnswer s t K X → IsClaim s t K Y → length Y ≡ length X
+passes-size s t K X Y h k =
+    let a = claim-allowed s t K Y (k .different) (k .required) (k .commonLeaves) (k .agreed) in
     omega (arith, h .largestSize (sorted Y) a, length-sorted Y, k .largestSize X (h .allowedSet))
 
 -- where a claim passes, no three required labels clash
@@ -112,6 +114,7 @@ module _ (s t : Tree) (K Y : List Label) (proper : Proper s) (different : distin
           (c, r, a, record { larger = X; allowed = given .allowedSet; more = ltb-true (length Y) (length X) e })
       go false e = (
         record {
+          different = different;
           required = r;
           commonLeaves = c;
           agreed = a;

@@ -1,11 +1,11 @@
--- A claimed set, over sets of labels. Change requests, C-16: "It is accepted exactly if it holds every required label, the trees agree on
+-- A claimed set, over sets of labels. C-16: "It is accepted exactly if it holds every required label, the trees agree on
 -- it and no larger such set exists; any of the tied largest ones passes, whoever made it."
 use Prim.Native.Nat.{ℕ, _≤_, _<_}
 use mathlib.Core.Path.{_≡_}
 use mathlib.Core.Bool.{true}
 use mathlib.Core.List.{List}
 use lib.ListN.{length}
-use Rattle.trees.specs.Label.{Label, isIn}
+use Rattle.trees.specs.Label.{Label, isIn, distinct}
 use Rattle.trees.specs.Tree.{Tree}
 use Rattle.agreement.specs.Closer.{Agree, Common}
 use Rattle.agreement.specs.Sets.{setOf}
@@ -16,8 +16,10 @@ use Rattle.mast.specs.Compare.{IsMissing}
 abbrev pub HoldsRequired : List Label → List Label → Type 0
 HoldsRequired K Y = (x : Label) → isIn x K ≡ true → isIn x Y ≡ true
 
--- the claim Y passes: its labels are different, in any order
+-- the claim Y passes
 pub record IsClaim (s t : Tree) (K Y : List Label) : Type 0 where
+  -- its labels are different, in any order
+  pub different : distinct Y ≡ true
   pub required : HoldsRequired K Y
   -- only common leaves
   pub commonLeaves : Common s t (setOf Y)
@@ -25,12 +27,12 @@ pub record IsClaim (s t : Tree) (K Y : List Label) : Type 0 where
   -- no larger such set exists
   pub largestSize : (X : List Label) → Allowed s t K X → length X ≤ length Y
 
--- what is said of a claim where number 8 and all before it do not turn the job away
+-- the verdict on a claim, if neither number 8 nor a number before it is given
 pub data Verdict : Type 0 where
-  -- 6, 7: the first tree lacks, or only the second lacks, the claim's label with this number in list order, counted from 0
+  -- 6, 7: the first tree lacks, or only the second lacks, the claim's label with this index in list order, counted from 0
   claimFirstLacks : ℕ → Verdict
   claimSecondLacks : ℕ → Verdict
-  -- 13: the claim lacks the required label with this number
+  -- 13: the claim lacks the required label with this index
   claimLacks : ℕ → Verdict
   -- 14: three claimed leaves disagree
   claimDisagrees : Label → Label → Label → Verdict
@@ -39,19 +41,19 @@ pub data Verdict : Type 0 where
   -- it passes; its size
   claimPasses : ℕ → Verdict
 
--- "after number 8": both trees hold the required labels, and no three of them have different closer pairs
+-- "after number 8": both trees have the required labels, and no three of them have different closer pairs
 pub record Clear (s t : Tree) (K : List Label) : Type 0 where
   pub commonLeaves : Common s t (setOf K)
   pub free : (a b c : Label) → Clash s t K a b c → ⊥
 
--- 15, "a claim smaller than the largest size": a larger set could be given
+-- 15, "a claim smaller than the largest size": there is a larger allowed set
 pub record IsClaimSmall (s t : Tree) (K Y : List Label) : Type 0 where
   pub larger : List Label
   pub allowed : Allowed s t K larger
   pub more : length Y < length larger
 
--- "A label of C absent from a tree takes 6 or 7 ..; then come, in order, 13 for the first required label missing from the claim, .., 14
--- for three claimed leaves that disagree, named as 8 names them, and 15": each sentence, where none before it holds
+-- "A label of C absent from a tree takes 6 or 7 ..; then come, in order, 13 for the first required label missing from the claim, .., 14 for
+-- three claimed leaves that disagree, named as 8 names them, and 15". Each case is stated for the claims to which none before it applies.
 abbrev pub VerdictIs : Tree → Tree → List Label → List Label → Verdict → Type 0
 VerdictIs s t K Y (claimFirstLacks n) = IsFirstLacks s t Y n
 VerdictIs s t K Y (claimSecondLacks n) = IsSecondLacks s t Y n

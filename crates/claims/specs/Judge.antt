@@ -1,4 +1,4 @@
--- The judgement of a claim, from texts. Change requests, C-16: "A label of C absent from a tree takes 6 or 7 with letter C, after number
+-- The judgement of a claim, from texts. C-16: "A label of C absent from a tree takes 6 or 7 with letter C, after number
 -- 8; then come, in order, 13 for the first required label missing from the claim, at that label's place in K, 14 for three claimed leaves
 -- that disagree, named as 8 names them, and 15 for a claim smaller than the largest size, both 14 and 15 at C 0."
 use Prim.Native.Nat.{ℕ}
@@ -27,18 +27,18 @@ use Rattle.claims.specs.Claim.{Verdict, claimFirstLacks, claimSecondLack
 use Rattle.claims.specs.declared.ClaimAnswer.the-variants as claim-answer
 use Rattle.claims.specs.declared.ClaimResult.{ClaimResult}
 
--- what a job with a claim comes to
+-- the result for two trees, a list and a claim
 pub data Judgement : Type 0 where
   -- the claim passes: "`claim ok`, a blank and the size"
   passes : ℕ → Judgement
-  -- number 8: the edition and the first tree, which spells all that is printed, the required list and three of its labels, by their keys
+  -- number 8: the edition; the first tree, which spells all that is printed; the required list and three of its labels, by their keys
   disagrees : Edition → Tree → List Token → Label → Label → Label → Judgement
-  -- number 14: the same of the claim
+  -- number 14: the same with the claim
   apart : Edition → Tree → List Token → Label → Label → Label → Judgement
   declined : Refusal → Judgement
 
--- the texts are read as these two trees, this list and this claim, and where the job is strict both trees hold the same leaves: no row
--- before 6 turns the job away
+-- The texts are read as these two trees, this list and this claim. If the job is strict, both trees have the same leaves. So no number
+-- before 6 is given.
 pub record ReadsClaim (q : Task) (claim : List ℕ) (s t : Tree) (xs ys : List Token) : Type 0 where
   pub reads : Reads q s t xs
   pub claim-is : readListIn (q .options .edition) claim ≡ good ys
@@ -60,19 +60,19 @@ unfolding judgedByThree
 judgedByList e s xs ys size (some n) clash = declined (record { reason = ClaimLacks; body = K; place = placeOfNumber xs n })
 judgedByList e s xs ys size none clash = judgedByThree e s ys size clash
 
--- "after number 8": what turns the trees, the lists or the claimed labels away goes first
+-- "after number 8": refusals of the trees, the lists or the claimed labels come first
 unfoldable pub judgedBy : Comparison → Judgement
 unfolding judgedByList
 judgedBy (stopped q) = declined q
 judgedBy (clashing e s xs a b c) = disagrees e s xs a b c
 judgedBy (compared e s xs ys size missed clash) = judgedByList e s xs ys size missed clash
 
--- the judgement of a claim, beside two trees and a list
+-- the judgement of a claim for two trees and a list
 unfoldable pub judge : Task → List ℕ → Judgement
 unfolding judgedBy compare
 judge q claim = judgedBy (compare q claim)
 
--- each verdict as it is told: 6 and 7 "with letter C", 13 "at that label's place in K", "both 14 and 15 at C 0"
+-- each verdict as it is returned: 6 and 7 "with letter C", 13 "at that label's place in K", "both 14 and 15 at C 0"
 unfoldable pub judgementOf : Edition → Tree → List Token → List Token → Verdict → Judgement
 judgementOf e s xs ys (claimFirstLacks n) = declined (record { reason = FirstLacks; body = C; place = placeOfNumber ys n })
 judgementOf e s xs ys (claimSecondLacks n) = declined (record { reason = SecondLacks; body = C; place = placeOfNumber ys n })
@@ -81,7 +81,7 @@ judgementOf e s xs ys (claimDisagrees a b c) = apart e s ys a b c
 judgementOf e s xs ys claimSmall = declined (record { reason = ClaimSmall; body = C; place = 0 })
 judgementOf e s xs ys (claimPasses n) = passes n
 
--- what comes back: the size; the places of three labels in the list, or in the claim, and where the first tree spells them; or the refusal
+-- What is returned: the size; the places of three labels in the list, or in the claim, and in the first tree; or the refusal.
 unfoldable pub claimResult : Judgement → ClaimResult
 unfolding setPlaces
 claimResult (passes n) = record { answer = claim-answer.Passed n; set = placesOf [] }

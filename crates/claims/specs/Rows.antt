@@ -1,15 +1,12 @@
--- The papers' number and values for each case of the answer to a claim. Scope paper, "Why a job is turned down"; request C-16.
+-- 01's number and values for each case of the answer to a claim. 01, "Why a job is turned down"; C-16.
 use Prim.Native.Nat.{ℕ}
-use mathlib.Core.List.{List, [], _∷_}
+use mathlib.Core.List.{[], _∷_}
 use Rattle.trees.specs.declared.Reason.the-variants.{ClaimDisagrees}
 use Rattle.trees.specs.declared.Body.the-variants.{C}
 use Rattle.trees.specs.Refusals.{numberOf, letterOf}
-use Rattle.lists.specs.ReadList.{foldedList}
-use Rattle.agreement.specs.Places.{placeOfLabel}
 use Rattle.mast.specs.Rows.{Said, granted, row, refusalRow, eightRow}
 use Rattle.claims.specs.declared.ClaimAnswer.{ClaimAnswer}
 use Rattle.claims.specs.declared.ClaimAnswer.the-variants as claim-answer
-use Rattle.claims.specs.Judge.{Judgement, passes, disagrees, apart, declined}
 
 -- 14, "named as 8 names them", at C 0, with the places of its three labels in the claim
 unfoldable pub fourteenRow : ℕ → ℕ → ℕ → Said
@@ -23,13 +20,3 @@ saidOfClaim (claim-answer.Passed n) = granted (n ∷ [])
 saidOfClaim (claim-answer.Disagree a b c) = eightRow a b c
 saidOfClaim (claim-answer.Apart a b c) = fourteenRow a b c
 saidOfClaim (claim-answer.Refused q) = refusalRow q
-
--- what has to be said of a judgement
-unfoldable pub saidOfJudgement : Judgement → Said
-unfolding refusalRow eightRow fourteenRow placeOfLabel
-saidOfJudgement (passes n) = granted (n ∷ [])
-saidOfJudgement (disagrees e s xs a b c) =
-    eightRow (placeOfLabel (foldedList e xs) 0 a) (placeOfLabel (foldedList e xs) 0 b) (placeOfLabel (foldedList e xs) 0 c)
-saidOfJudgement (apart e s ys a b c) =
-    fourteenRow (placeOfLabel (foldedList e ys) 0 a) (placeOfLabel (foldedList e ys) 0 b) (placeOfLabel (foldedList e ys) 0 c)
-saidOfJudgement (declined q) = refusalRow q

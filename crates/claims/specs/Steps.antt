@@ -1,4 +1,4 @@
--- What the engine tells of a claim beside the largest set, as it comes back. Intermediate: nothing public rests on this text.
+-- What the engine returns for a claim compared with the largest set. Intermediate: nothing public rests on this text.
 use Prim.Native.Nat.{ℕ}
 use mathlib.Core.Path.{_≡_}
 use mathlib.Core.List.{List}

@@ -1,4 +1,4 @@
-// A claimed set judged: does it hold the required labels, do the trees agree on it, and is it as large as the largest set?
+// A claimed set judged: does it contain the required labels, do the trees agree on it, and is it as large as the largest set?
 //
 // No public function has a `requires`.
 use lists::LabelPlaces;
@@ -23,8 +23,8 @@ ghost use Rattle.mast.specs.Largest.{task};
 ghost use Rattle.claims.specs.Judge.{judgedByList, judge, claimResult};
 ghost use Rattle.claims.specs.Steps.{Tells};
 
-// The size of a claim that passes; the places in the list of three required labels that have different closer pairs (number 8), or those
-// in the claim of three claimed ones (number 14); or why the claim was turned down.
+// The size of a claim that passes. Number 8: the places in the list of three required labels with different closer pairs. Number 14: the
+// places in the claim of three claimed ones. Or why the claim was refused.
 pub enum ClaimAnswer {
     Passed(usize),
     Disagree(usize, usize, usize),
@@ -32,7 +32,7 @@ pub enum ClaimAnswer {
     Refused(Refusal),
 }
 
-// The answer, and where three labels that it names stand in the first tree's text, as they are spelled there, in label order.
+// The answer, and the places of the three labels that it names in the first tree's text, in label order.
 pub struct ClaimResult {
     pub answer: ClaimAnswer,
     pub set: LabelPlaces,
@@ -52,7 +52,7 @@ fn without_labels(answer: ClaimAnswer) -> ClaimResult
     }
 }
 
-// The verdict on a claim that both trees hold: 13, 14, 15, or that it passes.
+// The verdict on a claim whose labels both trees have: 13, 14, 15, or that it passes.
 fn verdict(c: Compared, set: LabelPlaces) -> ClaimResult
     ensures { λ r. ⌜ ((e : Edition) (s : Tree) (xs ys : List Token) (size : ℕ) (missed : Option ℕ) (clash : Option Three)
         → Tells c set e s xs ys size missed clash → r ≡ claimResult (judgedByList e s xs ys size missed clash)) ⌝ }
@@ -81,8 +81,8 @@ fn verdict(c: Compared, set: LabelPlaces) -> ClaimResult
     without_labels(ClaimAnswer::Passed(c.count))
 }
 
-// Whether the claimed set holds every required label, the trees agree on it and no larger such set exists: its size, or the first refusal
-// in the order S, T, 12 if the options are strict, K, C, 6 or 7 of K, 8, 6 or 7 of C, 13, 14, 15.
+// Whether the claimed set contains every required label, the trees agree on it and no larger such set exists: its size, or the first
+// refusal in the order S, T, 12 if the options are strict, K, C, 6 or 7 of K, 8, 6 or 7 of C, 13, 14, 15.
 pub fn judge(
     options: Options,
     first: &[u8],

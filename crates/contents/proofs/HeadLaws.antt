@@ -1,139 +1,189 @@
--- The lines before those with lengths: `strict` and the line of the edition, each of which a job may leave out. Assumes nothing.
-use Prim.Native.Nat.{ℕ, _+_}
-use mathlib.Core.Path.{_≡_, refl, _∙_, ap}
-use mathlib.Core.Bool.{Bool, true, false}
-use mathlib.Core.Logic.{_⊎_, inl, inr}
-use mathlib.Core.List.{List, _++_}
-use mathlib.Core.Option.{some}
+-- The lines before those of the bodies, each of which a job may leave out. Assumes nothing.
+use Prim.Native.Nat.{ℕ, _+_, _≤_}
+use mathlib.Core.Path.{_≡_, refl, sym, _∙_, ap, ap₂, subst}
+use mathlib.Core.Bool.{Bool, true, false, cond}
+use mathlib.Core.Logic.{_⊎_, inl, inr, ⊎-elim}
+use mathlib.Core.List.{List, [], _∷_, _++_}
+use native.Mathlib.Omega.{arith}
 use lib.ListN.{length, drop}
-use Rattle.trees.specs.declared.Body.the-variants.{S}
-use Rattle.trees.specs.Refusals.{letterOf}
+use lib.Seq.{drop-drop}
 use Rattle.trees.specs.Words.{bytesOf}
-use Rattle.contents.specs.declared.Reading.the-variants as reading
-use Rattle.contents.specs.declared.Claim.the-variants as claims
+use Rattle.trees.proofs.Bools.{bool-cases}
+use Rattle.contents.specs.declared.Flag.{Flag}
+use Rattle.contents.specs.declared.Head.{Head}
 use Rattle.contents.specs.declared.Stated.{Stated}
 use Rattle.contents.specs.declared.Stated.the-variants as states
-use Rattle.contents.specs.declared.Table.{Table}
-use Rattle.contents.specs.Contents.{Progress, Step, onward, _andThen_, line, entryLine, strictText, editionText, begins, stay, optional}
-use Rattle.contents.specs.Contents.{withStrict, strictLine, withStated, editionLine, begun}
-use Rattle.contents.specs.Steps.{told}
-use Rattle.contents.proofs.OptionalLaws.{line-stood, line-passed, line-absent, line-written, line-unwritten}
-use Rattle.contents.proofs.OptionalLaws.{Taken, line-took, Carried, carried-line, carried-none}
-use Rattle.contents.proofs.StepLaws.{then-some}
+use Rattle.contents.specs.declared.StatedAt.{StatedAt}
+use Rattle.contents.specs.Contents.{line, lineIf, strictText, editionText, headed, begins, flagAt, statedAt, headAt}
+use Rattle.contents.proofs.BeginsLaws.{begins-own, begins-split, begins-inside, among, Opens, opens-more, opens-own, opens-other}
+use Rattle.contents.proofs.PlaceLaws.{rest-past, inside-past}
+use Rattle.contents.proofs.StepLaws.{flag-if, stated-one, stated-other}
 
--- where `E 1` does not stand
-abbrev orTwo : Step
-orTwo = optional (bytesOf "E 2") (withStated states.Two)
-
--- ---- the line of the edition at a place of the job
-
-module _ (job : List ℕ) (at : ℕ) (t : Table) where
-  pub one-stood : (u : Table) → u ≡ withStated states.One t → begins (line (bytesOf "E 1")) (drop at job) ≡ true
-      → told job (reading.At u (at + length (line (bytesOf "E 1")))) ≡ onward (told job (reading.At t at)) editionLine
-  unfolding editionLine
-  one-stood u c e = line-stood (bytesOf "E 1") (withStated states.One) orTwo job at t u c e
-
-  module _ (other : begins (line (bytesOf "E 1")) (drop at job) ≡ false) where
-    pub two-stood : (u : Table) → u ≡ withStated states.Two t → begins (line (bytesOf "E 2")) (drop at job) ≡ true
-        → told job (reading.At u (at + length (line (bytesOf "E 2")))) ≡ onward (told job (reading.At t at)) editionLine
-    unfolding editionLine optional
-    two-stood u c e =
-        line-passed (bytesOf "E 1") (withStated states.One) orTwo job at t (reading.At u (at + length (line (bytesOf "E 2")))) other
-        (line-stood (bytesOf "E 2") (withStated states.Two) stay job at t u c e)
-
-    pub none-stood : begins (line (bytesOf "E 2")) (drop at job) ≡ false
-        → told job (reading.At t at) ≡ onward (told job (reading.At t at)) editionLine
-    unfolding editionLine
-    none-stood e =
-        line-passed (bytesOf "E 1") (withStated states.One) orTwo job at t (reading.At t at) other
-        (line-absent (bytesOf "E 2") (withStated states.Two) job at t e)
-
--- ---- what is written is read
-
--- the table before the lines with lengths
-abbrev pub carrying : Bool → Stated → Table
-carrying strict stated = record { strict = strict; stated = stated; first = 0; second = 0; required = 0; claim = claims.Absent }
-
--- none of these lines stands next
-pub record NoneNext (rest : List ℕ) : Type 0 where
-  pub strict : begins (line (bytesOf "strict")) rest ≡ false
+-- the line of the edition is not the next one
+pub record NoEdition (rest : List ℕ) : Type 0 where
   pub one : begins (line (bytesOf "E 1")) rest ≡ false
   pub two : begins (line (bytesOf "E 2")) rest ≡ false
 
--- the line of S is none of them: its first letter is another
-pub entry-next : (n : ℕ) (rest : List ℕ) → NoneNext (entryLine S n ++ rest)
-unfolding begins line bytesOf entryLine letterOf
-entry-next n rest = record { strict = refl; one = refl; two = refl }
+-- after these lines none stands that could still be taken
+pub record Past (h : Head) (rest : List ℕ) : Type 0 where
+  pub strict : h .strict ≡ false → begins (line (bytesOf "strict")) (editionText (h .stated) ++ rest) ≡ false
+  pub edition : h .stated ≡ states.Nothing → NoEdition rest
 
--- nor is a line of the edition the line `strict`
-pub not-strict : (stated : Stated) (rest : List ℕ) → (stated ≡ states.Nothing → NoneNext rest)
+opens-edition : (stated : Stated) (bs rest : List ℕ) → Opens bs rest → Opens (69 ∷ bs) (editionText stated ++ rest)
+unfolding editionText line bytesOf
+opens-edition states.Nothing bs rest o = opens-more 69 bs rest o
+opens-edition states.One bs rest o = opens-own 69 bs []
+opens-edition states.Two bs rest o = opens-own 69 bs []
+
+-- so it is before the line of S, by its first byte
+pub opens-past : (h : Head) (rest : List ℕ) → Opens (83 ∷ []) rest → Past h rest
+unfolding among line bytesOf
+opens-past h rest o =
+    record {
+      strict = λ e. opens-other 115 _ (editionText (h .stated) ++ rest) (69 ∷ 83 ∷ []) (opens-edition (h .stated) (83 ∷ []) rest o) refl;
+      edition = λ e. record { one = opens-other 69 _ rest (83 ∷ []) o refl; two = opens-other 69 _ rest (83 ∷ []) o refl };
+    }
+
+edition-not-strict : (stated : Stated) (rest : List ℕ) → (stated ≡ states.Nothing → ⊥)
     → begins (line (bytesOf "strict")) (editionText stated ++ rest) ≡ false
 unfolding begins line bytesOf editionText
-not-strict states.Nothing rest past = past refl .strict
-not-strict states.One rest past = refl
-not-strict states.Two rest past = refl
+edition-not-strict states.Nothing rest said = absurd (said refl)
+edition-not-strict states.One rest said = refl
+edition-not-strict states.Two rest said = refl
+
+-- and after a line of the edition
+pub stated-past : (h : Head) (rest : List ℕ) → (h .stated ≡ states.Nothing → ⊥) → Past h rest
+stated-past h rest said =
+    record { strict = λ e. edition-not-strict (h .stated) rest said; edition = λ e. absurd (said e) }
 
 two-not-one : (rest : List ℕ) → begins (line (bytesOf "E 1")) (line (bytesOf "E 2") ++ rest) ≡ false
 unfolding begins line bytesOf
 two-not-one rest = refl
 
-pub strict-written : (strict : Bool) (rest : List ℕ) → begins (line (bytesOf "strict")) rest ≡ false
-    → strictLine (begun (strictText strict ++ rest)) ≡ some (record { table = carrying strict states.Nothing; rest = rest })
-unfolding strictLine optional withStrict strictText
-strict-written true rest e = line-written (bytesOf "strict") withStrict stay (carrying false states.Nothing) rest
-strict-written false rest e = line-unwritten (bytesOf "strict") withStrict stay (carrying false states.Nothing) rest e
+module _ (job : List ℕ) where
+  -- this text is left at a place of the job
+  pub record LeftAt (at : ℕ) (text : List ℕ) : Type 0 where
+    pub rest : drop at job ≡ text
+    pub inside : at ≤ length job
 
-edition-written : (strict : Bool) (stated : Stated) (rest : List ℕ) → (stated ≡ states.Nothing → NoneNext rest)
-    → editionLine (record { table = carrying strict states.Nothing; rest = editionText stated ++ rest })
-    ≡ some (record { table = carrying strict stated; rest = rest })
-unfolding editionLine optional withStated editionText
-edition-written strict states.Nothing rest past =
-    line-unwritten (bytesOf "E 1") (withStated states.One) orTwo (carrying strict states.Nothing) rest (past refl .one)
-    ∙ line-unwritten (bytesOf "E 2") (withStated states.Two) stay (carrying strict states.Nothing) rest (past refl .two)
-edition-written strict states.One rest past =
-    line-written (bytesOf "E 1") (withStated states.One) orTwo (carrying strict states.Nothing) rest
-edition-written strict states.Two rest past =
-    line-unwritten (bytesOf "E 1") (withStated states.One) orTwo (carrying strict states.Nothing) (line (bytesOf "E 2") ++ rest) (two-not-one rest)
-    ∙ line-written (bytesOf "E 2") (withStated states.Two) stay (carrying strict states.Nothing) rest
+  left-past : (at : ℕ) (word rest : List ℕ) → LeftAt at (word ++ rest) → LeftAt (at + length word) rest
+  left-past at word rest h =
+      record { rest = rest-past job at word rest (h .rest); inside = inside-past job at word rest (h .rest) (h .inside) }
 
--- both are read, and the steps after them are left
-pub head-read : (strict : Bool) (stated : Stated) (rest : List ℕ) → (stated ≡ states.Nothing → NoneNext rest) → (g : Step)
-    → (strictLine andThen editionLine andThen g) (begun (strictText strict ++ (editionText stated ++ rest)))
-    ≡ g (record { table = carrying strict stated; rest = rest })
-head-read strict stated rest past g =
-    let text : List ℕ = editionText stated ++ rest in
-    let mid : Progress = record { table = carrying strict states.Nothing; rest = text } in
-    then-some strictLine (editionLine andThen g) (begun (strictText strict ++ text)) mid (strict-written strict text (not-strict stated rest past))
-    ∙ then-some editionLine g mid (record { table = carrying strict stated; rest = rest }) (edition-written strict stated rest past)
+  -- ---- what is written is read
 
--- ---- what is read is written
+  record FlagIs (at : ℕ) (word : List ℕ) (on : Bool) (rest : List ℕ) : Type 0 where
+    on-is : flagAt job at word .on ≡ on
+    next : LeftAt (flagAt job at word .next) rest
 
-module _ (job : List ℕ) (q : Progress) where
-  abbrev bare : Bool → Table
-  bare strict = carrying strict states.Nothing
+  flag-is : (at : ℕ) (word : List ℕ) (b : Bool) (rest : List ℕ) → begins word (drop at job) ≡ b → LeftAt (cond b (at + length word) at) rest
+      → FlagIs at word b rest
+  flag-is at word b rest e h =
+      record {
+        on-is = ap (λ (f : Flag). f .on) (sym (flag-if job at word b e));
+        next = subst (λ (f : Flag). LeftAt (f .next) rest) (flag-if job at word b e) h;
+      }
 
-  strict-carried : Taken (bytesOf "strict") withStrict (begun job) q ⊎ (some (begun job) ≡ some q) → Carried strictText bare (begun job) q
-  unfolding withStrict strictText
-  strict-carried (inl w) = carried-line strictText bare (begun job) q true (bytesOf "strict") withStrict w refl refl
-  strict-carried (inr h) = carried-none strictText bare (begun job) q false h refl refl
+  flag-written : (at : ℕ) (b : Bool) (words rest : List ℕ) → (b ≡ false → begins (line words) rest ≡ false) → LeftAt at (lineIf b words ++ rest)
+      → FlagIs at (line words) b rest
+  flag-written at true words rest e h =
+      flag-is at (line words) true rest (ap (begins (line words)) (h .rest) ∙ begins-own (line words) rest) (left-past at (line words) rest h)
+  flag-written at false words rest e h = flag-is at (line words) false rest (ap (begins (line words)) (h .rest) ∙ e refl) h
 
-  pub strict-took : strictLine (begun job) ≡ some q → Carried strictText bare (begun job) q
-  unfolding strictLine optional
-  strict-took e = strict-carried (line-took (bytesOf "strict") withStrict stay (begun job) q e)
+  record StatedIs (at : ℕ) (stated : Stated) (rest : List ℕ) : Type 0 where
+    stated-is : statedAt job at .stated ≡ stated
+    next : LeftAt (statedAt job at .next) rest
 
-module _ (strict : Bool) (p q : Progress) (from : p .table ≡ carrying strict states.Nothing) where
-  two-carried : Taken (bytesOf "E 2") (withStated states.Two) p q ⊎ (some p ≡ some q) → Carried editionText (carrying strict) p q
-  unfolding editionText withStated
-  two-carried (inl w) =
-      carried-line editionText (carrying strict) p q states.Two (bytesOf "E 2") (withStated states.Two) w refl (ap (withStated states.Two) from)
-  two-carried (inr h) = carried-none editionText (carrying strict) p q states.Nothing h refl from
+  stated-as : (at : ℕ) (rest : List ℕ) (s : StatedAt) → s ≡ statedAt job at → LeftAt (s .next) rest → StatedIs at (s .stated) rest
+  stated-as at rest s e h =
+      record { stated-is = ap (λ (x : StatedAt). x .stated) (sym e); next = subst (λ (x : StatedAt). LeftAt (x .next) rest) e h }
 
-  one-carried : Taken (bytesOf "E 1") (withStated states.One) p q ⊎ (orTwo p ≡ some q) → Carried editionText (carrying strict) p q
-  unfolding editionText withStated optional
-  one-carried (inl w) =
-      carried-line editionText (carrying strict) p q states.One (bytesOf "E 1") (withStated states.One) w refl (ap (withStated states.One) from)
-  one-carried (inr h) = two-carried (line-took (bytesOf "E 2") (withStated states.Two) stay p q h)
+  -- what is stated, by what stands there
+  module _ (at : ℕ) where
+    abbrev first : List ℕ
+    first = line (bytesOf "E 1")
 
-  pub edition-took : editionLine p ≡ some q → Carried editionText (carrying strict) p q
-  unfolding editionLine
-  edition-took e = one-carried (line-took (bytesOf "E 1") (withStated states.One) orTwo p q e)
+    abbrev second : List ℕ
+    second = line (bytesOf "E 2")
+
+    one-read : begins first (drop at job) ≡ true → _≡_ {A = StatedAt} (record { stated = states.One; next = at + length first }) (statedAt job at)
+    one-read e = stated-one job at (record { on = true; next = at + length first }) (flag-if job at first true e) refl
+
+    other-read : (b : Bool) → begins first (drop at job) ≡ false → begins second (drop at job) ≡ b
+        → cond b (record { stated = states.Two; next = cond b (at + length second) at }) (record { stated = states.Nothing; next = cond b (at + length second) at })
+        ≡ statedAt job at
+    other-read b e f =
+        stated-other job at (record { on = false; next = at }) (flag-if job at first false e) (record { on = b; next = cond b (at + length second) at })
+        (flag-if job at second b f) refl b refl
+
+  stated-written : (at : ℕ) (stated : Stated) (rest : List ℕ) → (stated ≡ states.Nothing → NoEdition rest) → LeftAt at (editionText stated ++ rest)
+      → StatedIs at stated rest
+  unfolding editionText
+  stated-written at states.One rest past h =
+      stated-as at rest _ (one-read at (ap (begins (first at)) (h .rest) ∙ begins-own (first at) rest)) (left-past at (first at) rest h)
+  stated-written at states.Two rest past h =
+      stated-as at rest _ (other-read at true (ap (begins (first at)) (h .rest) ∙ two-not-one rest) (ap (begins (second at)) (h .rest) ∙ begins-own (second at) rest))
+      (left-past at (second at) rest h)
+  stated-written at states.Nothing rest past h =
+      stated-as at rest _ (other-read at false (ap (begins (first at)) (h .rest) ∙ past refl .one) (ap (begins (second at)) (h .rest) ∙ past refl .two)) h
+
+  pub record HeadIs (h : Head) (rest : List ℕ) : Type 0 where
+    pub head-is : headAt job .head ≡ h
+    pub next : LeftAt (headAt job .next) rest
+
+  pub head-written : (h : Head) (rest : List ℕ) → Past h rest → job ≡ headed h rest → HeadIs h rest
+  unfolding headAt strictText
+  head-written h rest past e =
+      let f = flag-written 0 (h .strict) (bytesOf "strict") (editionText (h .stated) ++ rest) (past .strict) (record { rest = e; inside = omega arith }) in
+      let s = stated-written (flagAt job 0 (line (bytesOf "strict")) .next) (h .stated) rest (past .edition) (f .next) in
+      record {
+        head-is = ap₂ (λ (b : Bool) (d : Stated). record { strict = b; stated = d }) (f .on-is) (s .stated-is);
+        next = s .next;
+      }
+
+  -- ---- what is read is written
+
+  -- a text at a place, and what is left after it
+  record Split (at : ℕ) (text : List ℕ) (end : ℕ) : Type 0 where
+    rest : drop at job ≡ text ++ drop end job
+    inside : end ≤ length job
+
+  split-none : (at : ℕ) → at ≤ length job → Split at [] at
+  split-none at i = record { rest = refl; inside = i }
+
+  split-word : (at : ℕ) (word : List ℕ) → at ≤ length job → begins word (drop at job) ≡ true → Split at word (at + length word)
+  split-word at word i e =
+      record {
+        rest = begins-split word (drop at job) e ∙ ap (λ (l : List ℕ). word ++ l) (drop-drop (length word) at job);
+        inside =
+            ⊎-elim (λ (z : length word ≡ 0). omega arith) (λ (z : at + length word ≤ length job). z) (begins-inside word job at e);
+      }
+
+  flag-took : (at : ℕ) (words : List ℕ) → at ≤ length job
+      → Split at (lineIf (flagAt job at (line words) .on) words) (flagAt job at (line words) .next)
+  flag-took at words i = go (bool-cases (begins (line words) (drop at job)))
+    where
+      go : (begins (line words) (drop at job) ≡ true) ⊎ (begins (line words) (drop at job) ≡ false)
+          → Split at (lineIf (flagAt job at (line words) .on) words) (flagAt job at (line words) .next)
+      go (inl e) =
+          subst (λ (f : Flag). Split at (lineIf (f .on) words) (f .next)) (flag-if job at (line words) true e) (split-word at (line words) i e)
+      go (inr e) = subst (λ (f : Flag). Split at (lineIf (f .on) words) (f .next)) (flag-if job at (line words) false e) (split-none at i)
+
+  stated-took : (at : ℕ) → at ≤ length job → Split at (editionText (statedAt job at .stated)) (statedAt job at .next)
+  unfolding editionText
+  stated-took at i = go (bool-cases (begins (first at) (drop at job))) (bool-cases (begins (second at) (drop at job)))
+    where
+      go : (begins (first at) (drop at job) ≡ true) ⊎ (begins (first at) (drop at job) ≡ false)
+          → (begins (second at) (drop at job) ≡ true) ⊎ (begins (second at) (drop at job) ≡ false)
+          → Split at (editionText (statedAt job at .stated)) (statedAt job at .next)
+      go (inl e) f = subst (λ (s : StatedAt). Split at (editionText (s .stated)) (s .next)) (one-read at e) (split-word at (first at) i e)
+      go (inr e) (inl f) =
+          subst (λ (s : StatedAt). Split at (editionText (s .stated)) (s .next)) (other-read at true e f) (split-word at (second at) i f)
+      go (inr e) (inr f) = subst (λ (s : StatedAt). Split at (editionText (s .stated)) (s .next)) (other-read at false e f) (split-none at i)
+
+  pub head-text : job ≡ headed (headAt job .head) (drop (headAt job .next) job)
+  unfolding headAt strictText
+  head-text =
+      let f = flag-took 0 (bytesOf "strict") (omega arith) in
+      let strict : Flag = flagAt job 0 (line (bytesOf "strict")) in
+      f .rest ∙ ap (λ (l : List ℕ). lineIf (strict .on) (bytesOf "strict") ++ l) (stated-took (strict .next) (f .inside) .rest)

@@ -1,8 +1,10 @@
-pub mod ClaimLaws
+pub mod BeginsLaws
 pub mod ContentsLaws
-pub mod EditionLaws
 pub mod HeadLaws
-pub mod OptionalLaws
+pub mod NumberLaws
+pub mod PlaceLaws
 pub mod Promises
+pub mod RuleLaws
 pub mod RunLaws
+pub mod SpanLaws
 pub mod StepLaws

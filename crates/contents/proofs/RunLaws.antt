@@ -3,16 +3,15 @@ use Prim.Native.Nat.{ℕ, zero, suc, _+_, _-_, _*_, _≤_, _<_}
 use mathlib.Core.Path.{_≡_, refl, sym, _∙_, ap, ap₂}
 use mathlib.Core.Bool.{Bool, true, false, cond}
 use mathlib.Core.List.{List, [], _∷_}
-use mathlib.Core.Option.{some, none}
 use native.Mathlib.Numerals.{add-one}
 use native.Mathlib.Omega.{arith}
 use lib.Dec.{leb}
 use lib.ListN.{length, getD, take, drop, drop-of-length-le}
-use lib.Seq.{drop-cons, drop-drop, getD-drop, getD-take}
+use lib.Seq.{drop-cons, getD-drop, getD-take}
 use borrow.Author.Tests.{le-leb, lt-leb, eq-eqb, ne-eqb}
 use Rattle.decimals.specs.Decimal.{isDigit, digitRun, valueFrom}
-use Rattle.contents.specs.Contents.{Number, digitLimit, goodDigits, numberAt}
-use Rattle.contents.specs.Steps.{lengthBound}
+use Rattle.contents.specs.declared.decimal.Digits.the-variants as digits
+use Rattle.contents.specs.Contents.{digitLimit, goodDigits, numberOfRun, numberAt}
 
 -- ---- digits
 
@@ -63,6 +62,10 @@ run-inside (b ∷ text) = go (isDigit b) (run-inside text)
 
 -- ---- the value
 
+-- what a value stays below, far from where it would wrap
+abbrev pub valueBound : ℕ
+valueBound = 1000000000000000
+
 -- what i digits stay below, whatever their bytes
 unfoldable pub bound : ℕ → ℕ
 bound zero = 1
@@ -79,11 +82,11 @@ bound-less i (suc k) =
     let e : i + suc k ≡ suc (i + k) = omega arith in
     rw e (omega (arith, bound-less i k))
 
-bound-limit : bound digitLimit < lengthBound
+bound-limit : bound digitLimit < valueBound
 unfolding bound
 bound-limit = omega arith
 
-pub bound-small : (i : ℕ) → i ≤ digitLimit → bound i < lengthBound
+pub bound-small : (i : ℕ) → i ≤ digitLimit → bound i < valueBound
 bound-small i h =
     let e : i + (digitLimit - i) ≡ digitLimit = omega arith in
     omega (arith, bound-limit, rw e at (bound-less i (digitLimit - i)))
@@ -116,68 +119,61 @@ value-end job at n v i h = let e : n - i ≡ 0 = omega arith in rw e refl
 
 -- ---- a number
 
-module _ (text : List ℕ) (n : ℕ) (count : n ≡ length (digitRun text)) where
-  number-if : (b : Bool) → goodDigits (digitRun text) ≡ b
-      → numberAt text ≡ cond b (some (record { value = valueFrom 0 (take n text); rest = drop n text })) none
-  unfolding numberAt
-  number-if b g =
-      rw g
-      (ap (λ (o : Number). cond b (some o) none)
-      (ap₂ (λ (r : List ℕ) (k : ℕ). record { value = valueFrom 0 r; rest = drop k text })
-      (run-first text ∙ ap (λ (k : ℕ). take k text) (sym count)) (sym count)))
-
-  pub number-none : n ≡ 0 → numberAt text ≡ none
-  number-none h = number-if false (unfold goodDigits in rw (lt-leb 1 (length (digitRun text)) (omega arith)) refl)
-
-  pub number-long : digitLimit < n → numberAt text ≡ none
-  number-long h =
-      number-if false
-      (unfold goodDigits in rw (le-leb 1 (length (digitRun text)) (omega arith), lt-leb (length (digitRun text)) digitLimit (omega arith)) refl)
-
-  first-byte : 0 < n → getD (digitRun text) 0 0 ≡ getD text 0 0
-  first-byte h =
-      ap (λ (r : List ℕ). getD r 0 0) (run-first text) ∙ getD-take (length (digitRun text)) text 0 0 (omega arith)
-
-  pub number-zero : 0 < n → n ≤ digitLimit → (n ≡ 1 → ⊥) → getD text 0 0 ≡ 48 → numberAt text ≡ none
-  number-zero p h ne z =
-      number-if false
-      (unfold goodDigits in rw (
-        le-leb 1 (length (digitRun text)) (omega arith),
-        le-leb (length (digitRun text)) digitLimit (omega arith),
-        ne-eqb (length (digitRun text)) 1 (λ (e : length (digitRun text) ≡ 1). ne (count ∙ e)),
-        eq-eqb (getD (digitRun text) 0 0) 48 (first-byte p ∙ z),
-      )
-      refl)
-
-  pub number-one : n ≡ 1 → numberAt text ≡ some (record { value = valueFrom 0 (take n text); rest = drop n text })
-  number-one h =
-      number-if true
-      (unfold goodDigits in rw (
-        le-leb 1 (length (digitRun text)) (omega arith),
-        le-leb (length (digitRun text)) digitLimit (omega arith),
-        eq-eqb (length (digitRun text)) 1 (sym count ∙ h),
-      )
-      refl)
-
-  pub number-more : 0 < n → n ≤ digitLimit → (n ≡ 1 → ⊥) → (getD text 0 0 ≡ 48 → ⊥)
-      → numberAt text ≡ some (record { value = valueFrom 0 (take n text); rest = drop n text })
-  number-more p h ne z =
-      number-if true
-      (unfold goodDigits in rw (
-        le-leb 1 (length (digitRun text)) (omega arith),
-        le-leb (length (digitRun text)) digitLimit (omega arith),
-        ne-eqb (length (digitRun text)) 1 (λ (e : length (digitRun text) ≡ 1). ne (count ∙ e)),
-        ne-eqb (getD (digitRun text) 0 0) 48 (λ (e : getD (digitRun text) 0 0 ≡ 48). z (sym (first-byte p) ∙ e)),
-      )
-      refl)
-
--- a number's value and the place after it
-pub number-told : (job : List ℕ) (at n v : ℕ)
-    → numberAt (drop at job) ≡ some (record { value = valueFrom 0 (take n (drop at job)); rest = drop n (drop at job) })
-    → v ≡ valueFrom 0 (take n (drop at job)) → numberAt (drop at job) ≡ some (record { value = v; rest = drop (at + n) job })
-number-told job at n v e f =
-    e ∙ ap₂ (λ (x : ℕ) (l : List ℕ). some (record { value = x; rest = l })) (sym f) (drop-drop n at job)
-
 -- the byte at a place is the first from there on
-pub first-at : (job : List ℕ) (at : ℕ) → getD (drop at job) 0 0 ≡ getD job at 0
+first-at : (job : List ℕ) (at : ℕ) → getD (drop at job) 0 0 ≡ getD job at 0
 first-at job at = let e : at + 0 ≡ at = omega arith in getD-drop at job 0 0 ∙ ap (λ (k : ℕ). getD job k 0) e
+
+module _ (job : List ℕ) (at n : ℕ) (count : n ≡ length (digitRun (drop at job))) where
+  abbrev run : List ℕ
+  run = digitRun (drop at job)
+
+  broken : goodDigits run ≡ false → digits.Broken ≡ numberAt job at
+  unfolding numberAt numberOfRun
+  broken g = rw g refl
+
+  read : goodDigits run ≡ true → (v : ℕ) → v ≡ valueFrom 0 (take n (drop at job)) → digits.Value v (at + n) ≡ numberAt job at
+  unfolding numberAt numberOfRun
+  read g v e =
+      rw g
+      (ap₂ digits.Value (e ∙ ap (valueFrom 0) (ap (λ (k : ℕ). take k (drop at job)) count ∙ sym (run-first (drop at job)))) (ap (λ (k : ℕ). at + k) count))
+
+  first-byte : 0 < n → getD run 0 0 ≡ getD job at 0
+  first-byte h =
+      ap (λ (r : List ℕ). getD r 0 0) (run-first (drop at job)) ∙ getD-take (length run) (drop at job) 0 0 (omega arith) ∙ first-at job at
+
+  pub number-none : n ≡ 0 → digits.Broken ≡ numberAt job at
+  number-none h = broken (unfold goodDigits in rw (lt-leb 1 (length run) (omega arith)) refl)
+
+  pub number-long : digitLimit < n → digits.Broken ≡ numberAt job at
+  number-long h =
+      broken (unfold goodDigits in rw (le-leb 1 (length run) (omega arith), lt-leb (length run) digitLimit (omega arith)) refl)
+
+  pub number-zero : 0 < n → n ≤ digitLimit → (n ≡ 1 → ⊥) → getD job at 0 ≡ 48 → digits.Broken ≡ numberAt job at
+  number-zero p h ne z =
+      broken (unfold goodDigits in rw (
+        le-leb 1 (length run) (omega arith),
+        le-leb (length run) digitLimit (omega arith),
+        ne-eqb (length run) 1 (λ (e : length run ≡ 1). ne (count ∙ e)),
+        eq-eqb (getD run 0 0) 48 (first-byte p ∙ z),
+      )
+      refl)
+
+  module _ (v : ℕ) (value : v ≡ valueFrom 0 (take n (drop at job))) where
+    pub number-one : n ≡ 1 → digits.Value v (at + n) ≡ numberAt job at
+    number-one h =
+        read (unfold goodDigits in rw (
+          le-leb 1 (length run) (omega arith),
+          le-leb (length run) digitLimit (omega arith),
+          eq-eqb (length run) 1 (sym count ∙ h),
+        )
+        refl) v value
+
+    pub number-more : 0 < n → n ≤ digitLimit → (n ≡ 1 → ⊥) → (getD job at 0 ≡ 48 → ⊥) → digits.Value v (at + n) ≡ numberAt job at
+    number-more p h ne z =
+        read (unfold goodDigits in rw (
+          le-leb 1 (length run) (omega arith),
+          le-leb (length run) digitLimit (omega arith),
+          ne-eqb (length run) 1 (λ (e : length run ≡ 1). ne (count ∙ e)),
+          ne-eqb (getD run 0 0) 48 (λ (e : getD run 0 0 ≡ 48). z (sym (first-byte p) ∙ e)),
+        )
+        refl) v value

@@ -1,218 +1,157 @@
--- The steps of reading the contents: joined, and at a place of the job. Assumes nothing.
-use Prim.Native.Nat.{ℕ, _+_, _-_, _≤_, _<_}
-use mathlib.Core.Path.{_≡_, refl, sym, _∙_, ap, subst}
-use mathlib.Core.Bool.{Bool, true, false, cond, not, _&&_}
+-- The steps of reading the contents, by what is tested. Assumes nothing.
+use Prim.Native.Nat.{ℕ, _+_, _≤_, _<_}
+use mathlib.Core.Path.{_≡_, refl, sym, _∙_, ap, ap₂}
+use mathlib.Core.Bool.{Bool, true, false, cond}
+use mathlib.Core.Logic.{⊎-elim}
 use mathlib.Core.List.{List, [], _∷_}
-use mathlib.Core.Option.{Option, some, none}
 use native.Mathlib.Omega.{arith}
 use lib.Dec.{eqb}
-use lib.ListN.{length, getD, drop, length-drop, drop-of-length-le}
-use borrow.Author.Tests.{eq-eqb, ne-eqb, not-true, not-false}
-use Rattle.trees.specs.declared.Body.{Body}
-use Rattle.trees.specs.declared.Body.the-variants.{S, T, K, C, J, O}
-use Rattle.contents.specs.declared.Stated.{Stated}
-use Rattle.contents.specs.declared.Table.{Table}
+use lib.ListN.{length, drop}
+use borrow.Author.Tests.{le-leb, lt-leb}
+use Rattle.trees.specs.declared.Body.the-variants.{S, T, K, C}
+use Rattle.trees.specs.Refusals.{letterOf}
+use Rattle.trees.specs.Stored.{partOf}
+use Rattle.trees.specs.Words.{bytesOf}
+use Rattle.contents.specs.declared.Flag.{Flag}
+use Rattle.contents.specs.declared.HeadAt.{HeadAt}
 use Rattle.contents.specs.declared.Layout.{Layout}
 use Rattle.contents.specs.declared.Layout.the-variants as layout
-use Rattle.contents.specs.declared.Reading.{Reading}
-use Rattle.contents.specs.declared.Reading.the-variants as reading
-use Rattle.trees.specs.Refusals.{letterOf}
-use Rattle.contents.specs.Contents.{Step, Progress, onward, _andThen_, byteOf, byte, numberAt, putDown, lengthStep, withLength}
-use Rattle.contents.specs.Contents.{entry, optionalEntry, emptyLine, begins, strictLine, withStated, editionLine, claimSize}
-use Rattle.contents.specs.Contents.{tableLines, begun, laidOut, layoutOf}
-use Rattle.contents.specs.Steps.{Stands, told, Small, SmallTable, lengthBound}
-use Rattle.contents.proofs.RunLaws.{at-place}
+use Rattle.contents.specs.declared.Line.{Line}
+use Rattle.contents.specs.declared.Listed.{Listed}
+use Rattle.contents.specs.declared.Listed.the-variants as listed
+use Rattle.contents.specs.declared.Next.{Next}
+use Rattle.contents.specs.declared.Next.the-variants as next
+use Rattle.contents.specs.declared.Placed.{Placed}
+use Rattle.contents.specs.declared.Span.{Span}
+use Rattle.contents.specs.declared.Span.the-variants as span
+use Rattle.contents.specs.declared.Stated.the-variants as states
+use Rattle.contents.specs.declared.StatedAt.{StatedAt}
+use Rattle.contents.specs.declared.Table.{Table}
+use Rattle.contents.specs.declared.decimal.Digits.{Digits}
+use Rattle.contents.specs.declared.decimal.Digits.the-variants as digits
+use Rattle.contents.specs.Contents.{bytes, spanIn, statedOf, statedAt, brokenLine, Entry, always, perhaps, entries, begins, line, flagAt, headAt, wordAfter, numberAt, counted, lineAfter}
+use Rattle.contents.specs.Contents.{sizesAfter, linesAfter, nowhere, placeAfter, spansAfter, bodiesAfter, laidOut, layoutOf}
+use Rattle.contents.proofs.BeginsLaws.{begins-inside}
 
--- ---- steps joined
+-- a place after bytes that are there is a number of the machine
+pub begins-room : (word text : List ℕ) (k most : ℕ) → begins word (drop k text) ≡ true → k ≤ most → length text ≤ most → k + length word ≤ most
+begins-room word text k most e h l =
+    ⊎-elim (λ (z : length word ≡ 0). omega arith) (λ (z : k + length word ≤ length text). omega arith) (begins-inside word text k e)
 
-pub then-onward : (o : Option Progress) (f g : Step) → onward o (f andThen g) ≡ onward (onward o f) g
-unfolding onward _andThen_
-then-onward none f g = refl
-then-onward (some p) f g = refl
+pub flag-if : (job : List ℕ) (at : ℕ) (word : List ℕ) (b : Bool) → begins word (drop at job) ≡ b
+    → _≡_ {A = Flag} (record { on = b; next = cond b (at + length word) at }) (flagAt job at word)
+unfolding flagAt
+flag-if job at word b e = rw e refl
 
--- a step that was taken, and those that were taken from there
-pub step-then : {m r : Option Progress} (o : Option Progress) (f g : Step) → m ≡ onward o f → r ≡ onward m g → r ≡ onward o (f andThen g)
-step-then o f g e h = h ∙ ap (λ (k : Option Progress). onward k g) e ∙ sym (then-onward o f g)
+module _ (job word : List ℕ) (from : Next) where
+  pub word-broken : from ≡ next.Broken → next.Broken ≡ wordAfter job from word
+  unfolding wordAfter
+  word-broken e = rw e refl
 
-pub then-some : (f g : Step) (p m : Progress) → f p ≡ some m → (f andThen g) p ≡ g m
-unfolding onward _andThen_
-then-some f g p m e = ap (λ (o : Option Progress). onward o g) e
+  pub word-if : (at : ℕ) → from ≡ next.At at → (b : Bool) → begins word (drop at job) ≡ b
+      → cond b (next.At (at + length word)) next.Broken ≡ wordAfter job from word
+  unfolding wordAfter
+  word-if at f b e = rw (f, e) refl
 
-pub then-none : (f g : Step) (p : Progress) → f p ≡ none → (f andThen g) p ≡ none
-unfolding onward _andThen_
-then-none f g p e = ap (λ (o : Option Progress). onward o g) e
+-- a line, by what is at the place
+module _ (job : List ℕ) (from : Next) (e : Entry) where
+  pub line-broken : from ≡ next.Broken → brokenLine ≡ lineAfter job from e
+  unfolding lineAfter
+  line-broken f = rw f refl
 
--- what lies between two steps that were taken
-pub record Between (f g : Step) (p q : Progress) : Type 0 where
-  pub mid : Progress
-  pub one : f p ≡ some mid
-  pub two : g mid ≡ some q
+  module _ (at : ℕ) (f : from ≡ next.At at) (letter : ℕ) (l : letter ≡ letterOf (e .body)) where
+    line-if : (b : Bool) → begins (letter ∷ 32 ∷ []) (drop at job) ≡ b
+        → cond b (counted job (numberAt job (at + 2))) (record { listed = listed.Absent; next = cond (e .needed) next.Broken (next.At at) })
+        ≡ lineAfter job from e
+    unfolding lineAfter
+    line-if b h =
+        let g : begins (letterOf (e .body) ∷ 32 ∷ []) (drop at job) ≡ b = ap (λ (k : ℕ). begins (k ∷ 32 ∷ []) (drop at job)) (sym l) ∙ h in
+        rw (f, g) refl
 
-pub none-some : {A : Type 0} (x : A) → none ≡ some x → ⊥
-none-some x e = let z : _≡_ {A = ℕ} 0 1 = cc in omega arith
+    pub line-other : begins (letter ∷ 32 ∷ []) (drop at job) ≡ false → (b : Bool) → e .needed ≡ b
+        → _≡_ {A = Line} (record { listed = listed.Absent; next = cond b next.Broken (next.At at) }) (lineAfter job from e)
+    line-other h b n =
+        ap (λ (x : Bool). record { listed = listed.Absent; next = cond x next.Broken (next.At at) }) (sym n) ∙ line-if false h
 
-pub between : (f g : Step) (p q : Progress) → (f andThen g) p ≡ some q → Between f g p q
-unfolding onward _andThen_
-between f g p q e = go (f p) refl e
-  where
-    go : (o : Option Progress) → f p ≡ o → onward o g ≡ some q → Between f g p q
-    go none k h = absurd (none-some q h)
-    go (some m) k h = record { mid = m; one = k; two = h }
+    pub line-own : begins (letter ∷ 32 ∷ []) (drop at job) ≡ true → (d : Digits) → d ≡ numberAt job (at + 2) → counted job d ≡ lineAfter job from e
+    line-own h d n = ap (counted job) n ∙ line-if true h
 
--- ---- one byte
+module _ (job : List ℕ) (d : Digits) where
+  pub counted-broken : d ≡ digits.Broken → brokenLine ≡ counted job d
+  unfolding counted
+  counted-broken e = rw e refl
 
-pub byte-in : (job : List ℕ) (at b : ℕ) → at < length job → (t : Table)
-    → byteOf b t (drop at job) ≡ cond (eqb (getD job at 0) b) (some (record { table = t; rest = drop (at + 1) job })) none
-unfolding byteOf
-byte-in job at b h t = rw (at-place job at h) refl
+  pub counted-value : (n at : ℕ) → d ≡ digits.Value n at → (end : Next) → end ≡ wordAfter job (next.At at) (line [])
+      → _≡_ {A = Line} (record { listed = listed.Bytes n; next = end }) (counted job d)
+  unfolding counted
+  counted-value n at e end h = rw (e, h) refl
 
--- whether a byte stands next, as a text of one byte
-pub next-in : (job : List ℕ) (at b : ℕ) → at < length job → begins (b ∷ []) (drop at job) ≡ eqb (getD job at 0) b
-unfolding begins
-next-in job at b h = rw (at-place job at h) (alone (eqb (getD job at 0) b))
-  where
-    alone : (q : Bool) → q && true ≡ q
-    alone true = refl
-    alone false = refl
+module _ (job : List ℕ) (from : Next) (v : Listed) where
+  pub place-broken : from ≡ next.Broken → nowhere ≡ placeAfter job from v
+  unfolding placeAfter
+  place-broken f = rw f refl
 
-pub next-out : (job : List ℕ) (at b : ℕ) → length job ≤ at → begins (b ∷ []) (drop at job) ≡ false
-unfolding begins
-next-out job at b h = rw (drop-of-length-le job h) refl
+  module _ (at : ℕ) (f : from ≡ next.At at) where
+    pub place-none : v ≡ listed.Absent → _≡_ {A = Placed} (record { span = span.Absent; next = next.At at }) (placeAfter job from v)
+    unfolding placeAfter
+    place-none e = rw (f, e) refl
 
-pub byte-out : (job : List ℕ) (at b : ℕ) → length job ≤ at → (t : Table) → byteOf b t (drop at job) ≡ none
-unfolding byteOf
-byte-out job at b h t = rw (drop-of-length-le job h) refl
+    module _ (n : ℕ) (e : v ≡ listed.Bytes n) where
+      pub place-past : length job < at + n → nowhere ≡ placeAfter job from v
+      unfolding placeAfter
+      place-past h = rw (f, e, lt-leb (at + n) (length job) h) refl
 
-module _ {b : ℕ} {job : List ℕ} {at : ℕ} {r : Bool} (s : Stands b job at r) where
-  abbrev taken : Table → Bool → Option Progress
-  taken t q = cond q (some (record { table = t; rest = drop (at + 1) job })) none
+      pub place-in : at + n ≤ length job → _≡_ {A = Placed} (record { span = span.At at n; next = next.At (at + n) }) (placeAfter job from v)
+      unfolding placeAfter
+      place-in h = rw (f, e, le-leb (at + n) (length job) h) refl
 
-  pub stood : (t : Table) → not r ≡ false → told job (reading.At t (at + 1)) ≡ onward (told job (reading.At t at)) (byte b)
-  unfolding told onward byte
-  stood t h = sym (s .next t ∙ ap (taken t) (not-false r h))
+module _ (job : List ℕ) (t : Table) (from : Next) where
+  pub laid-broken : from ≡ next.Broken → layout.Broken ≡ laidOut job t from
+  unfolding laidOut
+  laid-broken f = rw f refl
 
-  pub stood-not : (t : Table) → not r ≡ true → told job reading.Broken ≡ onward (told job (reading.At t at)) (byte b)
-  unfolding told onward byte
-  stood-not t h = sym (s .next t ∙ ap (taken t) (not-true r h))
+  pub laid-if : (at : ℕ) → from ≡ next.At at → (b : Bool) → eqb at (length job) ≡ b
+      → cond b (layout.Laid t) layout.Broken ≡ laidOut job t from
+  unfolding laidOut
+  laid-if at f b e = rw (f, e) refl
 
--- ---- a length
+stated-if : (one two : Flag) (a b : Bool) → one .on ≡ a → two .on ≡ b
+    → cond a (record { stated = states.One; next = one .next })
+    (cond b (record { stated = states.Two; next = two .next }) (record { stated = states.Nothing; next = two .next }))
+    ≡ statedOf one two
+unfolding statedOf
+stated-if one two a b e h = rw (e, h) refl
 
-module _ (job : List ℕ) (at : ℕ) (t : Table) (body : Body) where
-  pub length-broken : numberAt (drop at job) ≡ none → told job reading.Broken ≡ onward (told job (reading.At t at)) (lengthStep body)
-  unfolding told onward lengthStep putDown
-  length-broken e = sym (ap (putDown body t) e)
+module _ (job : List ℕ) (at : ℕ) (one : Flag) (f : one ≡ flagAt job at (line (bytesOf "E 1"))) where
+  pub stated-one : one .on ≡ true → _≡_ {A = StatedAt} (record { stated = states.One; next = one .next }) (statedAt job at)
+  unfolding statedAt
+  stated-one e =
+      let two : Flag = flagAt job at (line (bytesOf "E 2")) in
+      stated-if one two true (two .on) e refl ∙ ap (λ (x : Flag). statedOf x two) f
 
-  pub length-read : (n next : ℕ) (u : Table) → numberAt (drop at job) ≡ some (record { value = n; rest = drop next job })
-      → u ≡ withLength body n t → told job (reading.At u next) ≡ onward (told job (reading.At t at)) (lengthStep body)
-  unfolding told onward lengthStep putDown
-  length-read n next u e f =
-      ap (λ (v : Table). some (record { table = v; rest = drop next job })) f ∙ sym (ap (putDown body t) e)
+  pub stated-other : (two : Flag) → two ≡ flagAt job at (line (bytesOf "E 2")) → one .on ≡ false → (b : Bool) → two .on ≡ b
+      → cond b (record { stated = states.Two; next = two .next }) (record { stated = states.Nothing; next = two .next }) ≡ statedAt job at
+  unfolding statedAt
+  stated-other two g e b h = stated-if one two false b e h ∙ ap₂ statedOf f g
 
--- ---- the lengths add up, or not
+-- all steps, one after another
+pub contents-steps : (job : List ℕ) (h : HeadAt) (f g k c : Line) (b : Next) (p q r s : Placed) (l : Layout)
+    → h ≡ headAt job → f ≡ lineAfter job (next.At (h .next)) (always S) → g ≡ lineAfter job (f .next) (always T)
+    → k ≡ lineAfter job (g .next) (always K) → c ≡ lineAfter job (k .next) (perhaps C)
+    → b ≡ wordAfter job (c .next) (line []) → p ≡ placeAfter job b (f .listed) → q ≡ placeAfter job (p .next) (g .listed) → r ≡ placeAfter job (q .next) (k .listed)
+    → s ≡ placeAfter job (r .next) (c .listed)
+    → l ≡ laidOut job (record { head = h .head; first = p .span; second = q .span; list = r .span; claim = s .span }) (s .next)
+    → l ≡ layoutOf job
+unfolding layoutOf entries sizesAfter linesAfter spansAfter bodiesAfter
+contents-steps job h f g k c b p q r s l eh ef eg ek ec eb ep eq er es el =
+    el ∙ rw (es, er, eq, ep, eb, ec, ek, eg, ef, eh) refl
 
-module _ (job : List ℕ) (at : ℕ) (t : Table) (inside : at ≤ length job) (claimed : ℕ) (is : claimed ≡ claimSize (t .claim)) where
-  abbrev sum : ℕ
-  sum = t .first + t .second + t .required + claimSize (t .claim)
+-- the bytes of a body
+module _ (job : List ℕ) (s : Span) where
+  pub span-none : s ≡ span.Absent → partOf 0 0 job ≡ bytes (spanIn job s)
+  unfolding spanIn partOf
+  span-none e = rw (e, le-leb 0 (length job) (omega arith)) refl
 
-  pub adds-up : t .first + t .second + t .required + claimed ≡ length job - at → layout.Bodies at t ≡ laidOut job (told job (reading.At t at))
-  unfolding laidOut told
-  adds-up h =
-      let e : sum ≡ length (drop at job) = omega (arith, is, h, length-drop at job) in
-      let f : length job - length (drop at job) ≡ at = omega (arith, length-drop at job) in
-      rw (eq-eqb sum (length (drop at job)) e, f) refl
-
-  pub adds-not : (t .first + t .second + t .required + claimed ≡ length job - at → ⊥) → layout.Broken ≡ laidOut job (told job (reading.At t at))
-  unfolding laidOut told
-  adds-not h =
-      rw (ne-eqb sum (length (drop at job)) (λ (e : sum ≡ length (drop at job)). h (omega (arith, is, e, length-drop at job)))) refl
-
--- ---- what is known of a state, and a step from it
-
-pub from-broken : (job : List ℕ) (x : Reading) (f : Step) → x ≡ reading.Broken → told job reading.Broken ≡ onward (told job x) f
-unfolding told onward
-from-broken job x f e = ap (λ (y : Reading). onward (told job y) f) (sym e)
-
-pub from-at : (job : List ℕ) (x r : Reading) (f : Step) (t : Table) (at : ℕ) → x ≡ reading.At t at
-    → told job r ≡ onward (told job (reading.At t at)) f → told job r ≡ onward (told job x) f
-from-at job x r f t at e h = h ∙ ap (λ (y : Reading). onward (told job y) f) (sym e)
-
-pub small-at : (job : List ℕ) (x : Reading) (t : Table) (at : ℕ) → x ≡ reading.At t at → Small job x → SmallTable t × (at ≤ length job)
-small-at job x t at e h = subst (Small job) e h
-
-pub small-with : (body : Body) (n : ℕ) (t u : Table) → u ≡ withLength body n t → n < lengthBound → SmallTable t → SmallTable u
-unfolding withLength
-small-with body n t u e h s = subst SmallTable (sym e) (go body)
-  where
-    go : (b : Body) → SmallTable (withLength b n t)
-    go S = record { one = h; two = s .two; three = s .three; four = s .four }
-    go T = record { one = s .one; two = h; three = s .three; four = s .four }
-    go K = record { one = s .one; two = s .two; three = h; four = s .four }
-    go C = record { one = s .one; two = s .two; three = s .three; four = h }
-    go J = s
-    go O = s
-
-pub small-stated : (stated : Stated) (t u : Table) → u ≡ withStated stated t → SmallTable t → SmallTable u
-unfolding withStated
-small-stated stated t u e s = subst SmallTable (sym e) (record { one = s .one; two = s .two; three = s .three; four = s .four })
-
-pub laid-broken : (job : List ℕ) (x : Reading) → x ≡ reading.Broken → layout.Broken ≡ laidOut job (told job x)
-unfolding told laidOut
-laid-broken job x e = ap (λ (y : Reading). laidOut job (told job y)) (sym e)
-
-pub laid-at : (job : List ℕ) (x : Reading) (l : Layout) (t : Table) (at : ℕ) → x ≡ reading.At t at
-    → l ≡ laidOut job (told job (reading.At t at)) → l ≡ laidOut job (told job x)
-laid-at job x l t at e h = h ∙ ap (λ (y : Reading). laidOut job (told job y)) (sym e)
-
--- ---- the lines
-
--- letter, blank, length and line end, one after another
-pub entry-steps : (job : List ℕ) (body : Body) (letter : ℕ) (x a b c d : Reading) → letter ≡ letterOf body
-    → told job a ≡ onward (told job x) (byte letter) → told job b ≡ onward (told job a) (byte 32)
-    → told job c ≡ onward (told job b) (lengthStep body) → told job d ≡ onward (told job c) (byte 10)
-    → told job d ≡ onward (told job x) (entry body)
-unfolding entry
-entry-steps job body letter x a b c d l ea eb ec ed =
-    step-then (told job x) (byte (letterOf body)) (byte 32 andThen lengthStep body andThen byte 10)
-    (ea ∙ ap (λ (k : ℕ). onward (told job x) (byte k)) l)
-    (step-then (told job a) (byte 32) (lengthStep body andThen byte 10) eb
-    (step-then (told job b) (lengthStep body) (byte 10) ec ed))
-
--- the line of a body that a job may leave out
-pub optional-if : (body : Body) (p : Progress) (b : Bool) → begins (letterOf body ∷ []) (p .rest) ≡ b
-    → optionalEntry body p ≡ cond b (entry body p) (some p)
-unfolding optionalEntry
-optional-if body p b e = rw e refl
-
-module _ (job : List ℕ) (at : ℕ) (t : Table) (body : Body) {letter : ℕ} {r : Bool} (is : letter ≡ letterOf body) (s : Stands letter job at r) where
-  due : (q : Bool) → r ≡ q → optionalEntry body (record { table = t; rest = drop at job })
-      ≡ cond q (entry body (record { table = t; rest = drop at job })) (some (record { table = t; rest = drop at job }))
-  due q e =
-      optional-if body (record { table = t; rest = drop at job }) q
-      (ap (λ (k : ℕ). begins (k ∷ []) (drop at job)) (sym is) ∙ s .next-is ∙ e)
-
-  -- its letter stands next
-  pub entry-due : (x : Reading) → not r ≡ false → told job x ≡ onward (told job (reading.At t at)) (entry body)
-      → told job x ≡ onward (told job (reading.At t at)) (optionalEntry body)
-  unfolding told onward
-  entry-due x e h = h ∙ sym (due true (not-false r e))
-
-  -- or not
-  pub entry-absent : not r ≡ true → told job (reading.At t at) ≡ onward (told job (reading.At t at)) (optionalEntry body)
-  unfolding told onward
-  entry-absent e = sym (due false (not-true r e))
-
--- the lines of the contents, one after another
-pub table-steps : (job : List ℕ) (s e a b c k d : Reading)
-    → told job s ≡ onward (told job (reading.At (begun job .table) 0)) strictLine → told job e ≡ onward (told job s) editionLine
-    → told job a ≡ onward (told job e) (entry S) → told job b ≡ onward (told job a) (entry T) → told job c ≡ onward (told job b) (entry K)
-    → told job k ≡ onward (told job c) (optionalEntry C) → told job d ≡ onward (told job k) (byte 10) → laidOut job (told job d) ≡ layoutOf job
-unfolding tableLines emptyLine layoutOf onward told
-table-steps job s e a b c k d es ee ea eb ec ek ed =
-    ap (laidOut job)
-    (step-then (some (begun job)) strictLine
-    (editionLine andThen entry S andThen entry T andThen entry K andThen optionalEntry C andThen byte 10) es
-    (step-then (told job s) editionLine (entry S andThen entry T andThen entry K andThen optionalEntry C andThen byte 10) ee
-    (step-then (told job e) (entry S) (entry T andThen entry K andThen optionalEntry C andThen byte 10) ea
-    (step-then (told job a) (entry T) (entry K andThen optionalEntry C andThen byte 10) eb
-    (step-then (told job b) (entry K) (optionalEntry C andThen byte 10) ec
-    (step-then (told job c) (optionalEntry C) (byte 10) ek ed))))))
+  pub span-part : (at n : ℕ) → s ≡ span.At at n → partOf at n job ≡ bytes (spanIn job s)
+  unfolding spanIn
+  span-part at n e = rw e refl

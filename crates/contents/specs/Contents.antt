@@ -1,48 +1,134 @@
--- The table of contents of a job. Scope paper, "Job and printed result": "three lines `S n`, `T n`, `K n`, an empty line, then the
--- first tree, the second tree and the required list, joined directly". Change requests, C-11: "A job may carry `strict` as its first
+-- The table of contents of a job. 01, "Job and printed result": "three lines `S n`, `T n`, `K n`, an empty line, then the
+-- first tree, the second tree and the required list, joined directly". C-11: "A job may carry `strict` as its first
 -- contents line". C-15: "A contents line `E 1` or `E 2`, after `strict` if that is there, picks the edition". C-16: "A body with letter C,
 -- listed and read right after K and written like K, holds the claimed set".
-use Prim.Native.Nat.{ℕ, _+_, _-_, _^_, _<_}
+use Prim.Native.Nat.{ℕ, _+_, _^_, _<_}
 use mathlib.Core.Path.{_≡_}
 use mathlib.Core.Bool.{Bool, true, false, cond, _&&_, _||_, not}
-use mathlib.Core.List.{List, [], _∷_, _++_}
+use mathlib.Core.List.{List, [], _∷_, _++_, map}
 use mathlib.Core.Option.{Option, some, none}
 use lib.Dec.{eqb, leb}
-use lib.ListN.{length, take, drop, getD}
+use lib.ListN.{length, drop, getD}
 use Rattle.trees.specs.declared.Body.{Body}
-use Rattle.trees.specs.declared.Body.the-variants.{S, T, K, C, J, O}
+use Rattle.trees.specs.declared.Body.the-variants.{S, T, K, C, J}
 use Rattle.trees.specs.declared.Edition.{Edition}
 use Rattle.trees.specs.declared.Edition.the-variants as edition
-use Rattle.trees.specs.Refusals.{letterOf}
+use Rattle.trees.specs.declared.Reason.the-variants.{Contents}
+use Rattle.trees.specs.Refusals.{letterOf, Said, value, rowOf}
+use Rattle.trees.specs.Stored.{partOf}
 use Rattle.trees.specs.Words.{bytesOf}
 use Rattle.contents.specs.declared.Stated.{Stated}
 use Rattle.contents.specs.declared.Stated.the-variants as states
-use Rattle.contents.specs.declared.Claim.{Claim}
-use Rattle.contents.specs.declared.Claim.the-variants as claims
+use Rattle.contents.specs.declared.Head.{Head}
+use Rattle.contents.specs.declared.HeadAt.{HeadAt}
+use Rattle.contents.specs.declared.StatedAt.{StatedAt}
+use Rattle.contents.specs.declared.Flag.{Flag}
+use Rattle.contents.specs.declared.Listed.{Listed}
+use Rattle.contents.specs.declared.Listed.the-variants as listed
+use Rattle.contents.specs.declared.Span.{Span}
+use Rattle.contents.specs.declared.Span.the-variants as span
+use Rattle.contents.specs.declared.Next.{Next}
+use Rattle.contents.specs.declared.Next.the-variants as next
+use Rattle.contents.specs.declared.Line.{Line}
+use Rattle.contents.specs.declared.Placed.{Placed}
 use Rattle.contents.specs.declared.Table.{Table}
 use Rattle.contents.specs.declared.Layout.{Layout}
 use Rattle.contents.specs.declared.Layout.the-variants as layout
+use Rattle.contents.specs.declared.decimal.Digits.{Digits}
+use Rattle.contents.specs.declared.decimal.Digits.the-variants as digits
 use Rattle.decimals.specs.Decimal.{decimalOf, digitRun, valueFrom}
 
--- how many digits a length may have: "contents lengths may have five digits" (request C-14), of one to five
+-- how many digits a length may have: "contents lengths may have five digits" (C-14), of one to five
 abbrev pub digitLimit : ℕ
 digitLimit = 5
 
--- what a job holds; `strict`: whether it carries that line; `stated`: which line of the edition it carries, if any; `claim`: the body C,
--- if the job has one, and one of no bytes is the claim of the empty set
+-- ---- what a job holds
+
+-- the lines before those of the bodies, and the bodies in the order of `entries`, `none` for one that the job leaves out
 pub record Bodies : Type 0 where
-  pub strict : Bool
-  pub stated : Stated
-  pub first : List ℕ
-  pub second : List ℕ
-  pub list : List ℕ
-  pub claim : Option (List ℕ)
+  pub head : Head
+  pub parts : List (Option (List ℕ))
+
+-- no line before those of the bodies
+abbrev pub plain : Head
+plain = record { strict = false; stated = states.Nothing }
+
+-- the same bodies under these lines
+abbrev pub under : Head → Bodies → Bodies
+under h b = record { head = h; parts = b .parts }
 
 -- C-15: the line "picks the edition, and a job without it has edition 1"
 unfoldable pub editionOf : Stated → Edition
 editionOf states.Nothing = edition.One
 editionOf states.One = edition.One
 editionOf states.Two = edition.Two
+
+-- a body in the table of contents: whether each job has it
+pub record Entry : Type 0 where
+  pub body : Body
+  pub needed : Bool
+
+abbrev pub always : Body → Entry
+always body = record { body = body; needed = true }
+
+abbrev pub perhaps : Body → Entry
+perhaps body = record { body = body; needed = false }
+
+-- the bodies in the order in which a job lists and holds them: "three lines `S n`, `T n`, `K n`"; C-16: C "right after K"
+unfoldable pub entries : List Entry
+entries = always S ∷ always T ∷ always K ∷ perhaps C ∷ []
+
+-- those before C
+abbrev pub beforeClaim : List Entry
+beforeClaim = always S ∷ always T ∷ always K ∷ []
+
+-- what a list in the order of some entries has for a body
+unfoldable pub lookup : {A : Type 0} → A → Body → List Entry → List A → A
+unfolding letterOf
+lookup d body [] xs = d
+lookup d body (e ∷ es) [] = d
+lookup d body (e ∷ es) (x ∷ xs) = cond (eqb (letterOf (e .body)) (letterOf body)) x (lookup d body es xs)
+
+unfoldable pub part : Body → Bodies → Option (List ℕ)
+unfolding lookup entries
+part body b = lookup none body entries (b .parts)
+
+-- such a list with something else for a body
+unfoldable pub exchanged : {A : Type 0} → Body → A → List Entry → List A → List A
+unfolding letterOf
+exchanged body a [] xs = xs
+exchanged body a (e ∷ es) [] = []
+exchanged body a (e ∷ es) (x ∷ xs) = cond (eqb (letterOf (e .body)) (letterOf body)) (a ∷ xs) (x ∷ exchanged body a es xs)
+
+-- the bytes of a body: nothing where there is none
+abbrev pub bytes : Option (List ℕ) → List ℕ
+bytes none = []
+bytes (some x) = x
+
+unfoldable pub firstText : Bodies → List ℕ
+unfolding part
+firstText b = bytes (part S b)
+
+unfoldable pub secondText : Bodies → List ℕ
+unfolding part
+secondText b = bytes (part T b)
+
+unfoldable pub listText : Bodies → List ℕ
+unfolding part
+listText b = bytes (part K b)
+
+-- C-16: the claim, if the job has one; one of no bytes is the claim of the empty set
+unfoldable pub claimText : Bodies → Option (List ℕ)
+unfolding part
+claimText b = part C b
+
+-- the same lines, trees and list with another claim, or none
+abbrev pub claiming : Option (List ℕ) → Bodies → Bodies
+claiming claim b = record { head = b .head; parts = exchanged C claim entries (b .parts) }
+
+-- the bodies of a job that has the base's lines alone
+abbrev pub baseBodies : (first second list : List ℕ) → Bodies
+baseBodies first second list = record { head = plain; parts = some first ∷ some second ∷ some list ∷ none ∷ [] }
 
 -- ---- what a job is
 
@@ -54,6 +140,12 @@ line words = words ++ (10 ∷ [])
 unfoldable pub entryLine : Body → ℕ → List ℕ
 unfolding line letterOf decimalOf
 entryLine body n = line (letterOf body ∷ 32 ∷ decimalOf n)
+
+-- the base's job: "three lines `S n`, `T n`, `K n`, an empty line, then the first tree, the second tree and the required list, joined
+-- directly"
+abbrev pub baseText : (first second list : List ℕ) → List ℕ
+baseText first second list =
+    entryLine S (length first) ++ (entryLine T (length second) ++ (entryLine K (length list) ++ (line [] ++ (first ++ (second ++ list)))))
 
 -- a line that a job may carry, if it does
 abbrev pub lineIf : Bool → List ℕ → List ℕ
@@ -72,155 +164,68 @@ editionText states.Nothing = []
 editionText states.One = line (bytesOf "E 1")
 editionText states.Two = line (bytesOf "E 2")
 
--- C-11: "as its first contents line"; C-15: "after `strict` if that is there"; then "three lines `S n`, `T n`, `K n`"; then these bytes
-abbrev pub lined : Table → List ℕ → List ℕ
-lined t rest =
-    strictText (t .strict)
-    ++ (editionText (t .stated) ++ (entryLine S (t .first) ++ (entryLine T (t .second) ++ (entryLine K (t .required) ++ rest))))
+-- the lines before those of the bodies, in order: C-11, "as its first contents line"; C-15, "after `strict` if that is there"
+abbrev pub headLines : Head → List (List ℕ)
+headLines h = strictText (h .strict) ∷ editionText (h .stated) ∷ []
 
--- C-16: "A body with letter C, listed .. right after K", or none
-unfoldable pub claimText : Claim → List ℕ
+-- some lines, then these bytes
+abbrev pub linesThen : List (List ℕ) → List ℕ → List ℕ
+linesThen [] rest = rest
+linesThen (l ∷ ls) rest = l ++ linesThen ls rest
+
+abbrev pub headed : Head → List ℕ → List ℕ
+headed h rest = linesThen (headLines h) rest
+
+-- what a job lists of a body: "Each n is the body's length in bytes"
+abbrev pub listedOf : Option (List ℕ) → Listed
+listedOf none = listed.Absent
+listedOf (some x) = listed.Bytes (length x)
+
+abbrev pub sizes : Bodies → List Listed
+sizes b = map listedOf (b .parts)
+
+-- the line of a body, or none
+unfoldable pub listedText : Body → Listed → List ℕ
 unfolding entryLine
-claimText claims.Absent = []
-claimText (claims.Bytes n) = entryLine C n
+listedText body listed.Absent = []
+listedText body (listed.Bytes n) = entryLine body n
 
--- these lines, then "an empty line"
-unfoldable pub tableText : Table → List ℕ
-unfolding strictText editionText entryLine claimText line
-tableText t = lined t (claimText (t .claim) ++ line [])
+-- the lines of the bodies, then these bytes
+abbrev pub lined : List Entry → List Listed → List ℕ → List ℕ
+lined [] vs rest = rest
+lined (e ∷ es) [] rest = rest
+lined (e ∷ es) (v ∷ vs) rest = listedText (e .body) v ++ lined es vs rest
 
--- what a job lists of its claim
-abbrev pub claimOf : Option (List ℕ) → Claim
-claimOf none = claims.Absent
-claimOf (some claim) = claims.Bytes (length claim)
+-- all lines, "an empty line"
+unfoldable pub tableText : Bodies → List ℕ
+unfolding strictText editionText entries listedText line
+tableText b = headed (b .head) (lined entries (sizes b) (line []))
 
--- how many bytes of the job are the claim's
-abbrev pub claimSize : Claim → ℕ
-claimSize claims.Absent = 0
-claimSize (claims.Bytes n) = n
+-- the bodies, "joined directly"
+unfoldable pub joinedParts : List (Option (List ℕ)) → List ℕ
+joinedParts [] = []
+joinedParts (p ∷ ps) = bytes p ++ joinedParts ps
 
--- "Each n is the body's length in bytes"
-unfoldable pub lengthsOf : Bodies → Table
-lengthsOf b =
-    record {
-      strict = b .strict;
-      stated = b .stated;
-      first = length (b .first);
-      second = length (b .second);
-      required = length (b .list);
-      claim = claimOf (b .claim);
-    }
-
--- one to five digits
-pub record Short (t : Table) : Type 0 where
-  pub one : t .first < 10 ^ digitLimit
-  pub two : t .second < 10 ^ digitLimit
-  pub three : t .required < 10 ^ digitLimit
-  pub four : claimSize (t .claim) < 10 ^ digitLimit
-
--- the job begins with this table, and as many bytes follow as its lengths say
-pub record Laid (job : List ℕ) (at : ℕ) (t : Table) : Type 0 where
-  pub text : job ≡ tableText t ++ drop at job
-  pub short : Short t
-  pub place : at ≡ length (tableText t)
-  pub sum : at + t .first + t .second + t .required + claimSize (t .claim) ≡ length job
-
--- the bytes of a claim: nothing where there is none
-abbrev pub claimBytes : Option (List ℕ) → List ℕ
-claimBytes none = []
-claimBytes (some claim) = claim
-
--- the job that holds these bodies; C-16: C is "read right after K"
+-- "A job is a table of contents, then the bodies"
 unfoldable pub jobOf : Bodies → List ℕ
-unfolding tableText lengthsOf
-jobOf b = tableText (lengthsOf b) ++ (b .first ++ (b .second ++ (b .list ++ claimBytes (b .claim))))
+unfolding tableText joinedParts
+jobOf b = tableText b ++ joinedParts (b .parts)
 
--- the same bodies under other lines
-abbrev pub headed : Bool → Stated → Bodies → Bodies
-headed strict stated b =
-    record { strict = strict; stated = stated; first = b .first; second = b .second; list = b .list; claim = b .claim }
+-- a body that a job needs is listed, and a length has one to five digits
+abbrev pub FitsLine : Entry → Listed → Type 0
+FitsLine e listed.Absent = e .needed ≡ false
+FitsLine e (listed.Bytes n) = n < 10 ^ digitLimit
 
--- the same lines and trees and list with another claim, or none
-abbrev pub claiming : Option (List ℕ) → Bodies → Bodies
-claiming claim b =
-    record { strict = b .strict; stated = b .stated; first = b .first; second = b .second; list = b .list; claim = claim }
+abbrev pub Fits : List Entry → List Listed → Type 0
+Fits [] [] = Prim.Unit {0}
+Fits [] (v ∷ vs) = ⊥
+Fits (e ∷ es) [] = ⊥
+Fits (e ∷ es) (v ∷ vs) = FitsLine e v × Fits es vs
+
+abbrev pub WellFormed : Bodies → Type 0
+WellFormed b = Fits entries (sizes b)
 
 -- ---- how a job is read
-
--- the lengths read so far, and the bytes that follow
-pub record Progress : Type 0 where
-  pub table : Table
-  pub rest : List ℕ
-
--- a step takes bytes from the front, or finds that the contents break their rules there
-abbrev pub Step : Type 0
-Step = Progress → Option Progress
-
-unfoldable pub onward : Option Progress → Step → Option Progress
-onward none f = none
-onward (some p) f = f p
-
--- one step, then another
-infixr 40 _andThen_
-unfoldable pub _andThen_ : Step → Step → Step
-unfolding onward
-_andThen_ f g p = onward (f p) g
-
-unfoldable pub byteOf : ℕ → Table → List ℕ → Option Progress
-byteOf b t [] = none
-byteOf b t (x ∷ xs) = cond (eqb x b) (some (record { table = t; rest = xs })) none
-
--- this byte
-unfoldable pub byte : ℕ → Step
-unfolding byteOf
-byte b p = byteOf b (p .table) (p .rest)
-
--- a number that was read and what follows it
-pub record Number : Type 0 where
-  pub value : ℕ
-  pub rest : List ℕ
-
--- "decimal, .. no leading zero except `0` itself"
-unfoldable pub goodDigits : List ℕ → Bool
-goodDigits run = leb 1 (length run) && leb (length run) digitLimit && (eqb (length run) 1 || not (eqb (getD run 0 0) 48))
-
-unfoldable pub numberAt : List ℕ → Option Number
-unfolding goodDigits digitRun valueFrom
-numberAt text =
-    cond (goodDigits (digitRun text))
-    (some (record { value = valueFrom 0 (digitRun text); rest = drop (length (digitRun text)) text })) none
-
--- a length put down for its body
-unfoldable pub withLength : Body → ℕ → Table → Table
-withLength S n t =
-    record { strict = t .strict; stated = t .stated; first = n; second = t .second; required = t .required; claim = t .claim }
-withLength T n t =
-    record { strict = t .strict; stated = t .stated; first = t .first; second = n; required = t .required; claim = t .claim }
-withLength K n t =
-    record { strict = t .strict; stated = t .stated; first = t .first; second = t .second; required = n; claim = t .claim }
-withLength C n t =
-    record { strict = t .strict; stated = t .stated; first = t .first; second = t .second; required = t .required; claim = claims.Bytes n }
-withLength J n t = t
-withLength O n t = t
-
-unfoldable pub putDown : Body → Table → Option Number → Option Progress
-unfolding withLength
-putDown body t none = none
-putDown body t (some n) = some (record { table = withLength body (n .value) t; rest = n .rest })
-
--- the length of a body
-unfoldable pub lengthStep : Body → Step
-unfolding putDown numberAt
-lengthStep body p = putDown body (p .table) (numberAt (p .rest))
-
--- a line `S n`
-unfoldable pub entry : Body → Step
-unfolding _andThen_ byte lengthStep letterOf
-entry body = byte (letterOf body) andThen byte 32 andThen lengthStep body andThen byte 10
-
-unfoldable pub emptyLine : Step
-unfolding byte
-emptyLine = byte 10
 
 -- whether a text begins with these bytes
 unfoldable pub begins : List ℕ → List ℕ → Bool
@@ -228,106 +233,171 @@ begins [] text = true
 begins (b ∷ word) [] = false
 begins (b ∷ word) (x ∷ text) = eqb x b && begins word text
 
--- a line taken where the whole of it stands next; else another step, from the same place
-unfoldable pub lineOr : List ℕ → (Table → Table) → Step → Step
-unfolding begins line
-lineOr words change other p =
-    cond (begins (line words) (p .rest))
-    (some (record { table = change (p .table); rest = drop (length (line words)) (p .rest) })) (other p)
-
--- nothing is taken
-abbrev pub stay : Step
-stay p = some p
-
--- a line that a job may carry: where it does not stand next, nothing is taken
-unfoldable pub optional : List ℕ → (Table → Table) → Step
-unfolding lineOr
-optional words change = lineOr words change stay
-
--- C-11: the job carries `strict`
-unfoldable pub withStrict : Table → Table
-withStrict t =
-    record { strict = true; stated = t .stated; first = t .first; second = t .second; required = t .required; claim = t .claim }
-
--- the line `strict`, or nothing
-unfoldable pub strictLine : Step
-unfolding optional withStrict bytesOf
-strictLine = optional (bytesOf "strict") withStrict
-
--- C-15: the job states this of its edition
-unfoldable pub withStated : Stated → Table → Table
-withStated stated t =
-    record { strict = t .strict; stated = stated; first = t .first; second = t .second; required = t .required; claim = t .claim }
+-- whether these bytes are at a place, and the place after them or else the same place
+unfoldable pub flagAt : List ℕ → ℕ → List ℕ → Flag
+unfolding begins
+flagAt job at word = record { on = begins word (drop at job); next = cond (begins word (drop at job)) (at + length word) at }
 
 -- the line `E 1`, else the line `E 2`, else nothing: at most one of them is taken
-unfoldable pub editionLine : Step
-unfolding lineOr optional withStated bytesOf
-editionLine = lineOr (bytesOf "E 1") (withStated states.One) (optional (bytesOf "E 2") (withStated states.Two))
+unfoldable pub statedOf : Flag → Flag → StatedAt
+statedOf one two =
+    cond (one .on) (record { stated = states.One; next = one .next })
+    (cond (two .on) (record { stated = states.Two; next = two .next }) (record { stated = states.Nothing; next = two .next }))
 
--- C-16: the line of a body that a job may leave out: its letter stands next, or nothing is taken
-unfoldable pub optionalEntry : Body → Step
-unfolding begins entry letterOf
-optionalEntry body p = cond (begins (letterOf body ∷ []) (p .rest)) (entry body p) (stay p)
+unfoldable pub statedAt : List ℕ → ℕ → StatedAt
+unfolding statedOf flagAt line bytesOf
+statedAt job at = statedOf (flagAt job at (line (bytesOf "E 1"))) (flagAt job at (line (bytesOf "E 2")))
 
--- the lines in their order; a further line is a further step. C-11: `strict` is "its first contents line"; C-15: the edition is "after
--- `strict` if that is there", and "Any other `E` line" stands where the step of S wants its letter; C-16: C is "right after K"
-unfoldable pub tableLines : Step
-unfolding _andThen_ strictLine editionLine entry optionalEntry emptyLine
-tableLines = strictLine andThen editionLine andThen entry S andThen entry T andThen entry K andThen optionalEntry C andThen emptyLine
+-- the lines before those of the bodies, each taken where it is next, and the place after them
+unfoldable pub headAt : List ℕ → HeadAt
+unfolding flagAt statedAt line bytesOf
+headAt job =
+    let strict : Flag = flagAt job 0 (line (bytesOf "strict")) in
+    let edition : StatedAt = statedAt job (strict .next) in
+    record { head = record { strict = strict .on; stated = edition .stated }; next = edition .next }
 
--- "The lengths must add up to exactly the rest of the job": where the bodies begin, and their lengths
-unfoldable pub laidOut : List ℕ → Option Progress → Layout
-laidOut job none = layout.Broken
-laidOut job (some p) =
-    cond (eqb (p .table .first + p .table .second + p .table .required + claimSize (p .table .claim)) (length (p .rest)))
-    (layout.Bodies (length job - length (p .rest)) (p .table)) layout.Broken
+-- these bytes, or the contents break their rules
+unfoldable pub wordAfter : List ℕ → Next → List ℕ → Next
+unfolding begins
+wordAfter job (next.At at) word = cond (begins word (drop at job)) (next.At (at + length word)) next.Broken
+wordAfter job next.Broken word = next.Broken
 
--- before the first line
-abbrev pub begun : List ℕ → Progress
-begun job =
+-- "decimal, .. no leading zero except `0` itself"
+unfoldable pub goodDigits : List ℕ → Bool
+goodDigits run = leb 1 (length run) && leb (length run) digitLimit && (eqb (length run) 1 || not (eqb (getD run 0 0) 48))
+
+-- a number of these digits, which begin at a place, and the place after it
+unfoldable pub numberOfRun : List ℕ → ℕ → Digits
+unfolding goodDigits valueFrom
+numberOfRun run at = cond (goodDigits run) (digits.Value (valueFrom 0 run) (at + length run)) digits.Broken
+
+unfoldable pub numberAt : List ℕ → ℕ → Digits
+unfolding numberOfRun digitRun
+numberAt job at = numberOfRun (digitRun (drop at job)) at
+
+-- no line: the contents break their rules
+abbrev pub brokenLine : Line
+brokenLine = record { listed = listed.Absent; next = next.Broken }
+
+-- the number is the length, and ends the line
+unfoldable pub counted : List ℕ → Digits → Line
+unfolding wordAfter line
+counted job (digits.Value n end) = record { listed = listed.Bytes n; next = wordAfter job (next.At end) (line []) }
+counted job digits.Broken = brokenLine
+
+-- a line `S n`, or another line where a job may leave the body out
+unfoldable pub lineAfter : List ℕ → Next → Entry → Line
+unfolding begins counted numberAt letterOf
+lineAfter job (next.At at) e =
+    cond (begins (letterOf (e .body) ∷ 32 ∷ []) (drop at job)) (counted job (numberAt job (at + 2)))
+    (record { listed = listed.Absent; next = cond (e .needed) next.Broken (next.At at) })
+lineAfter job next.Broken e = brokenLine
+
+-- the lines of the bodies one after another: what they list, and the place after them
+unfoldable pub sizesAfter : List ℕ → Next → List Entry → List Listed
+unfolding lineAfter
+sizesAfter job from [] = []
+sizesAfter job from (e ∷ es) = lineAfter job from e .listed ∷ sizesAfter job (lineAfter job from e .next) es
+
+unfoldable pub linesAfter : List ℕ → Next → List Entry → Next
+unfolding lineAfter
+linesAfter job from [] = from
+linesAfter job from (e ∷ es) = linesAfter job (lineAfter job from e .next) es
+
+-- no body: the contents break their rules
+abbrev pub nowhere : Placed
+nowhere = record { span = span.Absent; next = next.Broken }
+
+-- a body of the listed length, in the job
+unfoldable pub placeAfter : List ℕ → Next → Listed → Placed
+placeAfter job (next.At at) listed.Absent = record { span = span.Absent; next = next.At at }
+placeAfter job (next.At at) (listed.Bytes n) =
+    cond (leb (at + n) (length job)) (record { span = span.At at n; next = next.At (at + n) }) nowhere
+placeAfter job next.Broken v = nowhere
+
+-- the bodies one after another: where they are, and the place after them
+unfoldable pub spansAfter : List ℕ → Next → List Listed → List Span
+unfolding placeAfter
+spansAfter job from [] = []
+spansAfter job from (v ∷ vs) = placeAfter job from v .span ∷ spansAfter job (placeAfter job from v .next) vs
+
+unfoldable pub bodiesAfter : List ℕ → Next → List Listed → Next
+unfolding placeAfter
+bodiesAfter job from [] = from
+bodiesAfter job from (v ∷ vs) = bodiesAfter job (placeAfter job from v .next) vs
+
+-- the table of bodies in the order of `entries`, and the list of a table
+abbrev pub tableOf : Head → List Span → Table
+tableOf h ps =
     record {
-      table = record { strict = false; stated = states.Nothing; first = 0; second = 0; required = 0; claim = claims.Absent };
-      rest = job;
+      head = h;
+      first = getD ps 0 span.Absent;
+      second = getD ps 1 span.Absent;
+      list = getD ps 2 span.Absent;
+      claim = getD ps 3 span.Absent;
     }
 
+abbrev pub spansOf : Table → List Span
+spansOf t = t .first ∷ t .second ∷ t .list ∷ t .claim ∷ []
+
+-- "The lengths must add up to exactly the rest of the job"
+unfoldable pub laidOut : List ℕ → Table → Next → Layout
+laidOut job t (next.At at) = cond (eqb at (length job)) (layout.Laid t) layout.Broken
+laidOut job t next.Broken = layout.Broken
+
+-- where the bodies are in a job
 unfoldable pub layoutOf : List ℕ → Layout
-unfolding laidOut tableLines
-layoutOf job = laidOut job (tableLines (begun job))
+unfolding headAt entries sizesAfter linesAfter wordAfter line spansAfter bodiesAfter laidOut
+layoutOf job =
+    let h : HeadAt = headAt job in
+    let vs : List Listed = sizesAfter job (next.At (h .next)) entries in
+    let from : Next = wordAfter job (linesAfter job (next.At (h .next)) entries) (line []) in
+    laidOut job (tableOf (h .head) (spansAfter job from vs)) (bodiesAfter job from vs)
 
--- the claim that a job lists, at the front of these bytes
-abbrev pub claimAt : List ℕ → Claim → Option (List ℕ)
-claimAt text claims.Absent = none
-claimAt text (claims.Bytes n) = some (take n text)
+-- the bytes there
+unfoldable pub spanIn : List ℕ → Span → Option (List ℕ)
+unfolding partOf
+spanIn job span.Absent = none
+spanIn job (span.At at n) = some (partOf at n job)
 
--- "joined directly": each body begins where the one before it ends
-unfoldable pub bodiesIn : List ℕ → Layout → Option Bodies
-bodiesIn job (layout.Bodies at t) =
-    some (record {
-      strict = t .strict;
-      stated = t .stated;
-      first = take (t .first) (drop at job);
-      second = take (t .second) (drop (at + t .first) job);
-      list = take (t .required) (drop (at + t .first + t .second) job);
-      claim = claimAt (drop (at + t .first + t .second + t .required) job) (t .claim);
-    })
-bodiesIn job layout.Broken = none
+abbrev pub bodiesIn : List ℕ → Table → Bodies
+bodiesIn job t = record { head = t .head; parts = map (spanIn job) (spansOf t) }
+
+unfoldable pub bodiesFrom : List ℕ → Layout → Option Bodies
+unfolding spanIn
+bodiesFrom job (layout.Laid t) = some (bodiesIn job t)
+bodiesFrom job layout.Broken = none
 
 -- the bodies, or none where the contents break their rules
 unfoldable pub bodiesOf : List ℕ → Option Bodies
-unfolding bodiesIn layoutOf
-bodiesOf job = bodiesIn job (layoutOf job)
+unfolding bodiesFrom layoutOf
+bodiesOf job = bodiesFrom job (layoutOf job)
 
--- where the first tree begins in the job
-unfoldable pub firstPlace : Layout → ℕ
-firstPlace (layout.Bodies at t) = at
-firstPlace layout.Broken = 0
+unfoldable pub placeOf : Span → ℕ
+placeOf span.Absent = 0
+placeOf (span.At at n) = at
 
--- where the required list begins in the job
-unfoldable pub listPlace : Layout → ℕ
-listPlace (layout.Bodies at t) = at + t .first + t .second
-listPlace layout.Broken = 0
+-- where a body begins in the job, 0 if there is none
+unfoldable pub bodyPlace : Body → Layout → ℕ
+unfolding placeOf lookup entries
+bodyPlace body (layout.Laid t) = placeOf (lookup span.Absent body entries (spansOf t))
+bodyPlace body layout.Broken = 0
 
--- where the claim begins in the job
-unfoldable pub claimPlace : Layout → ℕ
-claimPlace (layout.Bodies at t) = at + t .first + t .second + t .required
-claimPlace layout.Broken = 0
+-- where bodies of these lengths are, one after another from a place on
+unfoldable pub spansFrom : ℕ → List Listed → List Span
+spansFrom at [] = []
+spansFrom at (listed.Absent ∷ vs) = span.Absent ∷ spansFrom at vs
+spansFrom at (listed.Bytes n ∷ vs) = span.At at n ∷ spansFrom (at + n) vs
+
+-- the layout of a job: its bodies follow the table, one after another
+pub record LaidAs (job : List ℕ) (t : Table) : Type 0 where
+  pub bodies : Bodies
+  pub text : job ≡ jobOf bodies
+  pub fits : WellFormed bodies
+  pub table : t ≡ tableOf (bodies .head) (spansFrom (length (tableText bodies)) (sizes bodies))
+
+-- the paper's number and values for a layout: 10, "the contents break their rules", J 0
+unfoldable pub layoutSays : Layout → Said Table
+unfolding rowOf
+layoutSays (layout.Laid t) = value t
+layoutSays layout.Broken = rowOf (record { reason = Contents; body = J; place = 0 })

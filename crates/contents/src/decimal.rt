@@ -1,15 +1,14 @@
 // Decimal numbers read from a text.
 ghost use mathlib.Core.Path.{_≡_};
-ghost use Prim.Native.Nat.{_+_, _-_, _≤_, _<_};
+ghost use Prim.Native.Nat.{_+_, _-_, _≤_};
 ghost use lib.ListN.{length, take, drop};
 ghost use Rattle.decimals.specs.Decimal.{isDigit, digitRun, valueFrom};
 ghost use Rattle.contents.specs.Contents.{numberAt, digitLimit};
-ghost use Rattle.contents.specs.Steps.{numberTold, SmallNumber, lengthBound};
 
 // One to five digits.
 const DIGIT_LIMIT: usize = 5;
 
-// A number that was read and the place after it, or that none stands there.
+// A number that was read and the place after it, or that there is none.
 pub enum Digits {
     Value(usize, usize),
     Broken,
@@ -21,7 +20,7 @@ fn is_digit(b: u8) -> bool
     if 48 <= b { b <= 57 } else { false }
 }
 
-// How many digits stand from a place on.
+// How many digits there are from a place on.
 fn digit_count(job: &[u8], at: usize) -> usize
     ensures { λ r. ⌜ r ≡ length (digitRun (drop at (now (job .entry)))) ⌝ }
 {
@@ -45,12 +44,11 @@ fn worth(b: u8) -> usize
     (b - 48) as usize
 }
 
-// The number that n digits from a place on stand for.
+// The value of n digits from a place on.
 fn value_of(job: &[u8], at: usize, n: usize) -> usize
     requires { ⌜ n ≤ digitLimit ⌝ }
     requires { ⌜ at + n ≤ length (now job) ⌝ }
-    ensures value { λ r. ⌜ r ≡ valueFrom 0 (take n (drop at (now (job .entry)))) ⌝ }
-    ensures small { λ r. ⌜ r < lengthBound ⌝ }
+    ensures { λ r. ⌜ r ≡ valueFrom 0 (take n (drop at (now (job .entry)))) ⌝ }
 {
     let mut v: usize = 0;
     let mut i: usize = 0;
@@ -62,10 +60,9 @@ fn value_of(job: &[u8], at: usize, n: usize) -> usize
     v
 }
 
-// A number of at most so many digits as the limit says, without a leading zero.
+// A number with at most as many digits as the limit, without a leading zero.
 pub(crate) fn number_at(job: &[u8], at: usize) -> Digits
-    ensures number { λ r. ⌜ numberAt (drop at (now (job .entry))) ≡ numberTold (now (job .entry)) r ⌝ }
-    ensures small { λ r. ⌜ SmallNumber (now (job .entry)) r ⌝ }
+    ensures { λ r. ⌜ r ≡ numberAt (now (job .entry)) at ⌝ }
 {
     let n = digit_count(job, at);
     if n == 0 {

@@ -1,15 +1,14 @@
 // The table of contents of a job: the line `strict` and a line of the edition where the job carries them, a line with the length of
 // each body, the claimed set's only where the job has one, an empty line, then the bodies.
 //
-// No public function has a `requires`. Each line is a step from one state of reading to the next, so a further line is a further step.
+// No public function has a `requires`. Each line is a step from one place to the next, so a further line is a further step.
 use crate::decimal::Digits;
 use trees::Body;
 use trees::Edition;
 ghost use mathlib.Core.Path.{_≡_};
 ghost use lib.ListN.{drop};
-ghost use Rattle.contents.specs.Contents.{onward, byte, lengthStep, entry, withLength, laidOut, layoutOf};
-ghost use Rattle.contents.specs.Contents.{begins, strictLine, withStated, editionLine, editionOf, claimSize, optionalEntry};
-ghost use Rattle.contents.specs.Steps.{Stands, told, Small};
+ghost use Rattle.contents.specs.Contents.{begins, flagAt, statedAt, headAt, wordAfter, brokenLine, lineAfter, nowhere, placeAfter, laidOut, layoutOf};
+ghost use Rattle.contents.specs.Contents.{bytes, spanIn, placeOf, editionOf};
 
 mod decimal;
 
@@ -20,54 +19,73 @@ pub enum Stated {
     Two,
 }
 
-// What a job lists of a claimed set: no body, or its length in bytes.
-pub enum Claim {
+// The lines before those of the bodies: whether the job carries `strict`, and what it states of its edition.
+pub struct Head {
+    pub strict: bool,
+    pub stated: Stated,
+}
+
+// Where a body is in the job, its first byte and its length; or that the job has none.
+pub enum Span {
+    Absent,
+    At(usize, usize),
+}
+
+// The lines before those of the bodies, and the bodies.
+pub struct Table {
+    pub head: Head,
+    pub first: Span,
+    pub second: Span,
+    pub list: Span,
+    pub claim: Span,
+}
+
+// What a job holds; or that the contents break their rules.
+pub enum Layout {
+    Laid(Table),
+    Broken,
+}
+
+// The place of the next byte, or that the contents break their rules.
+pub enum Next {
+    At(usize),
+    Broken,
+}
+
+// Whether a line is there, and the place of the next byte.
+pub struct Flag {
+    pub on: bool,
+    pub next: usize,
+}
+
+// What a job states of its edition, and the place of the next byte.
+pub struct StatedAt {
+    pub stated: Stated,
+    pub next: usize,
+}
+
+// The lines before those of the bodies, and the place of the next byte.
+pub struct HeadAt {
+    pub head: Head,
+    pub next: usize,
+}
+
+// What a job lists of a body: no line, or its length in bytes.
+pub enum Listed {
     Absent,
     Bytes(usize),
 }
 
-// Whether the job carries the line `strict`, what it states of its edition, and the lengths of the bodies, in bytes.
-pub struct Table {
-    pub strict: bool,
-    pub stated: Stated,
-    pub first: usize,
-    pub second: usize,
-    pub required: usize,
-    pub claim: Claim,
+// What is listed of a body, and what comes after its line.
+pub struct Line {
+    pub listed: Listed,
+    pub next: Next,
 }
 
-// Where the bodies begin in the job, and their lengths; or that the contents break their rules.
-pub enum Layout {
-    Bodies(usize, Table),
-    Broken,
-}
-
-// The lengths read so far and the place of the next byte, or that the contents break their rules.
-pub enum Reading {
-    At(Table, usize),
-    Broken,
-}
-
-// Whether byte b stands at a place of the job.
-fn stands_at(job: &[u8], at: usize, b: u8) -> bool
-    ensures { λ r. ⌜ Stands b (now (job .entry)) at r ⌝ }
-{
-    if at < job.len() { job[at] == b } else { false }
-}
-
-// The step over one byte.
-fn byte_after(job: &[u8], state: Reading, b: u8) -> Reading
-    requires { ⌜ Small (now job) state ⌝ }
-    ensures step { λ r. ⌜ told (now (job .entry)) r ≡ onward (told (now (job .entry)) state) (byte b) ⌝ }
-    ensures small { λ r. ⌜ Small (now (job .entry)) r ⌝ }
-{
-    let Reading::At(table, at) = state else {
-        return Reading::Broken;
-    };
-    if !stands_at(job, at, b) {
-        return Reading::Broken;
-    }
-    Reading::At(table, at + 1)
+// Where a body is, and what comes after it.
+pub struct Placed {
+    pub span: Span,
+    pub next: Next,
 }
 
 // Whether these bytes stand in the job from a place on.
@@ -89,202 +107,220 @@ fn begins_at(job: &[u8], at: usize, word: &[u8]) -> bool
     true
 }
 
-// The step over the line `strict`, which a job may leave out.
-fn strict_after(job: &[u8], state: Reading) -> Reading
-    requires { ⌜ Small (now job) state ⌝ }
-    ensures step { λ r. ⌜ told (now (job .entry)) r ≡ onward (told (now (job .entry)) state) strictLine ⌝ }
-    ensures small { λ r. ⌜ Small (now (job .entry)) r ⌝ }
+// A line that a job may leave out.
+fn flag_at(job: &[u8], at: usize, line: &[u8]) -> Flag
+    ensures { λ r. ⌜ r ≡ flagAt (now (job .entry)) at (now (line .entry)) ⌝ }
 {
-    let Reading::At(table, at) = state else {
-        return Reading::Broken;
-    };
-    let line = b"strict\n";
     if !begins_at(job, at, line) {
-        return state;
+        return Flag {
+            on: false,
+            next: at,
+        };
     }
-    let stated = table.stated;
-    let claim = table.claim;
-    let strict = Table {
-        strict: true,
-        stated: stated,
-        first: table.first,
-        second: table.second,
-        required: table.required,
-        claim: claim,
+    Flag {
+        on: true,
+        next: at + line.len(),
+    }
+}
+
+// The line of the edition, which a job may leave out: at most one line is taken.
+fn stated_at(job: &[u8], at: usize) -> StatedAt
+    ensures { λ r. ⌜ r ≡ statedAt (now (job .entry)) at ⌝ }
+{
+    let one = flag_at(job, at, b"E 1\n");
+    if one.on {
+        return StatedAt {
+            stated: Stated::One,
+            next: one.next,
+        };
+    }
+    let two = flag_at(job, at, b"E 2\n");
+    if two.on {
+        return StatedAt {
+            stated: Stated::Two,
+            next: two.next,
+        };
+    }
+    StatedAt {
+        stated: Stated::Nothing,
+        next: two.next,
+    }
+}
+
+// The lines before those of the bodies.
+fn head_at(job: &[u8]) -> HeadAt
+    ensures { λ r. ⌜ r ≡ headAt (now (job .entry)) ⌝ }
+{
+    let strict = flag_at(job, 0, b"strict\n");
+    let edition = stated_at(job, strict.next);
+    let stated = edition.stated;
+    let head = Head {
+        strict: strict.on,
+        stated,
     };
-    Reading::At(strict, at + line.len())
-}
-
-// What the job states of its edition, put down.
-fn with_stated(table: Table, stated: Stated) -> Table
-    ensures { λ r. ⌜ r ≡ withStated stated table ⌝ }
-{
-    let claim = table.claim;
-    Table {
-        strict: table.strict,
-        stated: stated,
-        first: table.first,
-        second: table.second,
-        required: table.required,
-        claim: claim,
+    HeadAt {
+        head,
+        next: edition.next,
     }
 }
 
-// The step over the line of the edition, which a job may leave out: at most one line is taken.
-fn edition_after(job: &[u8], state: Reading) -> Reading
-    requires { ⌜ Small (now job) state ⌝ }
-    ensures step { λ r. ⌜ told (now (job .entry)) r ≡ onward (told (now (job .entry)) state) editionLine ⌝ }
-    ensures small { λ r. ⌜ Small (now (job .entry)) r ⌝ }
+// These bytes, which have to be next.
+fn word_after(job: &[u8], from: Next, word: &[u8]) -> Next
+    ensures { λ r. ⌜ r ≡ wordAfter (now (job .entry)) from (now (word .entry)) ⌝ }
 {
-    let Reading::At(table, at) = state else {
-        return Reading::Broken;
+    let Next::At(at) = from else {
+        return Next::Broken;
     };
-    let one = b"E 1\n";
-    if begins_at(job, at, one) {
-        return Reading::At(with_stated(table, Stated::One), at + one.len());
+    if !begins_at(job, at, word) {
+        return Next::Broken;
     }
-    let two = b"E 2\n";
-    if begins_at(job, at, two) {
-        return Reading::At(with_stated(table, Stated::Two), at + two.len());
-    }
-    state
+    Next::At(at + word.len())
 }
 
-// A length put down for its body.
-fn with_length(table: Table, body: Body, n: usize) -> Table
-    ensures { λ r. ⌜ r ≡ withLength body n table ⌝ }
+// No line: the contents break their rules.
+fn broken_line() -> Line
+    ensures { λ r. ⌜ r ≡ brokenLine ⌝ }
 {
-    let stated = table.stated;
-    let claim = table.claim;
-    match body {
-        Body::S => Table {
-            strict: table.strict,
-            stated: stated,
-            first: n,
-            second: table.second,
-            required: table.required,
-            claim: claim,
-        },
-        Body::T => Table {
-            strict: table.strict,
-            stated: stated,
-            first: table.first,
-            second: n,
-            required: table.required,
-            claim: claim,
-        },
-        Body::K => Table {
-            strict: table.strict,
-            stated: stated,
-            first: table.first,
-            second: table.second,
-            required: n,
-            claim: claim,
-        },
-        Body::C => Table {
-            strict: table.strict,
-            stated: stated,
-            first: table.first,
-            second: table.second,
-            required: table.required,
-            claim: Claim::Bytes(n),
-        },
-        Body::J => table,
-        Body::O => table,
+    Line {
+        listed: Listed::Absent,
+        next: Next::Broken,
     }
 }
 
-// The step over a body's length.
-fn length_after(job: &[u8], state: Reading, body: Body) -> Reading
-    requires { ⌜ Small (now job) state ⌝ }
-    ensures step { λ r. ⌜ told (now (job .entry)) r ≡ onward (told (now (job .entry)) state) (lengthStep body) ⌝ }
-    ensures small { λ r. ⌜ Small (now (job .entry)) r ⌝ }
+// The line of a body, after another line; `needed`: whether each job has it.
+fn line_after(job: &[u8], from: Line, body: Body, needed: bool) -> Line
+    ensures { λ r. ⌜ r ≡ lineAfter (now (job .entry)) (from .next) (record { body = body; needed = needed }) ⌝ }
 {
-    let Reading::At(table, at) = state else {
-        return Reading::Broken;
+    let place = from.next;
+    let Next::At(at) = place else {
+        return broken_line();
     };
-    let number = decimal::number_at(job, at);
-    let Digits::Value(n, next) = number else {
-        return Reading::Broken;
-    };
-    Reading::At(with_length(table, body, n), next)
-}
-
-// The step over a line with a body's letter and length.
-fn entry_after(job: &[u8], state: Reading, body: Body) -> Reading
-    requires { ⌜ Small (now job) state ⌝ }
-    ensures step { λ r. ⌜ told (now (job .entry)) r ≡ onward (told (now (job .entry)) state) (entry body) ⌝ }
-    ensures small { λ r. ⌜ Small (now (job .entry)) r ⌝ }
-{
-    let letter = byte_after(job, state, trees::letter(body));
-    let blank = byte_after(job, letter, b' ');
-    let number = length_after(job, blank, body);
-    byte_after(job, number, b'\n')
-}
-
-// The step over the line of a body that a job may leave out: it is taken where the body's letter stands next.
-fn optional_entry_after(job: &[u8], state: Reading, body: Body) -> Reading
-    requires { ⌜ Small (now job) state ⌝ }
-    ensures step { λ r. ⌜ told (now (job .entry)) r ≡ onward (told (now (job .entry)) state) (optionalEntry body) ⌝ }
-    ensures small { λ r. ⌜ Small (now (job .entry)) r ⌝ }
-{
-    let Reading::At(_, at) = state else {
-        return Reading::Broken;
-    };
-    if !stands_at(job, at, trees::letter(body)) {
-        return state;
+    let letter = trees::letter(body);
+    let opening = [letter, b' '];
+    if !begins_at(job, at, &opening) {
+        if needed {
+            return broken_line();
+        }
+        return Line {
+            listed: Listed::Absent,
+            next: Next::At(at),
+        };
     }
-    entry_after(job, state, body)
-}
-
-// How many bytes of the job are the claimed set's.
-fn claim_size(claim: Claim) -> usize
-    ensures { λ r. ⌜ r ≡ claimSize claim ⌝ }
-{
-    match claim {
-        Claim::Absent => 0,
-        Claim::Bytes(n) => n,
+    let number = decimal::number_at(job, at + 2);
+    let Digits::Value(n, end) = number else {
+        return broken_line();
+    };
+    Line {
+        listed: Listed::Bytes(n),
+        next: word_after(job, Next::At(end), b"\n"),
     }
 }
 
-// The lengths must add up to exactly what follows the empty line.
-fn laid_out(job: &[u8], end: Reading) -> Layout
-    requires { ⌜ Small (now job) end ⌝ }
-    ensures { λ r. ⌜ r ≡ laidOut (now (job .entry)) (told (now (job .entry)) end) ⌝ }
+// No body: the contents break their rules.
+fn nowhere() -> Placed
+    ensures { λ r. ⌜ r ≡ nowhere ⌝ }
 {
-    let Reading::At(table, at) = end else {
+    Placed {
+        span: Span::Absent,
+        next: Next::Broken,
+    }
+}
+
+// A body of the length that its line lists, after another body.
+fn place_after(job: &[u8], from: Placed, line: Line) -> Placed
+    ensures { λ r. ⌜ r ≡ placeAfter (now (job .entry)) (from .next) (line .listed) ⌝ }
+{
+    let place = from.next;
+    let Next::At(at) = place else {
+        return nowhere();
+    };
+    let listed = line.listed;
+    let Listed::Bytes(n) = listed else {
+        return Placed {
+            span: Span::Absent,
+            next: Next::At(at),
+        };
+    };
+    if job.len() < at {
+        return nowhere();
+    }
+    if job.len() - at < n {
+        return nowhere();
+    }
+    Placed {
+        span: Span::At(at, n),
+        next: Next::At(at + n),
+    }
+}
+
+// The table of a job whose last body ends where the job does.
+fn laid_out(job: &[u8], head: Head, s: Placed, t: Placed, k: Placed, c: Placed) -> Layout
+    ensures { λ r. ⌜ r ≡ laidOut (now (job .entry)) (record { head = head; first = s .span; second = t .span; list = k .span; claim = c .span }) (c .next) ⌝ }
+{
+    let place = c.next;
+    let Next::At(at) = place else {
         return Layout::Broken;
     };
-    let claim = table.claim;
-    let claimed = claim_size(claim);
-    if table.first + table.second + table.required + claimed == job.len() - at {
-        Layout::Bodies(at, table)
-    } else {
-        Layout::Broken
+    if at != job.len() {
+        return Layout::Broken;
     }
+    let first = s.span;
+    let second = t.span;
+    let list = k.span;
+    let claim = c.span;
+    Layout::Laid(Table {
+        head,
+        first,
+        second,
+        list,
+        claim,
+    })
 }
 
-// Where the bodies stand in a job.
+// Where the bodies are in a job.
 pub fn contents(job: &[u8]) -> Layout
     ensures { λ r. ⌜ r ≡ layoutOf (now (job .entry)) ⌝ }
 {
-    let nothing = Table {
-        strict: false,
-        stated: Stated::Nothing,
-        first: 0,
-        second: 0,
-        required: 0,
-        claim: Claim::Absent,
+    let front = head_at(job);
+    let start = Line {
+        listed: Listed::Absent,
+        next: Next::At(front.next),
     };
-    let start = Reading::At(nothing, 0);
-    let strict = strict_after(job, start);
-    let edition = edition_after(job, strict);
-    let first = entry_after(job, edition, Body::S);
-    let second = entry_after(job, first, Body::T);
-    let required = entry_after(job, second, Body::K);
-    let claim = optional_entry_after(job, required, Body::C);
-    let end = byte_after(job, claim, b'\n');
-    laid_out(job, end)
+    let first = line_after(job, start, Body::S, true);
+    let second = line_after(job, first, Body::T, true);
+    let list = line_after(job, second, Body::K, true);
+    let claim = line_after(job, list, Body::C, false);
+    let lines_end = claim.next;
+    let begin = Placed {
+        span: Span::Absent,
+        next: word_after(job, lines_end, b"\n"),
+    };
+    let s = place_after(job, begin, first);
+    let t = place_after(job, s, second);
+    let k = place_after(job, t, list);
+    let c = place_after(job, k, claim);
+    let head = front.head;
+    laid_out(job, head, s, t, k, c)
+}
+
+// The bytes of a body: none where the job has none.
+pub fn bytes_of<'a>(job: &'a [u8], span: Span) -> &'a [u8]
+    ensures { λ r. ⌜ now r ≡ bytes (spanIn (now (job .entry)) span) ⌝ }
+{
+    match span {
+        Span::Absent => trees::part(job, 0, 0),
+        Span::At(at, n) => trees::part(job, at, n),
+    }
+}
+
+// Where a body begins in the job.
+pub fn place_of(span: Span) -> usize
+    ensures { λ r. ⌜ r ≡ placeOf span ⌝ }
+{
+    match span {
+        Span::Absent => 0,
+        Span::At(at, _) => at,
+    }
 }
 
 // The edition that a job has by what it states: the first one if it states nothing.

@@ -1,11 +1,11 @@
--- What decimal digits promise, in the papers' order; each theorem cites one name. Assumes nothing.
+-- What decimal digits promise, in 01's order. Each theorem cites one name. Assumes nothing.
 use Prim.Native.Nat.{ℕ, _^_, _<_}
 use mathlib.Core.Path.{_≡_}
 use lib.ListN.{getD}
 use Rattle.decimals.specs.Decimal.{decimalFrom, decimalOf, valueFrom}
 use Rattle.decimals.proofs.DecimalLaws
 
--- "decimal": the digits of a number stand for it
+-- "decimal": the value of the digits is the number.
 pub digits-value : (n : ℕ) → n < 10 ^ 20 → valueFrom 0 (decimalOf n) ≡ n
 digits-value = DecimalLaws.decimal-value
 

@@ -1,4 +1,4 @@
--- Decimal numbers. Scope paper, "Job and printed result": "decimal, .. no leading zero except `0` itself".
+-- Decimal numbers. 01, "Job and printed result": "decimal, .. no leading zero except `0` itself".
 use Prim.Native.Nat.{ℕ, zero, suc, _+_, _-_, _*_, _/_, _%_}
 use mathlib.Core.Bool.{Bool, cond, _&&_}
 use mathlib.Core.List.{List, [], _∷_, _++_}
@@ -26,7 +26,7 @@ unfolding isDigit
 digitRun [] = []
 digitRun (b ∷ rest) = cond (isDigit b) (b ∷ digitRun rest) []
 
--- the number that digits stand for, after those that make up n
+-- the value of the digits, after those that make up n
 unfoldable pub valueFrom : ℕ → List ℕ → ℕ
 valueFrom n [] = n
 valueFrom n (b ∷ rest) = valueFrom (n * 10 + (b - 48)) rest

@@ -1,12 +1,12 @@
--- The digits of a number by value. Change requests, C-13: "make the decimal digits of a place without division or remainder, by subtracting
--- powers of ten. For every place they are the same as before".
+-- The digits of a number by value. C-13: "make the decimal digits of a place without division or remainder, by subtracting powers of ten.
+-- For every place they are the same as before".
 use Prim.Native.Nat.{ℕ, zero, suc, _^_}
 use mathlib.Core.List.{List, [], _∷_}
 use lib.ListN.{take}
 use Rattle.decimals.specs.declared.Numeral.{Numeral}
 use Rattle.decimals.specs.Decimal.{digitRoom}
 
--- the digits that are told: of a length past 20 the array's 20 bytes count
+-- the digits of a numeral; if the length exceeds 20, the array's 20 bytes count
 unfoldable pub numeralBytes : Numeral → List ℕ
 numeralBytes d = take (d .len) (d .bytes)
 

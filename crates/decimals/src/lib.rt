@@ -66,7 +66,7 @@ fn digit_count(n: usize, powers: &[usize; DIGIT_ROOM]) -> usize
     k
 }
 
-// Subtracts a power of ten as often as it can be: the digit that stands there.
+// Subtracts a power of ten as often as possible: the digit at its place.
 fn take_digit(n: usize, power: usize) -> Taken
     requires { ⌜ n < power * 10 ⌝ }
     ensures whole { λ r. ⌜ n ≡ r .times * power + r .rest ⌝ }

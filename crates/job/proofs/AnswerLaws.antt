@@ -1,5 +1,5 @@
 -- What the engine's answer says of the job's: a set and its lines, number 8 and its parts, or a refusal. Assumes nothing.
-use Prim.Native.Nat.{ℕ, _+_, _-_, _≤_, _<_}
+use Prim.Native.Nat.{ℕ, _+_, _≤_, _<_}
 use mathlib.Core.Path.{_≡_, refl, sym, _∙_, ap, subst}
 use mathlib.Core.Bool.{true}
 use mathlib.Core.List.{List, [], _∷_, _++_, map}
@@ -9,9 +9,10 @@ use lib.ListN.{length, getD, take, drop, replicate, length-append, length-replic
 use lib.Seq.{take-at}
 use borrow.Author.Tests.{le-leb, lt-leb}
 use Rattle.trees.specs.declared.Reason.the-variants.{Contents, JobTooLong}
-use Rattle.trees.specs.declared.Body.the-variants.{J}
+use Rattle.trees.specs.declared.Body.the-variants.{S, K, C, J}
 use Rattle.trees.specs.declared.Refusal.{Refusal}
 use Rattle.trees.specs.Label.{Label, isIn}
+use Rattle.trees.specs.Refusals.{letterOf}
 use Rattle.trees.specs.Text.{treeRoom}
 use Rattle.trees.specs.declared.Edition.{Edition}
 use Rattle.trees.specs.Edition.{folded}
@@ -38,16 +39,16 @@ use Rattle.job.specs.declared.NamedLabel.{NamedLabel}
 use Rattle.contents.specs.declared.Table.{Table}
 use Rattle.contents.specs.declared.Layout.{Layout}
 use Rattle.contents.specs.declared.Layout.the-variants as layout
-use Rattle.contents.specs.declared.Claim.{Claim}
-use Rattle.contents.specs.declared.Claim.the-variants.{Absent, Bytes}
-use Rattle.contents.specs.Contents.{Bodies, editionOf, claimSize, claimAt, layoutOf, bodiesIn, bodiesOf, firstPlace, listPlace, claimPlace}
-use Rattle.contents.proofs.ContentsLaws.{laid-job}
+use Rattle.contents.specs.declared.Span.{Span}
+use Rattle.contents.specs.declared.Span.the-variants as span
+use Rattle.contents.specs.Contents.{Bodies, entries, lookup, part, bytes, firstText, secondText, listText, claimText, editionOf, layoutOf, spanIn, bodiesFrom, bodiesOf, placeOf, bodyPlace}
+use Rattle.contents.proofs.ContentsLaws.{body-ends}
 use Rattle.job.specs.Printed.{JobSolution, solved, passed, clashed, apart, turned, ofSolution, ofJudgement, recordLines, claimLine, solveTask, solveBodies, solveJob, jobLimit}
 use Rattle.job.specs.declared.Begin.{Begin}
 use Rattle.job.specs.Answered.{lineOutput, recordAnswer, beginIn, namedLabel, namedThree, answered, jobOutput}
 use Rattle.job.specs.Areas.{labelsIn, namedAt, Near}
 use Rattle.job.proofs.ShownLaws.{labels-are}
-use Rattle.job.proofs.SolvedLaws.{ClashedBy, From, solution-from, Judged, judged-from, set-few, set-shown, in-tree, three-in, label-listed, three-shown}
+use Rattle.job.proofs.SolvedLaws.{ClashedBy, From, solution-from, Judged, judged-from, set-few, set-shown, three-in, label-listed, three-shown}
 
 -- ---- one kind of answer each
 
@@ -222,7 +223,7 @@ module _ (q : Task) (blank area : List ℕ) (r : LargestResult) (roomy : length 
                 ap (λ (z : LargestResult). labelsIn (q .first) (z .set .start) (z .set .size) (z .set .count)) t
                 ∙ labels-are (q .first) (placeIn (folded d s) 0) (λ (x : Label). length (tokenIn (folded d s) x)) (spelledIn d s) (nameIn d s) X
                 (set-shown q (length blank) d s X text f)
-                (λ (x : Label) (i : isIn x X ≡ true). sym (spelled-size d s x (in-tree q (length blank) d s X text f x i)));
+                (λ (x : Label) (i : isIn x X ≡ true). sym (spelled-size d s x));
           }
       go (mast.clashed d s xs a b c) g f t o =
           let h : Found n k ≡ disagreeAt (foldedList d xs) a b c = sym e ∙ ap (λ (z : LargestResult). z .answer) t in
@@ -317,46 +318,52 @@ job-bodies job b h e = rw (le-leb (length job) jobLimit h) (ap solveBodies e)
 
 pub job-broken : (job : List ℕ) → length job ≤ jobLimit → layout.Broken ≡ layoutOf job
     → solveJob job ≡ turned (record { reason = Contents; body = J; place = 0 })
-unfolding solveBodies bodiesOf bodiesIn
-job-broken job h e = job-bodies job none h (ap (bodiesIn job) (sym e))
+unfolding solveBodies bodiesOf bodiesFrom
+job-broken job h e = job-bodies job none h (ap (bodiesFrom job) (sym e))
 
-module _ (job : List ℕ) (at : ℕ) (t : Table) (e : layout.Bodies at t ≡ layoutOf job) where
-  pub laid-inside : at + t .first + t .second + t .required + claimSize (t .claim) ≡ length job
-  laid-inside = laid-job job at t (sym e) .sum
+pub begin-is : {a b c x y z : ℕ} → a ≡ x → b ≡ y → c ≡ z
+    → _≡_ {A = Begin} (record { tree = a; list = b; claim = c }) (record { tree = x; list = y; claim = z })
+begin-is d f g = rw (d, f, g) refl
 
-  pub bodies-base : _≡_ {A = Begin} (record { tree = at; list = at + t .first + t .second; claim = at + t .first + t .second + t .required })
-      (beginIn job)
-  unfolding firstPlace listPlace claimPlace
-  bodies-base = ap (λ (l : Layout). record { tree = firstPlace l; list = listPlace l; claim = claimPlace l }) e
+module _ (job : List ℕ) (t : Table) (e : layout.Laid t ≡ layoutOf job) where
+  -- the parts of the job that the contents name
+  pub first-ends : placeOf (t .first) + length (bytes (spanIn job (t .first))) ≤ length job
+  unfolding lookup entries letterOf
+  first-ends = body-ends job t (sym e) S
 
-  -- what is asked by the parts of the job that the contents name
-  module _ (fits : length job ≤ jobLimit) (edition : Edition) (d : edition ≡ editionOf (t .stated)) where
+  pub list-ends : placeOf (t .list) + length (bytes (spanIn job (t .list))) ≤ length job
+  unfolding lookup entries letterOf
+  list-ends = body-ends job t (sym e) K
+
+  pub claim-ends : placeOf (t .claim) + length (bytes (spanIn job (t .claim))) ≤ length job
+  unfolding lookup entries letterOf
+  claim-ends = body-ends job t (sym e) C
+
+  pub bodies-base : _≡_ {A = Begin} (record { tree = placeOf (t .first); list = placeOf (t .list); claim = placeOf (t .claim) }) (beginIn job)
+  unfolding bodyPlace lookup entries letterOf
+  bodies-base = ap (λ (l : Layout). record { tree = bodyPlace S l; list = bodyPlace K l; claim = bodyPlace C l }) e
+
+  -- what is asked by them
+  module _ (fits : length job ≤ jobLimit) (edition : Edition) (d : edition ≡ editionOf (t .head .stated)) (first second list : List ℕ)
+      (ef : first ≡ bytes (spanIn job (t .first))) (es : second ≡ bytes (spanIn job (t .second))) (el : list ≡ bytes (spanIn job (t .list))) where
     abbrev pub partsTask : Task
-    partsTask =
-        task (record { strict = t .strict; edition = edition }) (take (at + t .first - at) (drop at job))
-        (take (at + t .first + t .second - (at + t .first)) (drop (at + t .first) job))
-        (take (at + t .first + t .second + t .required - (at + t .first + t .second)) (drop (at + t .first + t .second) job))
+    partsTask = task (record { strict = t .head .strict; edition = edition }) first second list
 
-    parts-solved : (c : Claim) → t .claim ≡ c
-        → solveTask partsTask (claimAt (drop (at + t .first + t .second + t .required) job) c) ≡ solveJob job
-    unfolding solveBodies bodiesOf bodiesIn
-    parts-solved c k =
-        let u : at + t .first - at ≡ t .first = omega arith in
-        let v : at + t .first + t .second - (at + t .first) ≡ t .second = omega arith in
-        let w : at + t .first + t .second + t .required - (at + t .first + t .second) ≡ t .required = omega arith in
-        rw (u, v, w, d, sym k) (sym (job-bodies job _ fits (ap (bodiesIn job) (sym e))))
+    parts-solved : solveTask partsTask (spanIn job (t .claim)) ≡ solveJob job
+    unfolding solveBodies bodiesOf bodiesFrom firstText secondText listText claimText part lookup entries letterOf
+    parts-solved = rw (d, ef, es, el) (sym (job-bodies job _ fits (ap (bodiesFrom job) (sym e))))
 
-    pub job-solved : t .claim ≡ Absent → ofSolution (solve partsTask treeRoom) ≡ solveJob job
-    unfolding solveTask
-    job-solved k = parts-solved Absent k
+    pub job-solved : t .claim ≡ span.Absent → ofSolution (solve partsTask treeRoom) ≡ solveJob job
+    unfolding solveTask spanIn
+    job-solved k = ap (λ (s : Span). solveTask partsTask (spanIn job s)) (sym k) ∙ parts-solved
 
-    pub job-judged : (n : ℕ) → t .claim ≡ Bytes n
-        → ofJudgement (judge partsTask (take (at + t .first + t .second + t .required + n - (at + t .first + t .second + t .required)) (drop (at + t .first + t .second + t .required) job)))
-        ≡ solveJob job
-    unfolding solveTask
-    job-judged n k =
-        let u : at + t .first + t .second + t .required + n - (at + t .first + t .second + t .required) ≡ n = omega arith in
-        rw u (parts-solved (Bytes n) k)
+    pub job-judged : (at n : ℕ) → t .claim ≡ span.At at n → (claim : List ℕ) → claim ≡ bytes (spanIn job (t .claim))
+        → ofJudgement (judge partsTask claim) ≡ solveJob job
+    unfolding solveTask spanIn
+    job-judged at n k claim c =
+        ap (λ (x : List ℕ). ofJudgement (judge partsTask x)) (c ∙ ap (λ (s : Span). bytes (spanIn job s)) k)
+        ∙ ap (λ (s : Span). solveTask partsTask (spanIn job s)) (sym k)
+        ∙ parts-solved
 
 -- the engine's area for the tree text
 abbrev pub blank : List ℕ

@@ -7,22 +7,22 @@ use mathlib.Core.Option.{Option, some, none}
 use lib.Dec.{leb}
 use lib.ListN.{length}
 use Rattle.trees.specs.declared.Reason.the-variants.{JobTooLong}
-use Rattle.trees.specs.declared.Body.the-variants.{J}
+use Rattle.trees.specs.declared.Body.the-variants.{S, K, C, J}
 use Rattle.trees.specs.declared.Refusal.{Refusal}
 use Rattle.trees.specs.Label.{Label, isIn}
 use Rattle.trees.specs.Text.{treeRoom}
 use Rattle.trees.specs.declared.Edition.{Edition}
 use Rattle.trees.specs.declared.Edition.the-variants.{One}
-use Rattle.trees.specs.Edition.{inEdition, key, folded, keyed}
-use Rattle.trees.specs.Token.{Token, spelling}
+use Rattle.trees.specs.Edition.{key, folded, keyed}
+use Rattle.trees.specs.Token.{Token}
 use Rattle.trees.specs.Tree.{Tree}
 use Rattle.lists.specs.ReadList.{foldedList, keysOf}
 use Rattle.trees.specs.Words.{Within}
-use Rattle.agreement.specs.Places.{placeIn, placeOfLabel, tokenOfLabel, spelledIn, nameIn}
-use Rattle.agreement.proofs.EditionText.{spelled-size, spelled-key, within-folded, name-one}
+use Rattle.agreement.specs.Places.{placeIn, placeOfLabel, tokenOfKey, spelledIn, nameIn}
+use Rattle.agreement.proofs.EditionText.{spelled-size, spelled-key, name-one}
 use Rattle.agreement.specs.Closer.{holds}
 use Rattle.agreement.proofs.SetLaws.{in-head, in-tail}
-use Rattle.agreement.proofs.PlaceLaws.{listed-spelled}
+use Rattle.agreement.proofs.PlaceLaws.{listed-key}
 use Rattle.mast.specs.Largest.{Solution, solve}
 use Rattle.mast.specs.Largest as mast
 use Rattle.claims.specs.Judge.{Judgement, judge}
@@ -32,10 +32,10 @@ use Rattle.job.specs.declared.JobAnswer.the-variants as job-answer
 use Rattle.job.specs.declared.LineAnswer.{LineAnswer}
 use Rattle.job.specs.declared.LineAnswer.the-variants.{Written, TooShort}
 use Rattle.job.specs.declared.Named.{Named}
-use Rattle.contents.specs.Contents.{Bodies, bodiesOf, claimBytes}
+use Rattle.contents.specs.Contents.{Bodies, bytes, firstText, listText, claimText, bodiesOf}
 use Rattle.job.specs.Printed.{jobLimit, taskOf, JobSolution, solved, passed, clashed, apart, turned, ofSolution, ofJudgement, solveTask, eight, fourteen, threeLine, solveBodies, solveJob, recordLines, claimLine, printedOf, printed}
 use Rattle.job.specs.Answered.{labelIn, lineAnswer, linesAnswer, recordAnswer, namedLine, beginIn, namedLabel, namedThree, answered, answerTo}
-use Rattle.contents.proofs.ContentsLaws.{first-stands, list-stands, claim-stands}
+use Rattle.contents.proofs.Promises.{body-promise}
 use Rattle.agreement.proofs.PlaceLaws.{within-part}
 use Rattle.job.proofs.ShownLaws.{Stands, shown-label, three-listed}
 use Rattle.job.proofs.SolvedLaws.{ClashedBy, From, solution-from, Judged, judged-from, three-in, three-held, three-shown, label-listed}
@@ -56,38 +56,38 @@ NamedBy job (apart e s ys a b c) = ClashedJob job (beginIn job .claim) e s ys a 
 NamedBy job (turned q) = Prim.Unit {0}
 
 job-named : (job : List ℕ) → NamedBy job (solveJob job)
-unfolding solveJob solveBodies solveTask ofSolution ofJudgement
+unfolding solveJob solveBodies solveTask ofSolution ofJudgement firstText listText claimText
 job-named job = go (leb (length job) jobLimit) (bodiesOf job) refl
   where
     set : (d : Bodies) → bodiesOf job ≡ some d → (x : Solution) → From (taskOf d) treeRoom x → NamedBy job (ofSolution x)
     set d f (mast.solved e s X text) w = tt
     set d f (mast.clashed e s xs a b c) w =
-        record { first = d .first; listed = d .list; tree = first-stands job d f; list = list-stands job d f; by = w }
+        record { first = firstText d; listed = listText d; tree = body-promise job d f S; list = body-promise job d f K; by = w }
     set d f (mast.turned q) w = tt
 
-    claimed : (d : Bodies) → bodiesOf job ≡ some d → (claim : List ℕ) → d .claim ≡ some claim → (x : Judgement) → Judged (taskOf d) claim x
+    claimed : (d : Bodies) → bodiesOf job ≡ some d → (claim : List ℕ) → claimText d ≡ some claim → (x : Judgement) → Judged (taskOf d) claim x
         → NamedBy job (ofJudgement x)
     claimed d f claim h (claims.passes n) w = tt
     claimed d f claim h (claims.disagrees e s xs a b c) w =
-        record { first = d .first; listed = d .list; tree = first-stands job d f; list = list-stands job d f; by = w }
+        record { first = firstText d; listed = listText d; tree = body-promise job d f S; list = body-promise job d f K; by = w }
     claimed d f claim h (claims.apart e s ys a b c) w =
         record {
-          first = d .first;
+          first = firstText d;
           listed = claim;
-          tree = first-stands job d f;
-          list = subst (λ (o : Option (List ℕ)). Within job (beginIn job .claim) (claimBytes o)) h (claim-stands job d f);
+          tree = body-promise job d f S;
+          list = subst (λ (o : Option (List ℕ)). Within job (beginIn job .claim) (bytes o)) h (body-promise job d f C);
           by = w;
         }
     claimed d f claim h (claims.declined q) w = tt
 
-    task : (d : Bodies) → bodiesOf job ≡ some d → (c : Option (List ℕ)) → d .claim ≡ c → NamedBy job (solveTask (taskOf d) c)
+    task : (d : Bodies) → bodiesOf job ≡ some d → (c : Option (List ℕ)) → claimText d ≡ c → NamedBy job (solveTask (taskOf d) c)
     task d f none h = set d f (solve (taskOf d) treeRoom) (solution-from (taskOf d) treeRoom)
     task d f (some claim) h = claimed d f claim h (judge (taskOf d) claim) (judged-from (taskOf d) claim)
 
     go : (q : Bool) (o : Option Bodies) → bodiesOf job ≡ o
         → NamedBy job (cond q (solveBodies o) (turned (record { reason = JobTooLong; body = J; place = 0 })))
     go true none f = tt
-    go true (some d) f = task d f (d .claim) refl
+    go true (some d) f = task d f (claimText d) refl
     go false o f = tt
 
 module _ (job : List ℕ) (base : ℕ) (e : Edition) (s : Tree) (xs : List Token) (a b c : Label) (w : ClashedJob job base e s xs a b c) where
@@ -106,7 +106,7 @@ module _ (job : List ℕ) (base : ℕ) (e : Edition) (s : Tree) (xs : List Token
       → labelIn job (namedLabel (beginIn job .tree) base e s xs x .start) (namedLabel (beginIn job .tree) base e s xs x .size) ≡ nameIn e s x
   unfolding namedLabel
   label-named x h =
-      ap (labelIn job (beginIn job .tree + placeIn (folded e s) 0 x)) (sym (spelled-size e s x (three-held (w .first) (w .listed) e s xs a b c (w .by) x h)))
+      ap (labelIn job (beginIn job .tree + placeIn (folded e s) 0 x)) (sym (spelled-size e s x))
       ∙ shown-label job (beginIn job .tree + placeIn (folded e s) 0 x) (spelledIn e s x) (nameIn e s x) (label-spelled x h)
 
   named-line : (q : Refusal) → namedLine job q (namedThree (beginIn job .tree) base e s xs a b c) ≡ threeLine q (nameIn e s a) (nameIn e s b) (nameIn e s c)
@@ -115,25 +115,22 @@ module _ (job : List ℕ) (base : ℕ) (e : Edition) (s : Tree) (xs : List Token
       let l = three-in (w .first) (w .listed) e s xs a b c (w .by) in
       rw (label-named a (l .0), label-named b (l .1), label-named c (l .2)) refl
 
-  -- in the list, as the edition reads it
-  label-listed-in : (x : Label) → isIn x (keysOf e xs) ≡ true
-      → Within (inEdition e job) (base + placeOfLabel (foldedList e xs) 0 x) (tokenOfLabel (foldedList e xs) x)
+  -- in the list
+  label-listed-in : (x : Label) → isIn x (keysOf e xs) ≡ true → Within job (base + placeOfLabel (foldedList e xs) 0 x) (tokenOfKey e xs x)
   label-listed-in x h =
-      within-part (inEdition e job) base (inEdition e (w .listed)) (placeOfLabel (foldedList e xs) 0 x)
-      (tokenOfLabel (foldedList e xs) x) (within-folded e job (w .listed) base (w .list))
+      within-part job base (w .listed) (placeOfLabel (foldedList e xs) 0 x) (tokenOfKey e xs x) (w .list)
       (label-listed (w .first) (w .listed) e s xs a b c (w .by) x h .shown)
 
   -- the three labels stand in the job's list where the answer's places say, as tokens that have their keys, and in its first tree, as it
   -- spells them
   labels-shown : (x : Label) → isIn x (a ∷ b ∷ c ∷ []) ≡ true
-      → Within (inEdition e job) (base + placeOfLabel (foldedList e xs) 0 x) (tokenOfLabel (foldedList e xs) x)
-      × (spelling (tokenOfLabel (foldedList e xs) x) ≡ x)
+      → Within job (base + placeOfLabel (foldedList e xs) 0 x) (tokenOfKey e xs x) × (key e (tokenOfKey e xs x) ≡ x)
       × Within job (beginIn job .tree + placeIn (folded e s) 0 x) (spelledIn e s x) × (key e (spelledIn e s x) ≡ x)
   labels-shown x h =
       let l = three-in (w .first) (w .listed) e s xs a b c (w .by) in
       let i = three-listed a b c (keysOf e xs) l x h in (
         label-listed-in x i,
-        listed-spelled (foldedList e xs) x i,
+        listed-key e xs x i,
         label-spelled x i .at,
         spelled-key e s x (three-held (w .first) (w .listed) e s xs a b c (w .by) x i),
       )
@@ -173,14 +170,12 @@ module _ (job : List ℕ) (room : ℕ) (n : Named) where
 
 module _ (job : List ℕ) (e : Edition) (s : Tree) (xs : List Token) (a b c : Label) where
   pub clash-shown : solveJob job ≡ clashed e s xs a b c → (x : Label) → isIn x (a ∷ b ∷ c ∷ []) ≡ true
-      → Within (inEdition e job) (beginIn job .list + placeOfLabel (foldedList e xs) 0 x) (tokenOfLabel (foldedList e xs) x)
-      × (spelling (tokenOfLabel (foldedList e xs) x) ≡ x)
+      → Within job (beginIn job .list + placeOfLabel (foldedList e xs) 0 x) (tokenOfKey e xs x) × (key e (tokenOfKey e xs x) ≡ x)
       × Within job (beginIn job .tree + placeIn (folded e s) 0 x) (spelledIn e s x) × (key e (spelledIn e s x) ≡ x)
   clash-shown k = labels-shown job (beginIn job .list) e s xs a b c (subst (NamedBy job) k (job-named job))
 
   pub apart-shown : solveJob job ≡ apart e s xs a b c → (x : Label) → isIn x (a ∷ b ∷ c ∷ []) ≡ true
-      → Within (inEdition e job) (beginIn job .claim + placeOfLabel (foldedList e xs) 0 x) (tokenOfLabel (foldedList e xs) x)
-      × (spelling (tokenOfLabel (foldedList e xs) x) ≡ x)
+      → Within job (beginIn job .claim + placeOfLabel (foldedList e xs) 0 x) (tokenOfKey e xs x) × (key e (tokenOfKey e xs x) ≡ x)
       × Within job (beginIn job .tree + placeIn (folded e s) 0 x) (spelledIn e s x) × (key e (spelledIn e s x) ≡ x)
   apart-shown k = labels-shown job (beginIn job .claim) e s xs a b c (subst (NamedBy job) k (job-named job))
 

@@ -21,16 +21,15 @@ use Rattle.trees.specs.Writable.{writableLabels}
 use Rattle.trees.proofs.TokenLaws.{valid-decoded}
 use Rattle.trees.proofs.EditionLaws.{valid-folded}
 use Rattle.lists.specs.ReadList.{foldedList, keysOf, listLimit}
-use Rattle.agreement.specs.Closer.{holds, Common}
+use Rattle.agreement.specs.Closer.{holds}
 use Rattle.agreement.specs.Sets.{setOf}
 use Rattle.agreement.specs.Places.{spelledIn, nameIn}
-use Rattle.agreement.specs.Demand.{IsDisagreement}
 use Rattle.agreement.proofs.EditionText.{one-text-in, spelled-good}
 use Rattle.agreement.proofs.SetLaws.{within-few}
 use Rattle.claims.specs.Claim.{Verdict, claimFirstLacks, claimSecondLacks, claimLacks, claimDisagrees, claimSmall, claimPasses, Clear, VerdictIs}
 use Rattle.claims.specs.Judge.{judgementOf}
 use Rattle.claims.proofs.Promises.{passing-is-clear}
-use Rattle.contents.specs.Contents.{line}
+use Rattle.contents.specs.Contents.{claimText, line}
 use Rattle.decimals.specs.Decimal.{decimalOf}
 use Rattle.job.specs.Printed.{JobSolution, solved, passed, clashed, apart, turned, ofJudgement, refusedWords, recordLines, threeLine, claimLine}
 use Rattle.job.specs.Printed.{eight, fourteen, eightLine, fourteenLine, solveJob, printedOf, printed}
@@ -39,7 +38,7 @@ use Rattle.job.specs.Outcome.{too-long, no-contents, first-fault, second
 use Rattle.job.proofs.OutcomeLaws.{outcome-exactly, claim-some}
 use Rattle.job.proofs.ReadBack.{kept-line, lines-back, refusal-no-three, three-back, claim-back}
 use Rattle.job.proofs.RoomLaws.{kept-short}
-use Rattle.job.proofs.ShownLaws.{three-listed, writable-names}
+use Rattle.job.proofs.ShownLaws.{writable-names}
 
 -- ---- what is printed of labels: few, and in forms that can be written
 
@@ -64,7 +63,7 @@ module _ {job : List ℕ} {N : List Label} {text : List ℕ} (a : SetAnswered jo
   set-writable =
       rw (a .spelled)
       (writable-names (spelledIn (a .e) (a .s)) (a .X)
-      (λ (x : Label) (h : isIn x (a .X) ≡ true). spelled-good (a .e) (a .s) x (a .asked .first .valid) (inside x h)))
+      (λ (x : Label) (h : isIn x (a .X) ≡ true). spelled-good (a .e) (a .s) x (a .asked .first .valid)))
 
   set-line : occurrences 10 text ≡ 0
   set-line = rw (a .first-text) (kept-line (a .e) (setOf (a .X)) (a .s) (a .asked .first .valid))
@@ -72,24 +71,21 @@ module _ {job : List ℕ} {N : List Label} {text : List ℕ} (a : SetAnswered jo
   pub set-short : length text ≤ treeRoom
   set-short = rw (a .first-text) (kept-short (a .e) (setOf (a .X)) (a .s) (a .asked .first .valid))
 
--- three labels of a list that the first tree holds
-three-writable : (e : Edition) (s t : Tree) → ValidIn e s → (L : List Label) (a b c : Label)
-    → Common (keyed e s) (keyed e t) (setOf L) → IsDisagreement (keyed e s) (keyed e t) L a b c
+-- three labels as the first tree spells them
+three-writable : (e : Edition) (s : Tree) → ValidIn e s → (a b c : Label)
     → writableLabels (nameIn e s a ∷ nameIn e s b ∷ nameIn e s c ∷ []) ≡ true
-three-writable e s t valid L a b c held o =
-    writable-names (spelledIn e s) (a ∷ b ∷ c ∷ [])
-    (λ (x : Label) (h : isIn x (a ∷ b ∷ c ∷ []) ≡ true).
-    spelled-good e s x valid (held x (three-listed a b c L (o .clash .inOne, o .clash .inTwo, o .clash .inThree) x h) .0))
+three-writable e s valid a b c =
+    writable-names (spelledIn e s) (a ∷ b ∷ c ∷ []) (λ (x : Label) (h : isIn x (a ∷ b ∷ c ∷ []) ≡ true). spelled-good e s x valid)
 
 pub eight-writable : {job : List ℕ} {u v w : Label} → EightAnswered job u v w → writableLabels (u ∷ v ∷ w ∷ []) ≡ true
 eight-writable k =
     rw (k .one-is, k .two-is, k .three-is)
-    (three-writable (k .e) (k .s) (k .t) (k .asked .first .valid) (keysOf (k .e) (k .xs)) (k .a) (k .b) (k .c) (k .common) (k .isDisagreement))
+    (three-writable (k .e) (k .s) (k .asked .first .valid) (k .a) (k .b) (k .c))
 
 pub fourteen-writable : {job : List ℕ} {u v w : Label} → FourteenAnswered job u v w → writableLabels (u ∷ v ∷ w ∷ []) ≡ true
 fourteen-writable k =
     rw (k .one-is, k .two-is, k .three-is)
-    (three-writable (k .e) (k .s) (k .t) (k .asked .first .valid) (keysOf (k .e) (k .ys)) (k .a) (k .b) (k .c) (k .claimed) (k .isDisagreement))
+    (three-writable (k .e) (k .s) (k .asked .first .valid) (k .a) (k .b) (k .c))
 
 -- ---- a claim that passes
 
@@ -98,7 +94,7 @@ keys-count e ys = length-map (foldedList e ys) spelling ∙ length-map ys (inEdi
 
 module _ {job : List ℕ} {n : ℕ} (a : ClaimAnswered job n) where
   claim-few : length (a .ys) ≤ listLimit
-  claim-few = claim-some (a .e) (a .asked .bodies .claim) (a .ys) (a .asked .claim) .2 .few
+  claim-few = claim-some (a .e) (claimText (a .asked .bodies)) (a .ys) (a .asked .claim) .2 .few
 
 -- ---- what an outcome that names a set, a size or labels means
 

@@ -11,10 +11,11 @@ pub mod Promises
 pub mod ReadBack
 pub mod RecordLaws
 pub mod RoomLaws
-pub mod RowLaws
 pub mod ShownLaws
+pub mod SidesLaws
 pub mod SolvedLaws
 pub mod StrictLaws
+pub mod Table
 pub mod TaskLaws
 pub mod TokenBytes
 pub mod TreesLaws

@@ -33,9 +33,9 @@ use Rattle.agreement.proofs.DemandLaws.{allowed-held, allowed-no-clash}
 use Rattle.agreement.proofs.Promises as agreement
 use Rattle.claims.specs.Claim.{Clear}
 use Rattle.claims.specs.Judge.{judge}
-use Rattle.contents.specs.Contents.{Bodies, bodiesOf}
+use Rattle.contents.specs.Contents.{Bodies, firstText, secondText, listText, claimText, bodiesOf}
 use Rattle.contents.proofs.Promises as contents
-use Rattle.contents.proofs.StepLaws.{none-some}
+use Rattle.contents.proofs.ContentsLaws.{none-some}
 use Rattle.mast.specs.Given.{Reads}
 use Rattle.mast.specs.Largest.{strayFor, Task, task, solve}
 use Rattle.mast.proofs.StrayLaws.{nowhere-shared, stray-strict}
@@ -53,10 +53,10 @@ pub body-tree : (e : Edition) (text : List ℕ) (t : Tree) → TreeBody e text t
 body-tree e text t b = ap (readTreeIn e) (b .is) ∙ newick.valid-read e t (b .valid)
 
 holds-bodies : (job : List ℕ) (b : Bodies) → Holds job b → bodiesOf job ≡ some b
-holds-bodies job b h = contents.bodies-promise job b .1 (h .contents .text, h .contents .short)
+holds-bodies job b h = contents.bodies-promise job b .1 (h .contents .text, h .contents .fits)
 
 bodies-follow : (job : List ℕ) (b : Bodies) → bodiesOf job ≡ some b → Follows job b
-bodies-follow job b e = let w = contents.bodies-promise job b .0 e in record { text = w .0; short = w .1 }
+bodies-follow job b e = let w = contents.bodies-promise job b .0 e in record { text = w .0; fits = w .1 }
 
 -- ---- the claim that is read
 
@@ -85,27 +85,27 @@ module _ (job : List ℕ) (b : Bodies) (held : Holds job b) where
   E = editionIn b
 
   abbrev Out : Type 0
-  Out = JobOutcome job (solveTask (taskOf b) (b .claim))
+  Out = JobOutcome job (solveTask (taskOf b) (claimText b))
 
-  of : (x : JobSolution) → solveTask (taskOf b) (b .claim) ≡ x → JobOutcome job x → Out
+  of : (x : JobSolution) → solveTask (taskOf b) (claimText b) ≡ x → JobOutcome job x → Out
   of x e o = subst (JobOutcome job) (sym e) o
 
-  module _ (s t : Tree) (first : readTreeIn E (b .first) ≡ good s) (second : readTreeIn E (b .second) ≡ good t) where
-    abbrev one-body : TreeBody E (b .first) s
-    one-body = tree-body E (b .first) s first
+  module _ (s t : Tree) (first : readTreeIn E (firstText b) ≡ good s) (second : readTreeIn E (secondText b) ≡ good t) where
+    abbrev one-body : TreeBody E (firstText b) s
+    one-body = tree-body E (firstText b) s first
 
-    abbrev two-body : TreeBody E (b .second) t
-    two-body = tree-body E (b .second) t second
+    abbrev two-body : TreeBody E (secondText b) t
+    two-body = tree-body E (secondText b) t second
 
     module _ (shared : Shared b s t) where
-      module _ (xs : List Token) (listed : readListIn E (b .list) ≡ good xs) where
-        abbrev list-body : IsList E (b .list) xs
-        list-body = lists.accepted-list E (b .list) xs listed
+      module _ (xs : List Token) (listed : readListIn E (listText b) ≡ good xs) where
+        abbrev list-body : IsList E (listText b) xs
+        list-body = lists.accepted-list E (listText b) xs listed
 
         abbrev reads : Reads (taskOf b) s t xs
         reads = record { first-is = first; second-is = second; shared = shared; list-is = listed }
 
-        asks : (c : Option (List Token)) → ClaimRead E (b .claim) c → Asks job E s t xs c
+        asks : (c : Option (List Token)) → ClaimRead E (claimText b) c → Asks job E s t xs c
         asks c w = record {
           bodies = b;
           held = held;
@@ -122,24 +122,24 @@ module _ (job : List ℕ) (b : Bodies) (held : Holds job b) where
             agreement.answer-promise (keyed E s) (keyed E t) (keysOf E xs) (valid-decoded (folded E s) (valid-folded E s (one-body .valid))) (list-body .different) A .0 k
 
         -- what is read of the claim
-        module _ (c : Option (List Token)) (w : ClaimRead E (b .claim) c)
+        module _ (c : Option (List Token)) (w : ClaimRead E (claimText b) c)
             (last : (X : List Label) → IsAnswer (keyed E s) (keyed E t) (keysOf E xs) X → Out) where
           answers : (A : Answer) → answer (keyed E s) (keyed E t) (keysOf E xs) ≡ A → Out
           answers (firstLacks n) k =
-              of _ (task-first-lacks (taskOf b) s t xs reads (b .claim) (read-claim E (b .claim) c w) n (told (firstLacks n) k))
+              of _ (task-first-lacks (taskOf b) s t xs reads (claimText b) (read-claim E (claimText b) c w) n (told (firstLacks n) k))
               (first-lacks E s t xs c (asks c w) n (told (firstLacks n) k))
           answers (secondLacks n) k =
-              of _ (task-second-lacks (taskOf b) s t xs reads (b .claim) (read-claim E (b .claim) c w) n (told (secondLacks n) k))
+              of _ (task-second-lacks (taskOf b) s t xs reads (claimText b) (read-claim E (claimText b) c w) n (told (secondLacks n) k))
               (second-lacks E s t xs c (asks c w) n (told (secondLacks n) k))
           answers (disagree p q r) k =
               let o = told (disagree p q r) k in
-              of _ (task-clash (taskOf b) s t xs reads (b .claim) (read-claim E (b .claim) c w) p q r (o .0) (o .1))
+              of _ (task-clash (taskOf b) s t xs reads (claimText b) (read-claim E (claimText b) c w) p q r (o .0) (o .1))
               (disagreement E s t xs c (asks c w) p q r (o .0) (o .1))
           answers (largest X) k = last X (told (largest X) k)
 
-        claimed : (o : Option (List ℕ)) → b .claim ≡ o → Out
+        claimed : (o : Option (List ℕ)) → claimText b ≡ o → Out
         claimed none d =
-            let w : ClaimRead E (b .claim) none = subst (λ (y : Option (List ℕ)). ClaimRead E y none) (sym d) tt in
+            let w : ClaimRead E (claimText b) none = subst (λ (y : Option (List ℕ)). ClaimRead E y none) (sym d) tt in
             answers none w
             (λ (X : List Label) (o : IsAnswer (keyed E s) (keyed E t) (keysOf E xs) X).
             of _ (ap (solveTask (taskOf b)) d ∙ task-set (taskOf b) s t xs reads X o) (largest-set E s t xs (asks none w) X o))
@@ -151,7 +151,7 @@ module _ (job : List ℕ) (b : Bodies) (held : Holds job b) where
                 of _ (ap (solveTask (taskOf b)) d ∙ task-claim (taskOf b) s t first second shared xs listed text r i k)
                 (claim-fault b held s t one-body two-body shared xs list-body text d r i (lists.refused-first E text r i k))
             go (good ys) k =
-                let w : ClaimRead E (b .claim) (some ys) =
+                let w : ClaimRead E (claimText b) (some ys) =
                 subst (λ (y : Option (List ℕ)). ClaimRead E y (some ys)) (sym d) (lists.accepted-list E text ys k) in
                 answers (some ys) w
                 (λ (X : List Label) (o : IsAnswer (keyed E s) (keyed E t) (keysOf E xs) X).
@@ -161,32 +161,32 @@ module _ (job : List ℕ) (b : Bodies) (held : Holds job b) where
                 (judged E s t xs ys (asks (some ys) w) clear (v .0) (v .1)))
                 (answer (keyed E s) (keyed E t) (keysOf E xs)) refl
 
-      listed-outcome : (z : Reading (List Token)) → readListIn E (b .list) ≡ z → Out
+      listed-outcome : (z : Reading (List Token)) → readListIn E (listText b) ≡ z → Out
       listed-outcome (refused r i) e =
-          of _ (task-list (taskOf b) s t first second shared (b .claim) r i e)
-          (list-fault b held s t one-body two-body shared r i (lists.refused-first E (b .list) r i e))
-      listed-outcome (good xs) e = claimed xs e (b .claim) refl
+          of _ (task-list (taskOf b) s t first second shared (claimText b) r i e)
+          (list-fault b held s t one-body two-body shared r i (lists.refused-first E (listText b) r i e))
+      listed-outcome (good xs) e = claimed xs e (claimText b) refl
 
     -- number 12 only where the job is strict
     shared-outcome : (z : Stray) → strayFor (taskOf b .options) s t ≡ z → Out
     shared-outcome (inFirst x) e =
         let w = stray-strict (taskOf b .options) s t (inFirst x) e (λ k. let z : _≡_ {A = ℕ} 0 1 = cc in absurd (omega arith)) in
-        of _ (task-stray-first (taskOf b) s t first second (b .claim) (w .0) x (w .1)) (stray-first b held (w .0) s t one-body two-body x (w .1))
+        of _ (task-stray-first (taskOf b) s t first second (claimText b) (w .0) x (w .1)) (stray-first b held (w .0) s t one-body two-body x (w .1))
     shared-outcome (inSecond x) e =
         let w = stray-strict (taskOf b .options) s t (inSecond x) e (λ k. let z : _≡_ {A = ℕ} 0 1 = cc in absurd (omega arith)) in
-        of _ (task-stray-second (taskOf b) s t first second (b .claim) (w .0) x (w .1 .0) (w .1 .1))
+        of _ (task-stray-second (taskOf b) s t first second (claimText b) (w .0) x (w .1 .0) (w .1 .1))
         (stray-second b held (w .0) s t one-body two-body x (w .1 .0) (w .1 .1))
-    shared-outcome nowhere e = listed-outcome (nowhere-shared (taskOf b .options) s t e) (readListIn E (b .list)) refl
+    shared-outcome nowhere e = listed-outcome (nowhere-shared (taskOf b .options) s t e) (readListIn E (listText b)) refl
 
   bodies-outcome : Out
-  bodies-outcome = go (readTreeIn E (b .first)) (readTreeIn E (b .second)) refl refl
+  bodies-outcome = go (readTreeIn E (firstText b)) (readTreeIn E (secondText b)) refl refl
     where
-      go : (x y : Reading Tree) → readTreeIn E (b .first) ≡ x → readTreeIn E (b .second) ≡ y → Out
+      go : (x y : Reading Tree) → readTreeIn E (firstText b) ≡ x → readTreeIn E (secondText b) ≡ y → Out
       go (refused r i) y ex ey =
-          of _ (task-first (taskOf b) (b .claim) r i ex) (first-fault b held r i (newick.refused-first E (b .first) r i ex))
+          of _ (task-first (taskOf b) (claimText b) r i ex) (first-fault b held r i (newick.refused-first E (firstText b) r i ex))
       go (good s) (refused r i) ex ey =
-          of _ (task-second (taskOf b) (b .claim) r i s ex ey)
-          (second-fault b held s (tree-body E (b .first) s ex) r i (newick.refused-first E (b .second) r i ey))
+          of _ (task-second (taskOf b) (claimText b) r i s ex ey)
+          (second-fault b held s (tree-body E (firstText b) s ex) r i (newick.refused-first E (secondText b) r i ey))
       go (good s) (good t) ex ey = shared-outcome s t ex ey (strayFor (taskOf b .options) s t) refl
 
 outcome : (job : List ℕ) → JobOutcome job (solveJob job)
@@ -205,16 +205,16 @@ outcome job = sized (bool-cases (leb (length job) jobLimit))
 -- ---- and one only
 
 module _ (job : List ℕ) (b : Bodies) (held : Holds job b) where
-  job-solve : solveJob job ≡ solveTask (taskOf b) (b .claim)
+  pub job-solve : solveJob job ≡ solveTask (taskOf b) (claimText b)
   unfolding solveJob solveBodies
   job-solve = rw (le-leb (length job) jobLimit (held .size)) (ap solveBodies (holds-bodies job b held))
 
   -- the two sorts of jobs
-  pub without-claim : b .claim ≡ none → solveJob job ≡ ofSolution (solve (taskOf b) treeRoom)
+  pub without-claim : claimText b ≡ none → solveJob job ≡ ofSolution (solve (taskOf b) treeRoom)
   unfolding solveTask
   without-claim d = job-solve ∙ ap (solveTask (taskOf b)) d
 
-  pub with-claim : (text : List ℕ) → b .claim ≡ some text → solveJob job ≡ ofJudgement (judge (taskOf b) text)
+  pub with-claim : (text : List ℕ) → claimText b ≡ some text → solveJob job ≡ ofJudgement (judge (taskOf b) text)
   unfolding solveTask
   with-claim text d = job-solve ∙ ap (solveTask (taskOf b)) d
 
@@ -224,27 +224,27 @@ module _ (job : List ℕ) (e : Edition) (s t : Tree) (xs : List Token) (c : Opti
 
   -- the edition is the one that the job states
   asked : Task
-  asked = task (record { strict = bodies .strict; edition = e }) (bodies .first) (bodies .second) (bodies .list)
+  asked = task (record { strict = bodies .head .strict; edition = e }) (firstText bodies) (secondText bodies) (listText bodies)
 
   asked-is : asked ≡ taskOf bodies
   unfolding asked
-  asked-is = ap (λ (d : Edition). task (record { strict = bodies .strict; edition = d }) (bodies .first) (bodies .second) (bodies .list)) (asks .edition)
+  asked-is = ap (λ (d : Edition). task (record { strict = bodies .head .strict; edition = d }) (firstText bodies) (secondText bodies) (listText bodies)) (asks .edition)
 
   asked-reads : Reads asked s t xs
   unfolding asked
   asked-reads =
       record {
-        first-is = body-tree e (bodies .first) s (asks .first);
-        second-is = body-tree e (bodies .second) t (asks .second);
+        first-is = body-tree e (firstText bodies) s (asks .first);
+        second-is = body-tree e (secondText bodies) t (asks .second);
         shared = asks .shared;
-        list-is = lists.labels-read e (bodies .list) xs (asks .required);
+        list-is = lists.labels-read e (listText bodies) xs (asks .required);
       }
 
-  asked-claim : ReadClaim e (bodies .claim)
-  asked-claim = read-claim e (bodies .claim) c (asks .claim)
+  asked-claim : ReadClaim e (claimText bodies)
+  asked-claim = read-claim e (claimText bodies) c (asks .claim)
 
-  decided : (x : JobSolution) → solveTask asked (bodies .claim) ≡ x → solveJob job ≡ x
-  decided x o = job-solve job bodies (asks .held) ∙ ap (λ (q : Task). solveTask q (bodies .claim)) (sym asked-is) ∙ o
+  decided : (x : JobSolution) → solveTask asked (claimText bodies) ≡ x → solveJob job ≡ x
+  decided x o = job-solve job bodies (asks .held) ∙ ap (λ (q : Task). solveTask q (claimText bodies)) (sym asked-is) ∙ o
 
 one : (job : List ℕ) (x : JobSolution) → JobOutcome job x → solveJob job ≡ x
 unfolding solveJob solveBodies asked
@@ -255,39 +255,39 @@ one job x (no-contents h never) = rw (le-leb (length job) jobLimit h) (go (bodie
     go none e = refl
     go (some b) e = absurd (never b (bodies-follow job b e))
 one job x (first-fault b held r i f) =
-    job-solve job b held ∙ task-first (taskOf b) (b .claim) r i (newick.first-refused (editionIn b) (b .first) r i f)
+    job-solve job b held ∙ task-first (taskOf b) (claimText b) r i (newick.first-refused (editionIn b) (firstText b) r i f)
 one job x (second-fault b held s p r i f) =
     job-solve job b held
-    ∙ task-second (taskOf b) (b .claim) r i s (body-tree (editionIn b) (b .first) s p) (newick.first-refused (editionIn b) (b .second) r i f)
+    ∙ task-second (taskOf b) (claimText b) r i s (body-tree (editionIn b) (firstText b) s p) (newick.first-refused (editionIn b) (secondText b) r i f)
 one job x (list-fault b held s t p q h r i f) =
     job-solve job b held
-    ∙ task-list (taskOf b) s t (body-tree (editionIn b) (b .first) s p) (body-tree (editionIn b) (b .second) t q) h (b .claim) r i
-    (lists.first-refused (editionIn b) (b .list) r i f)
+    ∙ task-list (taskOf b) s t (body-tree (editionIn b) (firstText b) s p) (body-tree (editionIn b) (secondText b) t q) h (claimText b) r i
+    (lists.first-refused (editionIn b) (listText b) r i f)
 one job x (claim-fault b held s t p q h xs l text d r i f) =
     job-solve job b held
     ∙ ap (solveTask (taskOf b)) d
-    ∙ task-claim (taskOf b) s t (body-tree (editionIn b) (b .first) s p) (body-tree (editionIn b) (b .second) t q) h xs
-    (lists.labels-read (editionIn b) (b .list) xs l) text r i (lists.first-refused (editionIn b) text r i f)
+    ∙ task-claim (taskOf b) s t (body-tree (editionIn b) (firstText b) s p) (body-tree (editionIn b) (secondText b) t q) h xs
+    (lists.labels-read (editionIn b) (listText b) xs l) text r i (lists.first-refused (editionIn b) text r i f)
 one job x (stray-first b held e s t p q y k) =
     job-solve job b held
-    ∙ task-stray-first (taskOf b) s t (body-tree (editionIn b) (b .first) s p) (body-tree (editionIn b) (b .second) t q) (b .claim) e y k
+    ∙ task-stray-first (taskOf b) s t (body-tree (editionIn b) (firstText b) s p) (body-tree (editionIn b) (secondText b) t q) (claimText b) e y k
 one job x (stray-second b held e s t p q y a k) =
     job-solve job b held
-    ∙ task-stray-second (taskOf b) s t (body-tree (editionIn b) (b .first) s p) (body-tree (editionIn b) (b .second) t q) (b .claim) e y a k
+    ∙ task-stray-second (taskOf b) s t (body-tree (editionIn b) (firstText b) s p) (body-tree (editionIn b) (secondText b) t q) (claimText b) e y a k
 one job x (first-lacks e s t xs c asks n o) =
-    decided job e s t xs c asks _ (task-first-lacks (asked job e s t xs c asks) s t xs (asked-reads job e s t xs c asks) (asks .bodies .claim)
+    decided job e s t xs c asks _ (task-first-lacks (asked job e s t xs c asks) s t xs (asked-reads job e s t xs c asks) (claimText (asks .bodies))
     (asked-claim job e s t xs c asks) n o)
 one job x (second-lacks e s t xs c asks n o) =
-    decided job e s t xs c asks _ (task-second-lacks (asked job e s t xs c asks) s t xs (asked-reads job e s t xs c asks) (asks .bodies .claim)
+    decided job e s t xs c asks _ (task-second-lacks (asked job e s t xs c asks) s t xs (asked-reads job e s t xs c asks) (claimText (asks .bodies))
     (asked-claim job e s t xs c asks) n o)
 one job x (disagreement e s t xs z asks a b c held o) =
-    decided job e s t xs z asks _ (task-clash (asked job e s t xs z asks) s t xs (asked-reads job e s t xs z asks) (asks .bodies .claim)
+    decided job e s t xs z asks _ (task-clash (asked job e s t xs z asks) s t xs (asked-reads job e s t xs z asks) (claimText (asks .bodies))
     (asked-claim job e s t xs z asks) a b c held o)
 one job x (largest-set e s t xs asks X o) =
-    decided job e s t xs none asks _ (ap (solveTask (asked job e s t xs none asks)) (claim-none e (asks .bodies .claim) (asks .claim))
+    decided job e s t xs none asks _ (ap (solveTask (asked job e s t xs none asks)) (claim-none e (claimText (asks .bodies)) (asks .claim))
     ∙ task-set (asked job e s t xs none asks) s t xs (asked-reads job e s t xs none asks) X o)
 one job x (judged e s t xs ys asks clear v o) =
-    let w = claim-some e (asks .bodies .claim) ys (asks .claim) in
+    let w = claim-some e (claimText (asks .bodies)) ys (asks .claim) in
     decided job e s t xs (some ys) asks _ (ap (solveTask (asked job e s t xs (some ys) asks)) (w .1)
     ∙ task-verdict (asked job e s t xs (some ys) asks) s t xs (asked-reads job e s t xs (some ys) asks) (w .0) ys
     (lists.labels-read e (w .0) ys (w .2)) clear v o)

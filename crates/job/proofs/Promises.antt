@@ -1,112 +1,132 @@
--- What jobs promise, in the scope paper's order; each theorem cites one name. Assumes nothing.
+-- What jobs promise, in 01's order. Each theorem cites one name. Assumes nothing.
 use Prim.Native.Nat.{ℕ, _+_, _<_, _≤_}
 use mathlib.Core.Path.{_≡_, refl}
 use mathlib.Core.Bool.{true}
 use mathlib.Core.Logic.{_↔_}
-use mathlib.Core.List.{List, [], _∷_}
+use mathlib.Core.List.{List, [], _∷_, map}
 use mathlib.Core.Option.{some, none}
 use lib.ListN.{length, take}
 use Rattle.trees.specs.declared.Refusal.{Refusal}
-use Rattle.trees.specs.Refusals.{numberOf}
-use Rattle.trees.specs.Label.{Label, isIn}
+use Rattle.trees.specs.Refusals.{numberOf, letterOf}
+use Rattle.trees.specs.Label.{Label, labelLimit, isIn}
 use Rattle.trees.specs.Text.{treeRoom}
-use Rattle.trees.specs.Token.{Token, spelling}
+use Rattle.trees.specs.Token.{Token}
 use Rattle.trees.specs.declared.Edition.{Edition}
 use Rattle.trees.specs.declared.Edition.the-variants.{One}
-use Rattle.trees.specs.Edition.{inEdition, key, folded, keyed}
-use Rattle.trees.specs.Tree.{Tree}
-use Rattle.lists.specs.ReadList.{foldedList}
-use Rattle.trees.specs.Words.{Within}
+use Rattle.trees.specs.Edition.{key, folded, keyed}
+use Rattle.trees.specs.Tree.{Tree, leafLimit}
+use Rattle.lists.specs.ReadList.{listLimit, foldedList}
+use Rattle.trees.specs.Words.{bytesOf, Within}
 use Rattle.trees.specs.Writable.{writableLabels}
 use Rattle.agreement.specs.Closer.{holds}
-use Rattle.agreement.specs.Places.{placeIn, placeOfLabel, tokenOfLabel, spelledIn}
+use Rattle.agreement.specs.Places.{placeIn, placeOfLabel, tokenOfKey, spelledIn}
 use Rattle.agreement.specs.Strict.{SameLeaves}
 use Rattle.contents.specs.declared.Stated.the-variants as states
-use Rattle.contents.specs.Contents.{Bodies, editionOf, headed}
+use Rattle.contents.specs.Contents.{Bodies, digitLimit, editionOf, part, firstText, secondText, listText, claimText, under}
 use Rattle.mast.specs.Largest.{Task, solve}
 use Rattle.mast.specs.Largest as mast
 use Rattle.claims.specs.Judge.{judge}
 use Rattle.job.specs.declared.JobAnswer.the-variants as job-answer
+use Rattle.job.specs.declared.LineAnswer.the-variants.{Written, TooShort}
 use Rattle.job.specs.declared.Named.{Named}
 use Rattle.job.specs.Printed.{JobSolution, solved, passed, clashed, apart, turned, ofSolution, ofJudgement, taskOf, jobLimit, recordRoom, solveBodies, solveJob}
 use Rattle.job.specs.Printed.{recordLines, claimLine, eight, fourteen, eightLine, fourteenLine, printedOf, printed}
 use Rattle.job.specs.Answered.{outputShort, lineAnswer, lineOutput, writtenPart, namedLine, beginIn, answerTo}
 use Rattle.job.specs.Outcome.{Holds, editionIn, TreeBody, SetAnswered, EightAnswered, ClaimAnswered, FourteenAnswered, JobOutcome, Stopped, withoutLine}
-use Rattle.job.specs.Rows.{saidOfLine, saidOfJob, saidOfText, saidOfOutcome}
+use Rattle.job.specs.Rows.{saidOfLine, saidOfJob}
+use Rattle.job.specs.PaperTable.{NumberRow, numberRows, LetterRow, letterRows, Limits, paperLimits, LineRow, linesOf, bytesOfJob, lineRows}
+use Rattle.job.specs.Sides.{SidesExchanged}
+use Rattle.mast.specs.Rows.{granted, row}
 use Rattle.job.proofs.ClashLaws
 use Rattle.job.proofs.DemandLaws
 use Rattle.job.proofs.NineLaws
 use Rattle.job.proofs.OutcomeLaws
 use Rattle.job.proofs.ProgramLaws
 use Rattle.job.proofs.RoomLaws
-use Rattle.job.proofs.RowLaws
+use Rattle.job.proofs.SidesLaws
 use Rattle.job.proofs.StrictLaws
+use Rattle.job.proofs.Table
 
--- demand 3 from the bytes of a job without a claim, "made on decoded labels" (request C-12) as the edition reads them: some labels can be written, and the
--- lines of these labels and a text are printed, exactly if the bodies are read, the labels are those of the answer "as the first tree
--- spells them" (request C-15), and the text is that of the common restriction
+-- Demand 3, from the bytes of a job. The program prints the lines for labels N and a tree text if and only if the job has no claim, its
+-- bodies can be read, N is the largest and first set as the first tree spells it, and the text is the normal text of the common
+-- restriction. N ranges over labels that a text can contain (`writableLabels`); other byte strings could be printed alike.
 pub demand-promise : (job : List ℕ) (N : List Label) (text : List ℕ)
     → ((writableLabels N ≡ true) × (printed job ≡ recordLines N text)) ↔ SetAnswered job N text
 demand-promise = DemandLaws.set-lines
 
--- three labels can be written, and number 8's line is printed with them, exactly if they are the first required labels with different
--- closer pairs, as the first tree spells them
+-- The program prints number 8's line with three labels if and only if these are the first three required labels with different closer
+-- pairs, as the first tree spells them. Here too the labels are ones that a text can contain.
 pub eight-promise : (job : List ℕ) (u v w : Label)
     → ((writableLabels (u ∷ v ∷ w ∷ []) ≡ true) × (printed job ≡ eightLine u v w)) ↔ EightAnswered job u v w
 eight-promise = DemandLaws.eight-lines
 
--- request C-16: "It is accepted exactly if it holds every required label, the trees agree on it and no larger such set exists", and "The
--- program then prints only `claim ok`, a blank and the size"
+-- C-16: "It is accepted exactly if it holds every required label, the trees agree on it and no larger such set exists", and "The program
+-- then prints only `claim ok`, a blank and the size".
 pub claim-promise : (job : List ℕ) (n : ℕ) → (printed job ≡ claimLine n) ↔ ClaimAnswered job n
 claim-promise = DemandLaws.claim-lines
 
--- three labels can be written, and number 14's line is printed with them, exactly if no row before it turns the job away and they are the
--- first claimed labels with different closer pairs, "named as 8 names them"
+-- The program prints number 14's line with three labels if and only if no number before 14 is given and these are the first three claimed
+-- labels with different closer pairs, "named as 8 names them".
 pub fourteen-promise : (job : List ℕ) (u v w : Label)
     → ((writableLabels (u ∷ v ∷ w ∷ []) ≡ true) × (printed job ≡ fourteenLine u v w)) ↔ FourteenAnswered job u v w
 fourteen-promise = DemandLaws.fourteen-lines
 
--- "that is the job's answer: what 01 and demands 1 and 3 say of the set as the answer is about jobs without C": a job without C comes to
--- what its trees and its list come to, one with C to what is said of the claim
-pub no-claim : (job : List ℕ) (b : Bodies) → Holds job b → b .claim ≡ none → solveJob job ≡ ofSolution (solve (taskOf b) treeRoom)
+-- "that is the job's answer: what 01 and demands 1 and 3 say of the set as the answer is about jobs without C". A job without C has the
+-- engine's solution for its trees and list, a job with C the judgement of its claim.
+pub no-claim : (job : List ℕ) (b : Bodies) → Holds job b → claimText b ≡ none → solveJob job ≡ ofSolution (solve (taskOf b) treeRoom)
 no-claim = OutcomeLaws.without-claim
 
-pub claim-judged : (job : List ℕ) (b : Bodies) → Holds job b → (text : List ℕ) → b .claim ≡ some text
+pub claim-judged : (job : List ℕ) (b : Bodies) → Holds job b → (text : List ℕ) → claimText b ≡ some text
     → solveJob job ≡ ofJudgement (judge (taskOf b) text)
 claim-judged = OutcomeLaws.with-claim
 
--- from the bytes of a job to demand 3, one row after another: what is printed is what belongs to the outcome that the papers give the
--- job: number 8's line where three required labels have different closer pairs, with the first such three; 6, 7, 10, 11, 13 to 15 and the
--- bodies' refusals likewise
+-- The program prints a text if and only if it belongs to an outcome that the papers give the job. `JobOutcome` has the outcomes, number by
+-- number.
 pub job-promise : (job out : List ℕ) → (printed job ≡ out) ↔ ((x : JobSolution) × JobOutcome job x × (printedOf x ≡ out))
 job-promise = OutcomeLaws.printed-exactly
 
--- and each job has just one outcome
+-- Each job has exactly one outcome.
 pub outcome-promise : (job : List ℕ) (x : JobSolution) → (solveJob job ≡ x) ↔ JobOutcome job x
 outcome-promise = OutcomeLaws.outcome-exactly
 
--- request C-11: number 12 exactly if the job is strict, both trees are read, and they do not hold the same leaves; its letter and place
+-- "Left and right children mean nothing.": a job with equal trees prints the same
+pub sides-mean-nothing-printed : (job other : List ℕ) → SidesExchanged job other → printed job ≡ printed other
+sides-mean-nothing-printed = SidesLaws.printed-alike
+
+-- C-11: number 12 exactly if the job is strict, both trees are read, and they do not hold the same leaves; its letter and place
 -- are those of `JobOutcome`
 pub twelve-promise : (job : List ℕ) → ((q : Refusal) × (solveJob job ≡ turned q) × (numberOf (q .reason) ≡ 12)) ↔ Stopped job
 twelve-promise = StrictLaws.twelve-exactly
 
--- "a larger set is still impossible in both sorts": where both trees hold the same leaves, a strict job comes to what it comes to
--- without the line
-pub strict-promise : (b : Bodies) (s t : Tree) → TreeBody (editionIn b) (b .first) s → TreeBody (editionIn b) (b .second) t
+-- "a larger set is still impossible in both sorts": if both trees have the same leaves, a strict job is answered as it is without the line.
+pub strict-promise : (b : Bodies) (s t : Tree) → TreeBody (editionIn b) (firstText b) s → TreeBody (editionIn b) (secondText b) t
     → SameLeaves (keyed (editionIn b) s) (keyed (editionIn b) t)
     → solveBodies (some b) ≡ solveBodies (some (withoutLine b))
 strict-promise = StrictLaws.strict-same
 
 -- "If an answer is an enum, the promises use a definition that gives this paper's number and values for each of its cases."
-pub job-rows-promise : (job : List ℕ) (room : ℕ)
-    → saidOfJob (answerTo job room) ≡ saidOfOutcome (beginIn job) room (solveJob job)
-job-rows-promise = RowLaws.job-said
+pub job-rows-promise : (n : ℕ) (m : Named) (q : Refusal)
+    → (saidOfJob (job-answer.Written n) ≡ granted (n ∷ []))
+    × (saidOfJob (job-answer.Disagree m) ≡ row 8 75 0 (m .first .place ∷ m .second .place ∷ m .third .place ∷ []))
+    × (saidOfJob (job-answer.Apart m) ≡ row 14 67 0 (m .first .place ∷ m .second .place ∷ m .third .place ∷ []))
+    × (saidOfJob (job-answer.Refused q) ≡ row (numberOf (q .reason)) (letterOf (q .body)) (q .place) [])
+unfolding saidOfJob
+job-rows-promise n m q = (refl, refl, refl, refl)
 
-pub line-rows-promise : (text : List ℕ) (room : ℕ) → saidOfLine (lineAnswer text room) ≡ saidOfText text room
-line-rows-promise = RowLaws.line-said
+pub line-rows-promise : (n : ℕ) → (saidOfLine (Written n) ≡ granted (n ∷ [])) × (saidOfLine (TooShort outputShort) ≡ row 9 79 0 [])
+unfolding saidOfLine
+line-rows-promise n = (refl, refl)
 
--- "An output is too short exactly if it has fewer bytes than the text that belongs in it": the engine's own area for a tree's text never
--- is, so number 9 says that the caller's output has fewer bytes than the printed lines
+-- The papers' own numbers, letters, limits and printed lines are written out in one table, `job/specs/PaperTable.antt`. The definitions
+-- give the same.
+pub papers-table : (map (λ (r : NumberRow). numberOf (r .reason)) numberRows ≡ map (λ (r : NumberRow). r .number) numberRows)
+    × (map (λ (r : LetterRow). letterOf (r .body) ∷ []) letterRows ≡ map (λ (r : LetterRow). bytesOf (r .letter)) letterRows)
+    × (_≡_ {A = Limits} (record { label = labelLimit; leaves = leafLimit; labels = listLimit; job = jobLimit; digits = digitLimit }) paperLimits)
+    × (map (λ (r : LineRow). printed (bytesOfJob r)) lineRows ≡ map (λ (r : LineRow). linesOf (r .lines)) lineRows)
+papers-table = (Table.numbers-hold, Table.letters-hold, Table.limits-hold, Table.lines-hold)
+
+-- "An output is too short exactly if it has fewer bytes than the text that belongs in it". The engine's own area for a tree's text is never
+-- too short, so number 9 means that the caller's output has fewer bytes than the printed lines.
 pub area-fits : (q : Task) (p : Refusal) → solve q treeRoom ≡ mast.turned p → numberOf (p .reason) ≡ 9 → ⊥
 area-fits = RoomLaws.engine-fits
 
@@ -125,42 +145,42 @@ pub nine-when-claim-short : (job : List ℕ) (room : ℕ) → room < length (pri
     → answerTo job room ≡ job-answer.Refused outputShort
 nine-when-claim-short = NineLaws.short-claim
 
--- "Number 8 adds a space and its three labels joined by commas.": the line from the answer's places and sizes is the printed one
+-- "Number 8 adds a space and its three labels joined by commas." The line made from the answer's places and sizes is the printed one.
 pub eight-line : (job : List ℕ) (room : ℕ) (n : Named) → answerTo job room ≡ job-answer.Disagree n → namedLine job eight n ≡ printed job
 eight-line = ClashLaws.clash-line
 
--- and each of its labels stands in the job's list where the answer says, as a token that has its key, and in the job's first tree, as it is
--- spelled there
+-- Each of its labels is in the job's list at the place returned, as a token with its key, and in the job's first tree as it is spelled
+-- there.
 pub eight-places : (job : List ℕ) (e : Edition) (s : Tree) (xs : List Token) (a b c : Label) → solveJob job ≡ clashed e s xs a b c
     → (x : Label) → isIn x (a ∷ b ∷ c ∷ []) ≡ true
-    → Within (inEdition e job) (beginIn job .list + placeOfLabel (foldedList e xs) 0 x) (tokenOfLabel (foldedList e xs) x)
-    × (spelling (tokenOfLabel (foldedList e xs) x) ≡ x)
+    → Within job (beginIn job .list + placeOfLabel (foldedList e xs) 0 x) (tokenOfKey e xs x) × (key e (tokenOfKey e xs x) ≡ x)
     × Within job (beginIn job .tree + placeIn (folded e s) 0 x) (spelledIn e s x) × (key e (spelledIn e s x) ≡ x)
 eight-places = ClashLaws.clash-shown
 
--- so it is with number 14, whose labels stand in the job's claim
+-- The same for number 14, whose labels are in the job's claim.
 pub fourteen-line : (job : List ℕ) (room : ℕ) (n : Named) → answerTo job room ≡ job-answer.Apart n → namedLine job fourteen n ≡ printed job
 fourteen-line = ClashLaws.apart-line
 
 pub fourteen-places : (job : List ℕ) (e : Edition) (s : Tree) (ys : List Token) (a b c : Label) → solveJob job ≡ apart e s ys a b c
     → (x : Label) → isIn x (a ∷ b ∷ c ∷ []) ≡ true
-    → Within (inEdition e job) (beginIn job .claim + placeOfLabel (foldedList e ys) 0 x) (tokenOfLabel (foldedList e ys) x)
-    × (spelling (tokenOfLabel (foldedList e ys) x) ≡ x)
+    → Within job (beginIn job .claim + placeOfLabel (foldedList e ys) 0 x) (tokenOfKey e ys x) × (key e (tokenOfKey e ys x) ≡ x)
     × Within job (beginIn job .tree + placeIn (folded e s) 0 x) (spelledIn e s x) × (key e (spelledIn e s x) ≡ x)
 fourteen-places = ClashLaws.apart-shown
 
--- request C-15, "a job without it has edition 1": the same job with the line `E 1`, or without it, comes to the same and prints the same
-pub edition-one-written : (b : Bodies) → solveBodies (some (headed (b .strict) states.Nothing b)) ≡ solveBodies (some (headed (b .strict) states.One b))
-unfolding solveBodies editionOf
+-- C-15, "a job without it has edition 1": the same job with the line `E 1`, or without it, has the same answer.
+pub edition-one-written : (b : Bodies)
+    → solveBodies (some (under (record { strict = b .head .strict; stated = states.Nothing }) b))
+    ≡ solveBodies (some (under (record { strict = b .head .strict; stated = states.One }) b))
+unfolding solveBodies editionOf firstText secondText listText claimText part
 edition-one-written b = refl
 
--- and under edition 1 each label of the answer is printed as itself: "Old records must still be judged by the first edition"
+-- "Old records must still be judged by the first edition": under edition 1 each label of the answer is printed as itself.
 pub first-edition-prints : (s : Tree) (X : List Label) (text : List ℕ) → ((x : Label) → isIn x X ≡ true → holds (keyed One s) x ≡ true)
     → printedOf (solved One s X text) ≡ recordLines X text
 first-edition-prints = ClashLaws.one-printed
 
--- "The program `agree` reads a job from standard input": it takes one byte over the limit in and no more, and writes what is printed for
--- the whole input, into an area that any answer fits
+-- "The program `agree` reads a job from standard input": it reads at most one byte over the limit, and writes what is printed for the whole
+-- input. Its area fits any answer.
 pub program-promise : (input out : List ℕ) → recordRoom ≤ length out
     → writtenPart (lineOutput (printed (take (jobLimit + 1) input)) out) (lineAnswer (printed (take (jobLimit + 1) input)) (length out))
     ≡ printed input

@@ -1,6 +1,6 @@
 -- What a solution says of the bodies: the tree, the list and the answer it comes from. Assumes nothing.
 use Prim.Native.Nat.{ℕ, _-_, _≤_}
-use mathlib.Core.Path.{_≡_, refl, sym, ap, _∙_, subst}
+use mathlib.Core.Path.{_≡_, refl, sym, subst}
 use mathlib.Core.Bool.{Bool, true, false, cond}
 use mathlib.Core.List.{List}
 use mathlib.Core.Option.{Option, some, none}
@@ -12,7 +12,7 @@ use Rattle.trees.specs.declared.Reason.the-variants.{TooShort, ClaimSmall}
 use Rattle.trees.specs.declared.Body.the-variants.{C, O}
 use Rattle.trees.specs.Label.{Label, isIn}
 use Rattle.trees.specs.declared.Edition.{Edition}
-use Rattle.trees.specs.Edition.{inEdition, folded, keyed, ValidIn}
+use Rattle.trees.specs.Edition.{folded, keyed, ValidIn}
 use Rattle.trees.specs.Token.{Token}
 use Rattle.trees.specs.Tree.{Tree, leafLimit, leaves, Proper}
 use Rattle.trees.specs.Reading.{Reading, good, refused}
@@ -24,7 +24,7 @@ use Rattle.agreement.specs.Closer.{holds}
 use Rattle.agreement.specs.Sets.{setOf}
 use Rattle.agreement.specs.Restrict.{restrictIn}
 use Rattle.agreement.specs.Answer.{Answer, firstLacks, secondLacks, disagree, largest, answer}
-use Rattle.agreement.specs.Places.{placeIn, placeOfLabel, tokenOfLabel, keptTextIn, spelledIn, nameIn, Listed}
+use Rattle.agreement.specs.Places.{placeIn, placeOfLabel, tokenOfKey, keptTextIn, spelledIn, nameIn, Listed}
 use Rattle.agreement.specs.Demand.{IsAnswer}
 use Rattle.agreement.specs.Outcome.{Outcome}
 use Rattle.agreement.proofs.Promises.{set-promise, answer-promise}
@@ -35,8 +35,7 @@ use Rattle.claims.specs.Judge.{Judgement, passes, disagrees, apart, declined, j
 use Rattle.trees.specs.Words.{Within}
 use Rattle.trees.proofs.TokenLaws.{valid-decoded}
 use Rattle.trees.proofs.EditionLaws.{valid-folded}
-use Rattle.lists.proofs.EditionLists.{joined-folded}
-use Rattle.agreement.proofs.EditionText.{spelled-within, spelled-good}
+use Rattle.agreement.proofs.EditionText.{spelled-shown, spelled-good}
 use Rattle.agreement.proofs.PlaceLaws.{list-listed}
 use Rattle.job.proofs.ShownLaws.{Stands}
 use Rattle.job.proofs.TreesLaws.{each-way}
@@ -150,8 +149,8 @@ module _ (e : Edition) (first : List ℕ) (s : Tree) (read : readTreeIn e first 
       record {
         at =
             subst (λ (t : List ℕ). Within t (placeIn (folded e s) 0 x) (spelledIn e s x)) (sym (accepted-text e first s read .0))
-            (spelled-within e s x h);
-        good = spelled-good e s x read-valid h;
+            (spelled-shown e s x .shown);
+        good = spelled-good e s x read-valid;
         spelled = refl;
       }
 
@@ -193,12 +192,11 @@ module _ (first list : List ℕ) (e : Edition) (s : Tree) (xs : List Token) (a b
   pub three-held : (x : Label) → isIn x (keysOf e xs) ≡ true → holds (keyed e s) x ≡ true
   three-held x h = three .0 x h .0
 
-  -- in the list as the edition reads it
-  pub label-listed : (x : Label) → isIn x (keysOf e xs) ≡ true
-      → Listed (inEdition e list) (placeOfLabel (foldedList e xs) 0 x) (tokenOfLabel (foldedList e xs) x)
+  -- in the list
+  pub label-listed : (x : Label) → isIn x (keysOf e xs) ≡ true → Listed list (placeOfLabel (foldedList e xs) 0 x) (tokenOfKey e xs x)
   label-listed x h =
-      subst (λ (t : List ℕ). Listed t (placeOfLabel (foldedList e xs) 0 x) (tokenOfLabel (foldedList e xs) x))
-      (joined-folded e xs ∙ ap (inEdition e) (sym (accepted-list e list xs (w .listed) .is))) (list-listed (foldedList e xs) x h)
+      subst (λ (t : List ℕ). Listed t (placeOfLabel (foldedList e xs) 0 x) (tokenOfKey e xs x))
+      (sym (accepted-list e list xs (w .listed) .is)) (list-listed e xs x h)
 
   pub three-shown : (x : Label) → isIn x (keysOf e xs) ≡ true → Stands first (placeIn (folded e s) 0 x) (spelledIn e s x) (nameIn e s x)
   three-shown x h = read-shown e first s (w .read) x (three-held x h)

@@ -17,7 +17,7 @@ use Rattle.agreement.specs.Strict.{SameLeaves, IsStray, Stray, inFirst, inSecon
 use Rattle.agreement.proofs.Promises.{stray-promise, stray-leaf}
 use Rattle.claims.specs.Claim.{Verdict, claimFirstLacks, claimSecondLacks, claimLacks, claimDisagrees, claimSmall, claimPasses}
 use Rattle.claims.specs.Judge.{judgementOf}
-use Rattle.contents.specs.Contents.{Bodies}
+use Rattle.contents.specs.Contents.{Bodies, part, firstText, secondText, listText, claimText}
 use Rattle.job.specs.Printed.{JobSolution, turned, ofJudgement, taskOf, solveBodies, solveJob}
 use Rattle.job.specs.Outcome.{TreeBody, JobOutcome, Stopped, withoutLine, editionIn}
 use Rattle.job.specs.Outcome.{too-long, no-contents, first-fault, second-fault, list-fault, claim-fault, stray-first, stray-second, first-lacks, second-lacks, disagreement, largest-set, judged}
@@ -86,9 +86,9 @@ module _ (job : List ℕ) where
   twelve-exactly = (λ k. stopped (solveJob job) (outcome-exactly job (solveJob job) .0 refl) (k .0) (k .1) (k .2), stops)
 
 -- where both trees hold the same leaves the line changes nothing
-pub strict-same : (b : Bodies) (s t : Tree) → TreeBody (editionIn b) (b .first) s → TreeBody (editionIn b) (b .second) t
+pub strict-same : (b : Bodies) (s t : Tree) → TreeBody (editionIn b) (firstText b) s → TreeBody (editionIn b) (secondText b) t
     → SameLeaves (keyed (editionIn b) s) (keyed (editionIn b) t)
     → solveBodies (some b) ≡ solveBodies (some (withoutLine b))
-unfolding solveBodies
+unfolding solveBodies firstText secondText listText claimText part
 strict-same b s t p q h =
-    task-strict (taskOf b) s t (body-tree (editionIn b) (b .first) s p) (body-tree (editionIn b) (b .second) t q) (b .claim) h
+    task-strict (taskOf b) s t (body-tree (editionIn b) (firstText b) s p) (body-tree (editionIn b) (secondText b) t q) (claimText b) h

@@ -38,7 +38,7 @@ use Rattle.job.specs.Outcome.{refusal}
 use Rattle.job.proofs.RoomLaws.{text-fits}
 
 -- where both trees hold the same leaves a claim is judged as in a job that is not strict
-judged-shared : (q : Task) (claim : List ℕ) (s t : Tree) → readTreeIn (q .options .edition) (q .first) ≡ good s
+pub judged-shared : (q : Task) (claim : List ℕ) (s t : Tree) → readTreeIn (q .options .edition) (q .first) ≡ good s
     → readTreeIn (q .options .edition) (q .second) ≡ good t → strayFor (q .options) s t ≡ nowhere
     → judge q claim
     ≡ judgedBy (compareRead (q .options .edition) s t (readListIn (q .options .edition) (q .required)) (readListIn (q .options .edition) claim))

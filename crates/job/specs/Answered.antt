@@ -1,12 +1,12 @@
--- What the functions over jobs answer, and what the lent output then holds: all of it is told by what a job comes to (`solveJob`)
--- and by its printed lines (`printedOf`). Scope paper, "Job and printed result" and "Why a job is turned down".
+-- What the functions over jobs return, and what the lent output then holds. Both follow from the result of the job (`solveJob`) and its
+-- printed lines (`printedOf`). 01, "Job and printed result" and "Why a job is turned down".
 use Prim.Native.Nat.{ℕ, _+_}
 use mathlib.Core.Bool.{Bool, cond}
 use mathlib.Core.List.{List, [], _++_, map}
 use lib.Dec.{leb}
 use lib.ListN.{length, take, drop}
 use Rattle.trees.specs.declared.Reason.the-variants.{TooShort as TooShortReason}
-use Rattle.trees.specs.declared.Body.the-variants.{O}
+use Rattle.trees.specs.declared.Body.the-variants.{S, K, C, O}
 use Rattle.trees.specs.declared.Refusal.{Refusal}
 use Rattle.trees.specs.Label.{Label, labelLimit}
 use Rattle.trees.specs.Stored.{partOf}
@@ -15,7 +15,7 @@ use Rattle.trees.specs.Edition.{folded}
 use Rattle.trees.specs.Token.{Token, spelling}
 use Rattle.trees.specs.Tree.{Tree}
 use Rattle.lists.specs.ReadList.{foldedList}
-use Rattle.contents.specs.Contents.{layoutOf, firstPlace, listPlace, claimPlace}
+use Rattle.contents.specs.Contents.{layoutOf, bodyPlace}
 use Rattle.agreement.specs.Places.{placeIn, tokenIn, placeOfLabel, nameIn}
 use Rattle.job.specs.declared.Begin.{Begin}
 use Rattle.job.specs.declared.JobAnswer.{JobAnswer}
@@ -38,17 +38,17 @@ outputShort = record { reason = TooShortReason; body = O; place = 0 }
 unfoldable pub lineAnswer : List ℕ → ℕ → LineAnswer
 lineAnswer text room = cond (fits text room) (Written (length text)) (TooShort outputShort)
 
--- the output holds the text, further bytes unchanged; where it is too short it keeps every byte
+-- the output holds the text, further bytes unchanged; if it is too short, it keeps every byte
 unfoldable pub lineOutput : List ℕ → List ℕ → List ℕ
 lineOutput text out = cond (fits text (length out)) (text ++ drop (length text) out) out
 
--- the part of the output that the answer speaks of
+-- the part of the output that the answer wrote
 unfoldable pub writtenPart : List ℕ → LineAnswer → List ℕ
 unfolding partOf
 writtenPart out (Written n) = partOf 0 n out
 writtenPart out (TooShort q) = []
 
--- the label that the `size` bytes at a place of a text stand for, cut at the limit; nothing where they run past the end
+-- the label that the `size` bytes at a place of a text decode to, cut at the limit; nothing if they run past the end
 unfoldable pub labelIn : List ℕ → ℕ → ℕ → Label
 labelIn text start size = take labelLimit (spelling (partOf start size text))
 
@@ -70,9 +70,9 @@ recordAnswer lines room = linesAnswer (lineAnswer lines room)
 
 -- where the bodies begin in a job
 abbrev pub beginIn : List ℕ → Begin
-beginIn job = record { tree = firstPlace (layoutOf job); list = listPlace (layoutOf job); claim = claimPlace (layoutOf job) }
+beginIn job = record { tree = bodyPlace S (layoutOf job); list = bodyPlace K (layoutOf job); claim = bodyPlace C (layoutOf job) }
 
--- a label of a list that begins at `base` in the job: where it stands there, and where the first tree, which begins at `origin`, spells it,
+-- A label of a list that begins at `base` in the job: its place there, and its place and size in the first tree, which begins at `origin`.
 -- "the part of the text shown for it has both quotes"
 unfoldable pub namedLabel : ℕ → ℕ → Edition → Tree → List Token → Label → NamedLabel
 unfolding placeOfLabel placeIn tokenIn
@@ -103,7 +103,7 @@ answered at room (turned q) = job-answer.Refused q
 
 -- the answer to a job, for an output of `room` bytes
 unfoldable pub answerTo : List ℕ → ℕ → JobAnswer
-unfolding answered solveJob firstPlace listPlace claimPlace layoutOf
+unfolding answered solveJob bodyPlace layoutOf
 answerTo job room = answered (beginIn job) room (solveJob job)
 
 -- what the output then holds: the answer's lines, further bytes unchanged; "On refusal .. an output keeps every byte."

@@ -8,14 +8,14 @@ use Rattle.trees.specs.Token.{Token}
 use Rattle.job.specs.declared.Named.{Named}
 use Rattle.job.specs.Answered.{labelIn}
 
--- a text was put into an area from `at` on: the next byte goes to `next`, and what stood before `at` stands there still
+-- A text was put into an area from `at` on. The next byte goes to `next`, and the bytes before `at` are unchanged.
 pub record Put (area : List ℕ) (at : ℕ) (text : List ℕ) (next : ℕ) (after : List ℕ) : Type 0 where
   pub ends : next ≡ at + length text
   pub front : take next after ≡ take at area ++ text
   pub back : drop next after ≡ drop next area
   pub whole : length after ≡ length area
 
--- the label with number i as it is printed, after a comma where it is not the first
+-- the label with index i as it is printed, after a comma unless it is the first
 unfoldable pub item : ℕ → Token → List ℕ
 item zero x = x
 item (suc i) x = 44 ∷ x

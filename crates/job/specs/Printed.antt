@@ -1,5 +1,5 @@
--- What is printed for a job. Scope paper, "Job and printed result" and "Why a job is turned down". "Labels are printed as the first tree
--- spells them" (request C-15), each in the one form by which it is written (request C-12: "for trees and every printed label").
+-- What is printed for a job. 01, "Job and printed result" and "Why a job is turned down". "Labels are printed as the first tree spells
+-- them" (C-15), each in its one written form (C-12: "for trees and every printed label").
 use Prim.Native.Nat.{ℕ, _+_, _-_, _*_}
 use mathlib.Core.Bool.{cond}
 use mathlib.Core.List.{List, [], _∷_, _++_, map}
@@ -19,13 +19,13 @@ use Rattle.trees.specs.Words.{bytesOf}
 use Rattle.lists.specs.ReadList.{joined}
 use Rattle.decimals.specs.Decimal.{digitRoom, decimalOf}
 use Rattle.agreement.specs.Places.{nameIn}
-use Rattle.contents.specs.Contents.{Bodies, editionOf, bodiesOf, line}
+use Rattle.contents.specs.Contents.{Bodies, editionOf, firstText, secondText, listText, claimText, bodiesOf, line}
 use Rattle.mast.specs.Largest.{Solution, Task, task, solve}
 use Rattle.mast.specs.Largest as mast
 use Rattle.claims.specs.Judge.{Judgement, judge}
 use Rattle.claims.specs.Judge as claims
 
--- "the job limit becomes 16,384 bytes" (request C-14)
+-- "the job limit becomes 16,384 bytes" (C-14)
 abbrev pub jobLimit : ℕ
 jobLimit = 16384
 
@@ -50,37 +50,37 @@ lineRoom = wordsRoom + 2 + 3 * itemRoom
 abbrev pub recordRoom : ℕ
 recordRoom = 17 + 2 + (leafLimit * itemRoom - 1) + treeRoom
 
--- what is asked by these bodies
+-- what these bodies give the engine
 abbrev pub taskOf : Bodies → Task
-taskOf b = task (record { strict = b .strict; edition = editionOf (b .stated) }) (b .first) (b .second) (b .list)
+taskOf b = task (record { strict = b .head .strict; edition = editionOf (b .head .stated) }) (firstText b) (secondText b) (listText b)
 
--- what a job comes to
+-- the result of a job, with or without a claim: the engine's solution or the judgement of the claim, in one type
 pub data JobSolution : Type 0 where
-  -- the edition and the first tree, which spells all that is printed; the set in label order, by its keys; the normal text of its common
+  -- the edition; the first tree, which spells all that is printed; the set in label order, by its keys; the normal text of its common
   -- restriction
   solved : Edition → Tree → List Label → List ℕ → JobSolution
-  -- request C-16: the claim passes; its size
+  -- C-16: the claim passes; its size
   passed : ℕ → JobSolution
   -- number 8: the edition, the first tree, the required list and three of its labels, by their keys
   clashed : Edition → Tree → List Token → Label → Label → Label → JobSolution
-  -- number 14: the same of the claim
+  -- number 14: the same with the claim
   apart : Edition → Tree → List Token → Label → Label → Label → JobSolution
   turned : Refusal → JobSolution
 
--- a job without a claim comes to what its bodies come to
+-- a job without a claim has the engine's solution
 unfoldable pub ofSolution : Solution → JobSolution
 ofSolution (mast.solved e s X text) = solved e s X text
 ofSolution (mast.clashed e s xs a b c) = clashed e s xs a b c
 ofSolution (mast.turned q) = turned q
 
--- and one with a claim to what is said of that
+-- a job with a claim has its judgement
 unfoldable pub ofJudgement : Judgement → JobSolution
 ofJudgement (claims.passes n) = passed n
 ofJudgement (claims.disagrees e s xs a b c) = clashed e s xs a b c
 ofJudgement (claims.apart e s ys a b c) = apart e s ys a b c
 ofJudgement (claims.declined q) = turned q
 
--- request C-16: "that is the job's answer: what 01 and demands 1 and 3 say of the set as the answer is about jobs without C"
+-- C-16: "that is the job's answer: what 01 and demands 1 and 3 say of the set as the answer is about jobs without C"
 unfoldable pub solveTask : Task → Option (List ℕ) → JobSolution
 unfolding solve ofSolution judge ofJudgement
 solveTask q none = ofSolution (solve q treeRoom)
@@ -89,7 +89,7 @@ solveTask q (some claim) = ofJudgement (judge q claim)
 unfoldable pub solveBodies : Option Bodies → JobSolution
 unfolding solveTask
 solveBodies none = turned (record { reason = Contents; body = J; place = 0 })
-solveBodies (some b) = solveTask (taskOf b) (b .claim)
+solveBodies (some b) = solveTask (taskOf b) (claimText b)
 
 -- "Order: .. 11, 10, S, T, K, then 6 or 7, then 8", with 12 before K, and C right after K
 unfoldable pub solveJob : List ℕ → JobSolution
@@ -103,8 +103,8 @@ unfolding bytesOf numberOf letterOf decimalOf
 refusedWords q =
     bytesOf "refused " ++ (decimalOf (numberOf (q .reason)) ++ (32 ∷ letterOf (q .body) ∷ 32 ∷ decimalOf (q .place)))
 
--- "They are the count of leaves, the set in label order, and the normal text of the common restriction.": the set by its labels as they
--- are spelled
+-- "They are the count of leaves, the set in label order, and the normal text of the common restriction.": the set by its labels as they are
+-- spelled
 unfoldable pub recordLines : List Label → List ℕ → List ℕ
 unfolding bytesOf decimalOf joined line
 recordLines X text =
@@ -119,7 +119,7 @@ threeLine q a b c = line (refusedWords q ++ (32 ∷ joined (map tokenOf (a ∷ b
 abbrev pub eight : Refusal
 eight = record { reason = Disagree; body = K; place = 0 }
 
--- request C-16: "14 for three claimed leaves that disagree, named as 8 names them", "at C 0"
+-- C-16: "14 for three claimed leaves that disagree, named as 8 names them", "at C 0"
 abbrev pub fourteen : Refusal
 fourteen = record { reason = ClaimDisagrees; body = C; place = 0 }
 
@@ -129,7 +129,7 @@ eightLine = threeLine eight
 abbrev pub fourteenLine : Label → Label → Label → List ℕ
 fourteenLine = threeLine fourteen
 
--- request C-16: "The program then prints only `claim ok`, a blank and the size"
+-- C-16: "The program then prints only `claim ok`, a blank and the size"
 unfoldable pub claimLine : ℕ → List ℕ
 unfolding bytesOf decimalOf line
 claimLine n = line (bytesOf "claim ok " ++ decimalOf n)

@@ -2,8 +2,8 @@
 //
 // No public function has a `requires`.
 use claims::ClaimAnswer;
-use contents::Claim;
 use contents::Layout;
+use contents::Span;
 use contents::Table;
 use decimals::DIGIT_ROOM;
 use lists::LabelPlaces;
@@ -36,7 +36,7 @@ mod lines;
 // The most bytes of a job.
 const JOB_LIMIT: usize = 16384;
 
-// A byte more than that.
+// One more byte.
 const JOB_AREA: usize = JOB_LIMIT + 1;
 
 // A label as it is printed, and a comma.
@@ -49,13 +49,13 @@ const LINE_ROOM: usize = 11 + 2 * DIGIT_ROOM + 2 + 3 * ITEM_ROOM;
 // output of so many bytes always suffices.
 pub const RECORD_ROOM: usize = 17 + 2 + (LEAF_LIMIT * ITEM_ROOM - 1) + TREE_ROOM;
 
-// How many bytes the lines have that now stand in the output, or number 9 where it is too short for them.
+// The number of bytes written to the output, or number 9 if it is too short for the lines.
 pub enum LineAnswer {
     Written(usize),
     TooShort(Refusal),
 }
 
-// A label of number 8 or 14: where it stands in the job's list or claim, and the part of the job that spells it, in the first tree.
+// A label of number 8 or 14: its place in the job's list or claim, and the part of the job that spells it, in the first tree.
 pub struct NamedLabel {
     pub place: usize,
     pub start: usize,
@@ -76,8 +76,7 @@ pub struct Named {
     pub third: NamedLabel,
 }
 
-// How many bytes the lines have that now stand in the output; number 8 with its three labels; number 14 with those of the claim; or
-// why the job was turned down.
+// The number of bytes written to the output; number 8 with its three labels; number 14 with those of the claim; or why the job was refused.
 pub enum JobAnswer {
     Written(usize),
     Disagree(Named),
@@ -85,7 +84,7 @@ pub enum JobAnswer {
     Refused(Refusal),
 }
 
-// An area to take a job in: one byte more than a job may have, so that a longer one is known by its length.
+// An area for a job: one byte more than a job may have, so that a longer one is recognized by its length.
 pub fn job_area() -> [u8; JOB_AREA]
     ensures zeros { λ r. ⌜ r ≡ replicate (jobLimit + 1) 0 ⌝ }
     ensures room { λ r. ⌜ jobLimit + 1 ≡ length r ⌝ }
@@ -93,7 +92,7 @@ pub fn job_area() -> [u8; JOB_AREA]
     [0; JOB_AREA]
 }
 
-// The part of an output that the answer speaks of: its lines, or nothing.
+// The part of an output that the answer wrote: its lines, or nothing.
 pub fn written<'a>(out: &'a [u8], answer: LineAnswer) -> &'a [u8]
     ensures { λ r. ⌜ now r ≡ writtenPart (now (out .entry)) answer ⌝ }
 {
@@ -103,7 +102,7 @@ pub fn written<'a>(out: &'a [u8], answer: LineAnswer) -> &'a [u8]
     }
 }
 
-// The line of a refusal into `out`.
+// Writes the line of a refusal into `out`.
 pub fn refusal_line(refusal: Refusal, out: &mut [u8]) -> LineAnswer
     ensures answer { λ r. ⌜ r ≡ lineAnswer (printedOf (turned refusal)) (length (now (out .entry))) ⌝ }
     ensures output { λ _. ⌜ now (out .exit) ≡ lineOutput (printedOf (turned refusal)) (now (out .entry)) ⌝ }
@@ -113,8 +112,8 @@ pub fn refusal_line(refusal: Refusal, out: &mut [u8]) -> LineAnswer
     lines::hand_over(&line[..n], out)
 }
 
-// The line of a refusal that names three labels, number 8 or 14, into `out`: the labels are those that the parts of the job, named by
-// starts and sizes, stand for.
+// Writes the line of a refusal that names three labels, number 8 or 14, into `out`. Starts and sizes name parts of the job; the labels are
+// those that these parts decode to.
 pub fn disagreement_line(job: &[u8], refusal: Refusal, named: Named, out: &mut [u8]) -> LineAnswer
     ensures answer { λ r. ⌜ r ≡ lineAnswer (namedLine (now (job .entry)) refusal named) (length (now (out .entry))) ⌝ }
     ensures output { λ _. ⌜ now (out .exit) ≡ lineOutput (namedLine (now (job .entry)) refusal named) (now (out .entry)) ⌝ }
@@ -178,14 +177,14 @@ fn answer_size(size: usize, out: &mut [u8]) -> JobAnswer
 }
 
 // A label of the list, which begins at `base` in the job, as it is spelled in the first tree, which begins at `origin`.
-fn spelled_label(origin: usize, base: usize, place: usize, start: usize, size: usize) -> NamedLabel
+fn spelled_label(origin: usize, base: usize, place: usize, start: u16, size: u8) -> NamedLabel
     requires { ⌜ (base + place ≤ jobLimit) × (origin + start ≤ jobLimit) ⌝ }
     ensures { λ r. ⌜ r ≡ record { place = base + place; start = origin + start; size = size } ⌝ }
 {
     NamedLabel {
         place: base + place,
-        start: origin + start,
-        size,
+        start: origin + trees::wide_place(start),
+        size: trees::wide(size),
     }
 }
 
@@ -193,8 +192,8 @@ fn spelled_label(origin: usize, base: usize, place: usize, start: usize, size: u
 fn named_labels(
     origin: usize,
     base: usize,
-    starts: &[usize; 80],
-    sizes: &[usize; 80],
+    starts: &[u16; 80],
+    sizes: &[u8; 80],
     a: usize,
     b: usize,
     c: usize,
@@ -209,7 +208,7 @@ fn named_labels(
     }
 }
 
-// The answer to three bodies, which begin there in the job.
+// The answer to three bodies, which begin at these places in the job.
 fn answer_bodies(
     options: Options,
     first: &[u8],
@@ -242,7 +241,7 @@ fn answer_bodies(
     }
 }
 
-// The answer to three bodies and a claim, which begin there in the job.
+// The answer to three bodies and a claim, which begin at these places in the job.
 fn answer_claim(
     options: Options,
     first: &[u8],
@@ -279,46 +278,40 @@ fn answer_claim(
     }
 }
 
-// The answer to a job with these contents: with a claim the verdict on it, else the set.
-fn answer_laid(job: &[u8], at: usize, table: Table, out: &mut [u8]) -> JobAnswer
+// The answer to a job with these contents: the verdict on its claim, or the set if it has none.
+fn answer_laid(job: &[u8], table: Table, out: &mut [u8]) -> JobAnswer
     requires { ⌜ length (now job) ≤ jobLimit ⌝ }
-    requires { ⌜ layout.Bodies at table ≡ layoutOf (now job) ⌝ }
+    requires { ⌜ layout.Laid table ≡ layoutOf (now job) ⌝ }
     ensures answer { λ r. ⌜ r ≡ answerTo (now (job .entry)) (length (now (out .entry))) ⌝ }
     ensures output { λ _. ⌜ now (out .exit) ≡ jobOutput (solveJob (now (job .entry))) (now (out .entry)) ⌝ }
 {
-    let second_at = at + table.first;
-    let list_at = second_at + table.second;
-    let end = list_at + table.required;
-    let stated = table.stated;
-    let edition = contents::edition_of(stated);
+    let head = table.head;
+    let stated = head.stated;
     let options = Options {
-        strict: table.strict,
-        edition,
+        strict: head.strict,
+        edition: contents::edition_of(stated),
     };
-    let begin = Begin {
-        tree: at,
-        list: list_at,
-        claim: end,
-    };
-    let first = &job[at..second_at];
-    let second = &job[second_at..list_at];
-    let list = &job[list_at..end];
+    let first = table.first;
+    let second = table.second;
+    let list = table.list;
     let claim = table.claim;
+    let at = Begin {
+        tree: contents::place_of(first),
+        list: contents::place_of(list),
+        claim: contents::place_of(claim),
+    };
+    let s = contents::bytes_of(job, first);
+    let t = contents::bytes_of(job, second);
+    let k = contents::bytes_of(job, list);
     match claim {
-        Claim::Absent => answer_bodies(options, first, second, list, begin, out),
-        Claim::Bytes(n) => answer_claim(
-            options,
-            first,
-            second,
-            list,
-            &job[end..end + n],
-            begin,
-            out,
-        ),
+        Span::Absent => answer_bodies(options, s, t, k, at, out),
+        Span::At(_, _) => {
+            answer_claim(options, s, t, k, contents::bytes_of(job, claim), at, out)
+        }
     }
 }
 
-// The answer to a job: its lines in `out`, or why there is none; `out` then keeps every byte.
+// The answer to a job: its lines in `out`, or a refusal; `out` then keeps every byte.
 pub fn answer_job(job: &[u8], out: &mut [u8]) -> JobAnswer
     ensures answer { λ r. ⌜ r ≡ answerTo (now (job .entry)) (length (now (out .entry))) ⌝ }
     ensures output { λ _. ⌜ now (out .exit) ≡ jobOutput (solveJob (now (job .entry))) (now (out .entry)) ⌝ }
@@ -327,13 +320,13 @@ pub fn answer_job(job: &[u8], out: &mut [u8]) -> JobAnswer
         return refused(Reason::JobTooLong);
     }
     let layout = contents::contents(job);
-    let Layout::Bodies(at, table) = layout else {
+    let Layout::Laid(table) = layout else {
         return refused(Reason::Contents);
     };
-    answer_laid(job, at, table, out)
+    answer_laid(job, table, out)
 }
 
-// What is printed for a job, into `out`: the three lines of its set, the line of its claim, or that of its refusal.
+// Writes what is printed for a job into `out`: the three lines of its set, the line of its claim, or that of its refusal.
 pub fn print_job(job: &[u8], out: &mut [u8]) -> LineAnswer
     ensures answer { λ r. ⌜ r ≡ lineAnswer (printed (now (job .entry))) (length (now (out .entry))) ⌝ }
     ensures output { λ _. ⌜ now (out .exit) ≡ lineOutput (printed (now (job .entry))) (now (out .entry)) ⌝ }

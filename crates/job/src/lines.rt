@@ -1,4 +1,4 @@
-// Lines put together in an area, part by part, and handed over to a lent output.
+// Lines put together in an area, part by part, and copied to a lent output.
 use crate::LineAnswer;
 use crate::Named;
 use trees::Body;
@@ -21,7 +21,7 @@ ghost use Rattle.job.specs.Printed.{turned, refusedWords, recordLines, c
 ghost use Rattle.job.specs.Answered.{lineAnswer, lineOutput, labelIn, namedLine};
 ghost use Rattle.job.specs.Areas.{Put, item, labelsIn};
 
-// Puts one byte at `at`, and says where the next goes.
+// Puts one byte at `at`, and returns the place of the next.
 pub(crate) fn put_byte(b: u8, area: &mut [u8], at: usize) -> usize
     requires { ⌜ at + 1 ≤ length (now area) ⌝ }
     ensures { λ r. ⌜ Put (now (area .entry)) at (b ∷ []) r (now (area .exit)) ⌝ }
@@ -53,7 +53,7 @@ pub(crate) fn put_number(n: usize, area: &mut [u8], at: usize) -> usize
     put_bytes(trees::first_bytes(&bytes, numeral.len), area, at)
 }
 
-// The label that the `size` bytes at a place of a text stand for, as it is spelled there and printed; of one that no reader accepts, its
+// The label that the `size` bytes at a place of a text decode to, as it is spelled there and printed; for one that no reader accepts, its
 // first bytes.
 pub(crate) fn label_in(text: &[u8], start: usize, size: usize) -> ShownLabel
     ensures { λ r. ⌜ shownBytes r ≡ tokenOf (labelIn (now (text .entry)) start size) ⌝ }
@@ -70,7 +70,7 @@ pub(crate) fn put_shown(x: ShownLabel, area: &mut [u8], at: usize) -> usize
     put_bytes(trees::first_bytes(&bytes, x.len), area, at)
 }
 
-// Puts a label, after a comma where it is not the first.
+// Puts a label, after a comma unless it is the first.
 pub(crate) fn put_item(i: usize, x: ShownLabel, area: &mut [u8], at: usize) -> usize
     requires { ⌜ at + 1 + length (shownBytes x) ≤ length (now area) ⌝ }
     ensures { λ r. ⌜ Put (now (area .entry)) at (item i (shownBytes x)) r (now (area .exit)) ⌝ }
@@ -85,8 +85,8 @@ pub(crate) fn put_item(i: usize, x: ShownLabel, area: &mut [u8], at: usize) -> u
 // Puts the first `count` labels that places and sizes name, joined by commas.
 pub(crate) fn put_labels(
     text: &[u8],
-    start: &[usize; 80],
-    size: &[usize; 80],
+    start: &[u16; 80],
+    size: &[u8; 80],
     count: usize,
     area: &mut [u8],
     at: usize,
@@ -101,14 +101,18 @@ pub(crate) fn put_labels(
     let mut next = at;
     let mut i: usize = 0;
     while i < count {
-        let x = label_in(text, start[i], size[i]);
+        let x = label_in(
+            text,
+            trees::place_entry(start, i),
+            trees::byte_entry(size, i),
+        );
         next = put_item(i, x, area, next);
         i += 1;
     }
     next
 }
 
-// Hands a text over: all of it, or nothing where the output is too short.
+// Copies a text to the output: all of it, or nothing if the output is too short.
 pub(crate) fn hand_over(text: &[u8], out: &mut [u8]) -> LineAnswer
     ensures answer { λ r. ⌜ r ≡ lineAnswer (now (text .entry)) (length (now (out .entry))) ⌝ }
     ensures output { λ _. ⌜ now (out .exit) ≡ lineOutput (now (text .entry)) (now (out .entry)) ⌝ }
@@ -183,8 +187,8 @@ pub(crate) fn put_claim(size: usize, area: &mut [u8]) -> usize
 // The three lines of an answer: `size`, `set` and `tree`.
 pub(crate) fn put_record(
     first: &[u8],
-    start: &[usize; 80],
-    size: &[usize; 80],
+    start: &[u16; 80],
+    size: &[u8; 80],
     count: usize,
     tree: &[u8],
     area: &mut [u8],

@@ -12,6 +12,8 @@ use borrow.Author.Tests.{ne-eqb, eq-eqb, le-leb}
 use Rattle.trees.specs.Label.{Label, sameLabel, isIn}
 use Rattle.trees.specs.Token.{Token, spelling}
 use Rattle.trees.specs.Tree.{Tree, leaf, node, leaves, decoded, Valid}
+use Rattle.trees.specs.declared.Edition.{Edition}
+use Rattle.trees.specs.Edition.{inEdition, folded, keyed, ValidIn}
 use Rattle.trees.specs.Text.{textOf}
 use Rattle.trees.specs.Arrays.{arraysOf, nodesOf, lefts, rights, starts, sizes, isLeaf, nodeLimit}
 use Rattle.trees.specs.Stored.{partOf}
@@ -20,9 +22,15 @@ use Rattle.trees.proofs.Bools.{bool-cases, clash}
 use Rattle.trees.proofs.LabelLaws.{same-eq, eq-same}
 use Rattle.trees.proofs.ArrayLaws.{own-stands, good-at, label-inside, few-nodes}
 use Rattle.trees.proofs.PostorderLaws.{laid-arrays, length-postorder, label-shown, LeafAt, leaf-at, subtree-in, holds-leaf}
+use Rattle.trees.proofs.FoldLaws.{fold-part}
+use Rattle.trees.proofs.EditionLaws.{text-folded, arrays-folded, valid-folded}
+use Rattle.trees.proofs.RelabelLaws.{nodes-relabel}
 use Rattle.trees.proofs.DecodedLaws.{decoded-nodes, token-of-leaf, leaf-of-token}
-use Rattle.leaves.specs.Find.{labelled, leafFrom, foundLeaf, ShowsLeaf}
-pub use Rattle.leaves.specs.Find.{ownFound}
+use Rattle.leaves.specs.Find.{labelled, leafFrom, foundLeaf, foundIn, ShowsLeaf}
+
+-- what the search finds in a tree's own arrays
+abbrev pub ownFound : Tree → Label → ℕ
+ownFound t x = foundLeaf (textOf t) (arraysOf t .left) (arraysOf t .start) (arraysOf t .size) x (nodesOf t)
 
 pub own-laid : (t : Tree) → Laid (arraysOf t .left) (arraysOf t .right) (postorder t)
 unfolding arraysOf
@@ -144,15 +152,28 @@ missing t x v h = go (found-search t x v)
         h
     go (none e k) = omega arith
 
--- the leaf that is found has the label
-pub found-shown : (t : Tree) → Valid t → (x : Label) → isIn x (leaves (decoded t)) ≡ true → ShowsLeaf t (ownFound t x) x
-unfolding isLeaf
-found-shown t v x h =
-    let f = found t x v h in
-    let below : ownFound t x < nodesOf t = omega (arith, f .below, decoded-nodes t) in
-    let own = token-of-leaf t (ownFound t x) x below (f .is) in
-    record {
-      below = below;
-      leaf = eq-eqb (getD (arraysOf t .left) (ownFound t x) 0) (ownFound t x) (own-leaf t (ownFound t x) (own .token) below (own .is));
-      label = own-spelling t v (ownFound t x) x below (f .is);
-    }
+-- by an edition: the tree as it reads it has the same arrays, and its text is the text as it reads that
+module _ (e : Edition) (t : Tree) (x : Label) where
+  found-folded : foundIn e t x ≡ ownFound (folded e t) x
+  found-folded = rw (text-folded e t, arrays-folded e t, nodes-relabel (inEdition e) t) refl
+
+  pub missing-in : ValidIn e t → isIn x (leaves (keyed e t)) ≡ false → foundIn e t x ≡ nodesOf t
+  missing-in v h = found-folded ∙ missing (folded e t) x (valid-folded e t v) h ∙ nodes-relabel (inEdition e) t
+
+  -- the leaf that is found has the key
+  pub found-shown : ValidIn e t → isIn x (leaves (keyed e t)) ≡ true → ShowsLeaf e t (foundIn e t x) x
+  unfolding isLeaf
+  found-shown v h =
+      let w = valid-folded e t v in
+      let f : Found (keyed e t) x (foundIn e t x) = rw found-folded (found (folded e t) x w h) in
+      let below : foundIn e t x < nodesOf (folded e t) = omega (arith, f .below, decoded-nodes (folded e t)) in
+      let own = token-of-leaf (folded e t) (foundIn e t x) x below (f .is) in
+      record {
+        below = omega (arith, nodes-relabel (inEdition e) t);
+        leaf =
+            eq-eqb (getD (arraysOf t .left) (foundIn e t x) 0) (foundIn e t x)
+            (rw (arrays-folded e t) at (own-leaf (folded e t) (foundIn e t x) (own .token) below (own .is)));
+        label =
+            ap spelling (sym (fold-part e (getD (arraysOf t .start) (foundIn e t x) 0) (getD (arraysOf t .size) (foundIn e t x) 0) (textOf t)))
+            ∙ (rw (text-folded e t, arrays-folded e t) at (own-spelling (folded e t) w (foundIn e t x) x below (f .is)));
+      }

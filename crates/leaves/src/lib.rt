@@ -14,9 +14,9 @@ use trees::NODE_LIMIT;
 fn has_label(
     edition: Edition,
     text: &[u8],
-    left: &[usize; NODE_LIMIT],
-    start: &[usize; NODE_LIMIT],
-    size: &[usize; NODE_LIMIT],
+    left: &[u8; NODE_LIMIT],
+    start: &[u16; NODE_LIMIT],
+    size: &[u8; NODE_LIMIT],
     token: &[u8],
     u: usize,
 ) -> bool
@@ -33,7 +33,7 @@ fn has_label(
         u
         ⌝ }
 {
-    let child = left[u];
+    let child = trees::wide(left[u]);
     if child != u {
         return false;
     }
@@ -45,9 +45,9 @@ fn has_label(
 pub fn find_leaf(
     edition: Edition,
     text: &[u8],
-    left: &[usize; NODE_LIMIT],
-    start: &[usize; NODE_LIMIT],
-    size: &[usize; NODE_LIMIT],
+    left: &[u8; NODE_LIMIT],
+    start: &[u16; NODE_LIMIT],
+    size: &[u8; NODE_LIMIT],
     nodes: usize,
     token: &[u8],
 ) -> usize

@@ -1,5 +1,5 @@
 -- The stage machine of the list reader: how a label's end is told, and that every stage keeps room in the arrays. Assumes nothing.
-use Prim.Native.Nat.{ℕ, _+_, _≤_, _<_}
+use Prim.Native.Nat.{ℕ, _+_, _*_, _≤_, _<_}
 use native.Mathlib.Omega.{arith}
 use mathlib.Core.Path.{_≡_, refl, ap, sym}
 use mathlib.Core.Bool.{Bool, true, false, cond}
@@ -23,7 +23,7 @@ use Rattle.lists.specs.declared.ListAnswer.{ListAnswer}
 use Rattle.lists.specs.declared.ListAnswer.the-variants.{Labels, Refused}
 use Rattle.lists.specs.declared.ListRead.{ListRead}
 use Rattle.lists.specs.ReadList.{listLimit, listRead}
-use Rattle.lists.specs.ListMachine.{After, after, ended, Room, repeatOf, beginOf, dueOf, closeOf, moreOf, bareOf, quoteOf, quotedOf}
+use Rattle.lists.specs.ListMachine.{After, after, ended, tokenRoom, Room, repeatOf, beginOf, dueOf, closeOf, moreOf, bareOf, quoteOf, quotedOf}
 use Rattle.lists.specs.ListMachine.{closedOf, stepOf, endAt, answerOf, runFrom}
 
 -- what keeping a label gives: whether it repeats, and the arrays with its place
@@ -55,79 +55,82 @@ module _
   unfolding endAt
   end-new body at h = rw (kept .1 .0, kept .1 .1, ← kept .0, h) refl
 
--- the next stage has room, if there is one
-abbrev RoomAfter : Outcome → Type 0
-RoomAfter (Next stage) = Room stage
-RoomAfter (Stop r place) = 0 ≤ listLimit
+-- after the byte at place `at` the next stage has room, if there is one
+abbrev RoomAfter : (at : ℕ) → Outcome → Type 0
+RoomAfter at (Next stage) = Room stage (at + 1)
+RoomAfter at (Stop r place) = 0 ≤ listLimit
 
 -- the choice that a test makes has what both outcomes have
-room-cond : (b : Bool) (o u : Outcome) → (b ≡ true → RoomAfter o) → RoomAfter u → RoomAfter (cond b o u)
-room-cond true o u p q = p refl
-room-cond false o u p q = q
+room-cond : (at : ℕ) (b : Bool) (o u : Outcome) → (b ≡ true → RoomAfter at o) → RoomAfter at u → RoomAfter at (cond b o u)
+room-cond at true o u p q = p refl
+room-cond at false o u p q = q
 
-room-begin : (at count : ℕ) (stage : Stage) → (count < listLimit → Room stage) → RoomAfter (beginOf at count stage)
+room-begin : (at count : ℕ) (stage : Stage) → (count < listLimit → Room stage (at + 1)) → RoomAfter at (beginOf at count stage)
 unfolding beginOf
 room-begin at count stage h =
-    room-cond (ltb count listLimit) (Next stage) (Stop TooMany at) (λ (e : ltb count listLimit ≡ true). h (ltb-true count listLimit e)) (omega arith)
+    room-cond at (ltb count listLimit) (Next stage) (Stop TooMany at) (λ (e : ltb count listLimit ≡ true). h (ltb-true count listLimit e)) (omega arith)
 
-room-due : (k : Kind) (at count : ℕ) → RoomAfter (dueOf k at count)
+room-due : (k : Kind) (at count : ℕ) → at ≤ tokenRoom * count → RoomAfter at (dueOf k at count)
 unfolding dueOf
-room-due LabelByte at count = room-begin at count (Bare at 1 count) (λ h. h)
-room-due Quote at count = room-begin at count (Quoted at 0 count) (λ h. (h, omega arith))
-room-due Open at count = omega arith
-room-due Close at count = omega arith
-room-due Comma at count = omega arith
-room-due Semicolon at count = omega arith
-room-due Blank at count = omega arith
-room-due Other at count = omega arith
+room-due LabelByte at count h = room-begin at count (Bare at 1 count) (λ free. (record { free = free; short = omega arith; early = h }, omega arith))
+room-due Quote at count h = room-begin at count (Quoted at 0 count) (λ free. (record { free = free; short = omega arith; early = h }, omega arith))
+room-due Open at count h = omega arith
+room-due Close at count h = omega arith
+room-due Comma at count h = omega arith
+room-due Semicolon at count h = omega arith
+room-due Blank at count h = omega arith
+room-due Other at count h = omega arith
 
-room-close : (text start size : List ℕ) (count first len : ℕ) (o : Outcome) → RoomAfter o
-    → RoomAfter (closeOf text start size count first len o .outcome)
-unfolding closeOf
-room-close text start size count first len o h =
-    room-cond (repeatOf text start size count first len) (Stop Repeated first) o (λ _. omega arith) h
+module _ (text : List ℕ) (at first len count : ℕ) (start size : List ℕ) where
+  room-close : (n : ℕ) (o : Outcome) → RoomAfter at o → RoomAfter at (closeOf text start size count first n o .outcome)
+  unfolding closeOf
+  room-close n o h = room-cond at (repeatOf text start size count first n) (Stop Repeated first) o (λ _. omega arith) h
 
-room-more : (at len : ℕ) (stage : Stage) → (len < labelLimit → Room stage) → RoomAfter (moreOf at len stage)
-unfolding moreOf
-room-more at len stage h =
-    room-cond (ltb len labelLimit) (Next stage) (Stop LabelTooLong at) (λ (e : ltb len labelLimit ≡ true). h (ltb-true len labelLimit e)) (omega arith)
+  room-more : (stage : Stage) → (len < labelLimit → Room stage (at + 1)) → RoomAfter at (moreOf at len stage)
+  unfolding moreOf
+  room-more stage h =
+      room-cond at (ltb len labelLimit) (Next stage) (Stop LabelTooLong at) (λ (e : ltb len labelLimit ≡ true). h (ltb-true len labelLimit e)) (omega arith)
 
-module _ (text : List ℕ) (at first len count : ℕ) (start size : List ℕ) (h : count < listLimit) where
-  bad-close : RoomAfter (closeOf text start size count first len (Stop BadByte at) .outcome)
-  bad-close = room-close text start size count first len (Stop BadByte at) (omega arith)
+  bad-close : RoomAfter at (closeOf text start size count first len (Stop BadByte at) .outcome)
+  bad-close = room-close len (Stop BadByte at) (omega arith)
 
-  room-bare : (k : Kind) → RoomAfter (bareOf text k at first len count start size .outcome)
+  room-bare : Room (Bare first len count) at → (k : Kind) → RoomAfter at (bareOf text k at first len count start size .outcome)
   unfolding bareOf
-  room-bare LabelByte = room-more at len (Bare first (len + 1) count) (λ _. h)
-  room-bare Comma = room-close text start size count first len (Next (Due (count + 1))) (omega arith)
-  room-bare Quote = bad-close
-  room-bare Open = bad-close
-  room-bare Close = bad-close
-  room-bare Semicolon = bad-close
-  room-bare Blank = bad-close
-  room-bare Other = bad-close
+  room-bare h LabelByte =
+      room-more (Bare first (len + 1) count)
+      (λ l. (record { free = h .0 .free; short = omega arith; early = h .0 .early }, omega arith))
+  room-bare h Comma = room-close len (Next (Due (count + 1))) (omega arith, omega arith)
+  room-bare h Quote = bad-close
+  room-bare h Open = bad-close
+  room-bare h Close = bad-close
+  room-bare h Semicolon = bad-close
+  room-bare h Blank = bad-close
+  room-bare h Other = bad-close
 
-  room-quote : RoomAfter (quoteOf text at first len count start size .outcome)
+  room-quote : Room (Quoted first len count) at → RoomAfter at (quoteOf text at first len count start size .outcome)
   unfolding quoteOf
-  room-quote = go (eqb len 0)
+  room-quote h = go (eqb len 0)
     where
       go : (c : Bool)
-          → RoomAfter (cond c (after (Stop BadByte at) start size) (closeOf text start size count first (len + 2) (Next (Closed (count + 1)))) .outcome)
+          → RoomAfter at (cond c (after (Stop BadByte at) start size) (closeOf text start size count first (len + 2) (Next (Closed (count + 1)))) .outcome)
       go true = omega arith
-      go false = room-close text start size count first (len + 2) (Next (Closed (count + 1))) (omega arith)
+      go false = room-close (len + 2) (Next (Closed (count + 1))) (omega arith, omega arith)
 
-  room-quoted : (k : Kind) → RoomAfter (quotedOf text k at first len count start size .outcome)
+  one-more : Room (Quoted first len count) at → len < labelLimit → Room (Quoted first (len + 1) count) (at + 1)
+  one-more h l = (record { free = h .0 .free; short = omega arith; early = h .0 .early }, omega arith)
+
+  room-quoted : Room (Quoted first len count) at → (k : Kind) → RoomAfter at (quotedOf text k at first len count start size .outcome)
   unfolding quotedOf
-  room-quoted LabelByte = room-more at len (Quoted first (len + 1) count) (λ l. (h, omega arith))
-  room-quoted Blank = room-more at len (Quoted first (len + 1) count) (λ l. (h, omega arith))
-  room-quoted Quote = room-quote
-  room-quoted Open = omega arith
-  room-quoted Close = omega arith
-  room-quoted Comma = omega arith
-  room-quoted Semicolon = omega arith
-  room-quoted Other = omega arith
+  room-quoted h LabelByte = room-more (Quoted first (len + 1) count) (one-more h)
+  room-quoted h Blank = room-more (Quoted first (len + 1) count) (one-more h)
+  room-quoted h Quote = room-quote h
+  room-quoted h Open = omega arith
+  room-quoted h Close = omega arith
+  room-quoted h Comma = omega arith
+  room-quoted h Semicolon = omega arith
+  room-quoted h Other = omega arith
 
-room-closed : (k : Kind) (at count : ℕ) → count ≤ listLimit → RoomAfter (closedOf k at count)
+room-closed : (k : Kind) (at count : ℕ) → Room (Closed count) at → RoomAfter at (closedOf k at count)
 unfolding closedOf
 room-closed Comma at count h = h
 room-closed LabelByte at count h = omega arith
@@ -138,19 +141,19 @@ room-closed Semicolon at count h = omega arith
 room-closed Blank at count h = omega arith
 room-closed Other at count h = omega arith
 
-room-step : (text : List ℕ) (k : Kind) (at : ℕ) (stage : Stage) (start size : List ℕ) → Room stage
-    → RoomAfter (stepOf text k at stage start size .outcome)
+room-step : (text : List ℕ) (k : Kind) (at : ℕ) (stage : Stage) (start size : List ℕ) → Room stage at
+    → RoomAfter at (stepOf text k at stage start size .outcome)
 unfolding stepOf
-room-step text k at Start start size h = room-due k at 0
-room-step text k at (Due count) start size h = room-due k at count
+room-step text k at Start start size h = room-due k at 0 (omega arith)
+room-step text k at (Due count) start size h = room-due k at count (h .1)
 room-step text k at (Bare first len count) start size h = room-bare text at first len count start size h k
-room-step text k at (Quoted first len count) start size h = room-quoted text at first len count start size (h .0) k
+room-step text k at (Quoted first len count) start size h = room-quoted text at first len count start size h k
 room-step text k at (Closed count) start size h = room-closed k at count h
 
 -- the run by the step at its first byte, and by the end
 module _ (text : List ℕ) (body : Body) (stage : Stage) (start size : List ℕ) (at : ℕ) where
-  pub room-next : (k : Kind) (stage′ : Stage) (start′ size′ : List ℕ) → Room stage
-      → after (Next stage′) start′ size′ ≡ stepOf text k at stage start size → Room stage′
+  pub room-next : (k : Kind) (stage′ : Stage) (start′ size′ : List ℕ) → Room stage at
+      → after (Next stage′) start′ size′ ≡ stepOf text k at stage start size → Room stage′ (at + 1)
   room-next k stage′ start′ size′ h e =
       rw (← ap (λ (a : After). a .outcome) e) at (room-step text k at stage start size h)
 

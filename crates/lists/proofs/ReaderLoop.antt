@@ -25,7 +25,7 @@ use Rattle.lists.proofs.ListSimulation.{simulated}
 -- from here the machine goes on to the definition's answer
 pub record Running (text : List ℕ) (body : Body) (stage : Stage) (start size : List ℕ) (i : ℕ) : Type 0 where
   pub inside : i ≤ length text
-  pub room : Room stage
+  pub room : Room stage i
   pub run : runFrom text body stage start size i (drop i text) ≡ listRead body (readList text)
 
 pub running-start : (text : List ℕ) (body : Body) → Running text body Start (replicate listLimit 0) (replicate listLimit 0) 0
@@ -57,6 +57,11 @@ module _
           ∙ sym (run-stop text body stage start size i (getD text i 0) (drop (i + 1) text) q place start′ size′ (rw kind at same))
           ∙ ap (runFrom text body stage start size i) (rw (add-one i) (sym (drop-cons text i 0 more)))
           ∙ r .run
+
+    pub room-end : length text ≤ i → Room stage (length text)
+    room-end h =
+        let last : i ≡ length text = omega arith in
+        rw last at (r .room)
 
     pub running-end : (a : ListAnswer) (start′ size′ : List ℕ) → length text ≤ i
         → ended a start′ size′ ≡ endAt text body stage (length text) start size

@@ -1,5 +1,5 @@
--- The grammar of a list of labels, limits and repeats left aside, and where row 4 of the table stands in it.
--- Scope paper, "Tree text" and "Why a job is turned down".
+-- The grammar of a list of labels, limits and repeats left aside, and where row 4 of the table applies in it. 01, "Tree text" and "Why a
+-- job is turned down".
 use Prim.Native.Nat.{ℕ}
 use mathlib.Core.Path.{_≡_}
 use mathlib.Core.Bool.{true}

@@ -1,6 +1,6 @@
--- intermediate: nothing public rests on this text. The list reader as its loop goes: stages, places in arrays, a repeat found at a
--- label's end. proofs/ListSimulation.antt ties it to `readList`.
-use Prim.Native.Nat.{ℕ, _+_, _≤_, _<_}
+-- Intermediate: nothing public rests on this text. The list reader as its loop goes: stages, places in arrays, a repeat found at a label's
+-- end. proofs/ListSimulation.antt relates it to `readList`.
+use Prim.Native.Nat.{ℕ, _+_, _*_, _≤_, _<_}
 use mathlib.Core.Bool.{Bool, cond}
 use mathlib.Core.List.{List, [], _∷_}
 use lib.Dec.{eqb, ltb}
@@ -11,6 +11,7 @@ use Rattle.trees.specs.declared.Reason.the-variants.{BadByte, EndsTooSoon, Labe
 use Rattle.trees.specs.declared.Body.{Body}
 use Rattle.trees.specs.Bytes.{kindOf}
 use Rattle.trees.specs.Label.{labelLimit}
+use Rattle.trees.specs.Token.{tokenLimit}
 use Rattle.trees.specs.Stored.{partOf, isAmong}
 use Rattle.trees.specs.Reading.{refused}
 use Rattle.lists.specs.declared.Stage.{Stage}
@@ -40,15 +41,26 @@ pub record AtEnd : Type 0 where
 abbrev pub ended : ListAnswer → List ℕ → List ℕ → AtEnd
 ended a start size = record { answer = a; start = start; size = size }
 
--- a store at `count` stays in the arrays
-abbrev pub Room : Stage → Type 0
-Room Start = 0 ≤ listLimit
-Room (Due count) = count ≤ listLimit
-Room (Bare first len count) = count < listLimit
-Room (Quoted first len count) = (count < listLimit) × (len ≤ labelLimit)
-Room (Closed count) = count ≤ listLimit
+-- the most bytes of a token and the comma after it
+abbrev pub tokenRoom : ℕ
+tokenRoom = tokenLimit + 1
 
--- the token of len bytes at first stands for the same label as one of the `count` before it
+-- the token of len bytes at first, with `count` before it, can be kept: an entry of the arrays is free, and both numbers fit it, since
+-- a byte holds `tokenLimit` and two bytes hold `tokenRoom * listLimit`
+pub record Fits (first len count : ℕ) : Type 0 where
+  pub free : count < listLimit
+  pub short : len ≤ tokenLimit
+  pub early : first ≤ tokenRoom * count
+
+-- with `at` bytes read, the label of this stage fits, and each later one will
+abbrev pub Room : Stage → (at : ℕ) → Type 0
+Room Start at = at ≤ 0
+Room (Due count) at = (count ≤ listLimit) × (at ≤ tokenRoom * count)
+Room (Bare first len count) at = Fits first len count × (at ≤ first + len)
+Room (Quoted first len count) at = Fits first (len + 2) count × (at ≤ first + len + 1)
+Room (Closed count) at = (count ≤ listLimit) × (at + 1 ≤ tokenRoom * count)
+
+-- the token of len bytes at first decodes to the same label as one of the `count` before it
 unfoldable pub repeatOf : List ℕ → List ℕ → List ℕ → (count first len : ℕ) → Bool
 repeatOf text start size count first len = isAmong text start size count (partOf first len text)
 
@@ -67,7 +79,7 @@ dueOf Semicolon at count = Stop BadByte at
 dueOf Blank at count = Stop BadByte at
 dueOf Other at count = Stop BadByte at
 
--- the label has ended; where it is new, `following` counts
+-- the label has ended; if it is new, `following` counts
 unfoldable pub closeOf : List ℕ → List ℕ → List ℕ → (count first len : ℕ) → Outcome → After
 unfolding repeatOf
 closeOf text start size count first len following =

@@ -1,5 +1,5 @@
--- What an answer of the list reader says in the scope paper's terms: how many labels, or a row of the table "Why a job is turned down"
--- with its number, body letter and place.
+-- An answer of the list reader in 01's terms: how many labels, or a row of the table "Why a job is turned down" with its number, body
+-- letter and place.
 use Prim.Native.Nat.{ℕ}
 use mathlib.Core.List.{List}
 use Rattle.trees.specs.declared.Body.{Body}
@@ -14,7 +14,7 @@ unfolding rowOf
 listSays (Labels n) = value n
 listSays (Refused r) = rowOf r
 
--- what the reader says by an edition of a text that is given as a body
+-- the answer under an edition for a text given as a body
 unfoldable pub saysOf : Edition → Body → List ℕ → Said ℕ
 unfolding listRead readListIn listSays
 saysOf e body text = listSays (listRead body (readListIn e text) .answer)

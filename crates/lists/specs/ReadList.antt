@@ -1,6 +1,6 @@
--- Reading a list of labels from left to right: "The required list is empty, or labels joined by `,` with nothing else, at most
--- 80, all different." Scope paper, "Tree text" and rows 1 to 5 of "Why a job is turned down"; request paper, C-12. The labels read are
--- tokens, as they stand in the text; they are compared as decoded.
+-- Reading a list of labels from left to right: "The required list is empty, or labels joined by `,` with nothing else, at most 80, all
+-- different." 01, "Tree text" and rows 1 to 5 of "Why a job is turned down"; C-12. The labels that are returned are tokens; they are
+-- compared as decoded.
 use Prim.Native.Nat.{ℕ, _+_, _≤_}
 use mathlib.Core.Path.{_≡_}
 use mathlib.Core.Bool.{Bool, true, cond}
@@ -27,8 +27,8 @@ use Rattle.lists.specs.declared.ListRead.{ListRead}
 abbrev pub listLimit : ℕ
 listLimit = 80
 
--- where the reader stands: at the start, after a comma, inside a label without quotes or between quotes with these bytes so far, or just
--- after the closing quote of this label
+-- where the reader is: at the start; after a comma; inside a bare label, or between quotes, with its bytes so far; just after the closing
+-- quote of this label
 pub data Phase : Type 0 where
   atStart : Phase
   labelDue : Phase
@@ -36,16 +36,16 @@ pub data Phase : Type 0 where
   inQuotes : List ℕ → Phase
   afterQuote : Token → Phase
 
--- one step: the next phase with the labels that are complete, as they stand in the text, or a refusal's reason at this byte
+-- one step: the next phase with the tokens that are complete, or a refusal's reason at this byte
 pub data Step : Type 0 where
   next : Phase → List Token → Step
   stop : Reason → Step
 
--- a label begins, after as many as there may be or not; `repeat` says whether it was seen before. "At the same place 4 goes before 5"
+-- A label begins. `full`: the list has its 80 labels already. `repeat`: the label was seen before. "At the same place 4 goes before 5"
 unfoldable pub begins : (full repeat : Bool) → Phase → List Token → Step
 begins full repeat p seen = cond full (stop TooMany) (cond repeat (stop Repeated) (next p seen))
 
--- a label goes on, after as many bytes as it may have or not
+-- A label goes on. `full`: it has its 32 bytes already.
 unfoldable pub goesOn : (full : Bool) → Phase → List Token → Step
 goesOn full p seen = cond full (stop LabelTooLong) (next p seen)
 
@@ -124,7 +124,7 @@ unfoldable pub readList : List ℕ → Reading (List Token)
 unfolding readFrom
 readList text = readFrom atStart [] 0 text
 
--- by an edition, which decides whether a label repeats
+-- under an edition, which decides whether a label repeats
 unfoldable pub readListIn : Edition → List ℕ → Reading (List Token)
 unfolding readList asStands
 readListIn e text = asStands (readList (inEdition e text)) (readList text)
@@ -166,7 +166,7 @@ unfoldable pub placesOf : List Token → LabelPlaces
 unfolding startsOf sizesOf
 placesOf xs = record { count = length xs; start = padded (startsOf xs 0); size = padded (sizesOf xs) }
 
--- the answer of the list reader, told which body it reads
+-- the answer of the list reader for the given body
 unfoldable pub listRead : Body → Reading (List Token) → ListRead
 unfolding placesOf
 listRead body (good xs) = record { answer = Labels (length xs); places = placesOf xs }

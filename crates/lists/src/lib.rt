@@ -9,16 +9,15 @@ use trees::Reason;
 use trees::Refusal;
 use trees::SLOTS;
 ghost use mathlib.Core.Path.{_≡_};
-ghost use Prim.Native.Nat.{_+_, _<_, _≤_};
+ghost use Prim.Native.Nat.{_+_};
 ghost use lib.ListN.{length, set};
 ghost use Rattle.lists.specs.ReadList.{listLimit, listRead, readListIn};
 ghost use Rattle.trees.specs.Edition.{inEdition};
-ghost use Rattle.trees.specs.Label.{labelLimit};
 ghost use Rattle.trees.specs.Slots.{Marked};
 ghost use Rattle.trees.specs.declared.Reason.the-variants.{EndsTooSoon};
 ghost use Rattle.lists.specs.declared.Stage.the-variants.{Quoted};
 ghost use Rattle.lists.specs.declared.ListAnswer.the-variants.{Refused};
-ghost use Rattle.lists.specs.ListMachine.{Room, after, answerOf, bareOf, beginOf, closeOf, closedOf, dueOf, endAt, ended};
+ghost use Rattle.lists.specs.ListMachine.{Fits, Room, after, answerOf, bareOf, beginOf, closeOf, closedOf, dueOf, endAt, ended};
 ghost use Rattle.lists.specs.ListMachine.{moreOf, quoteOf, quotedOf, repeatOf, stepOf};
 
 // The most labels of a list.
@@ -30,11 +29,11 @@ pub enum ListAnswer {
     Refused(Refusal),
 }
 
-// Where the labels of a list stand in its text, in list order.
+// Where the labels of a list stand in its text, in list order. Entries are as narrow as a list's limits allow: places are passed by value.
 pub struct LabelPlaces {
     pub count: usize,
-    pub start: [usize; LIST_LIMIT],
-    pub size: [usize; LIST_LIMIT],
+    pub start: [u16; LIST_LIMIT],
+    pub size: [u8; LIST_LIMIT],
 }
 
 // The answer with the places beside it; those of a refusal hold no label.
@@ -123,11 +122,11 @@ fn keep(
     first: usize,
     len: usize,
     count: usize,
-    start: &mut [usize; LIST_LIMIT],
-    size: &mut [usize; LIST_LIMIT],
+    start: &mut [u16; LIST_LIMIT],
+    size: &mut [u8; LIST_LIMIT],
     seen: &mut [u8; SLOTS],
 ) -> bool
-    requires { ⌜ count < listLimit ⌝ }
+    requires { ⌜ Fits first len count ⌝ }
     requires { ⌜ Marked listLimit (inEdition edition (now text)) (now start) (now size) (now seen) ⌝ }
     ensures { λ r. ⌜ r ≡ repeatOf (inEdition edition (now (text .entry))) (now (start .entry)) (now (size .entry)) count first len ⌝ }
     ensures { λ r. ⌜ now (start .exit) ≡ set (now (start .entry)) count first ⌝ }
@@ -138,8 +137,8 @@ fn keep(
     let slot = trees::slot(edition, token);
     let found = trees::is_met(edition, text, start, size, count, token, seen, slot);
     seen[slot] = 1;
-    start[count] = first;
-    size[count] = len;
+    start[count] = trees::narrow_place(first);
+    size[count] = trees::narrow(len);
     found
 }
 
@@ -150,12 +149,12 @@ fn close(
     first: usize,
     len: usize,
     count: usize,
-    start: &mut [usize; LIST_LIMIT],
-    size: &mut [usize; LIST_LIMIT],
+    start: &mut [u16; LIST_LIMIT],
+    size: &mut [u8; LIST_LIMIT],
     seen: &mut [u8; SLOTS],
     following: Outcome,
 ) -> Outcome
-    requires { ⌜ count < listLimit ⌝ }
+    requires { ⌜ Fits first len count ⌝ }
     requires { ⌜ Marked listLimit (inEdition edition (now text)) (now start) (now size) (now seen) ⌝ }
     ensures { λ r. ⌜
         after r (now (start .exit)) (now (size .exit))
@@ -178,11 +177,11 @@ fn bare(
     first: usize,
     len: usize,
     count: usize,
-    start: &mut [usize; LIST_LIMIT],
-    size: &mut [usize; LIST_LIMIT],
+    start: &mut [u16; LIST_LIMIT],
+    size: &mut [u8; LIST_LIMIT],
     seen: &mut [u8; SLOTS],
 ) -> Outcome
-    requires { ⌜ count < listLimit ⌝ }
+    requires { ⌜ Fits first len count ⌝ }
     requires { ⌜ Marked listLimit (inEdition edition (now text)) (now start) (now size) (now seen) ⌝ }
     ensures { λ r. ⌜
         after r (now (start .exit)) (now (size .exit))
@@ -246,12 +245,11 @@ fn quote(
     first: usize,
     len: usize,
     count: usize,
-    start: &mut [usize; LIST_LIMIT],
-    size: &mut [usize; LIST_LIMIT],
+    start: &mut [u16; LIST_LIMIT],
+    size: &mut [u8; LIST_LIMIT],
     seen: &mut [u8; SLOTS],
 ) -> Outcome
-    requires { ⌜ count < listLimit ⌝ }
-    requires { ⌜ len ≤ labelLimit ⌝ }
+    requires { ⌜ Fits first (len + 2) count ⌝ }
     requires { ⌜ Marked listLimit (inEdition edition (now text)) (now start) (now size) (now seen) ⌝ }
     ensures { λ r. ⌜
         after r (now (start .exit)) (now (size .exit))
@@ -285,12 +283,11 @@ fn quoted(
     first: usize,
     len: usize,
     count: usize,
-    start: &mut [usize; LIST_LIMIT],
-    size: &mut [usize; LIST_LIMIT],
+    start: &mut [u16; LIST_LIMIT],
+    size: &mut [u8; LIST_LIMIT],
     seen: &mut [u8; SLOTS],
 ) -> Outcome
-    requires { ⌜ count < listLimit ⌝ }
-    requires { ⌜ len ≤ labelLimit ⌝ }
+    requires { ⌜ Fits first (len + 2) count ⌝ }
     requires { ⌜ Marked listLimit (inEdition edition (now text)) (now start) (now size) (now seen) ⌝ }
     ensures { λ r. ⌜
         after r (now (start .exit)) (now (size .exit))
@@ -333,11 +330,11 @@ fn step(
     kind: Kind,
     at: usize,
     stage: Stage,
-    start: &mut [usize; LIST_LIMIT],
-    size: &mut [usize; LIST_LIMIT],
+    start: &mut [u16; LIST_LIMIT],
+    size: &mut [u8; LIST_LIMIT],
     seen: &mut [u8; SLOTS],
 ) -> Outcome
-    requires { ⌜ Room stage ⌝ }
+    requires { ⌜ Room stage at ⌝ }
     requires { ⌜ Marked listLimit (inEdition edition (now text)) (now start) (now size) (now seen) ⌝ }
     ensures { λ r. ⌜
         after r (now (start .exit)) (now (size .exit))
@@ -393,11 +390,11 @@ fn at_end(
     text: &[u8],
     body: Body,
     stage: Stage,
-    start: &mut [usize; LIST_LIMIT],
-    size: &mut [usize; LIST_LIMIT],
+    start: &mut [u16; LIST_LIMIT],
+    size: &mut [u8; LIST_LIMIT],
     seen: &mut [u8; SLOTS],
 ) -> ListAnswer
-    requires { ⌜ Room stage ⌝ }
+    requires { ⌜ Room stage (length (now text)) ⌝ }
     requires { ⌜ Marked listLimit (inEdition edition (now text)) (now start) (now size) (now seen) ⌝ }
     ensures { λ r. ⌜
         ended r (now (start .exit)) (now (size .exit))
@@ -427,7 +424,7 @@ fn at_end(
 }
 
 // The answer with the places of its labels.
-fn told(answer: ListAnswer, start: [usize; LIST_LIMIT], size: [usize; LIST_LIMIT]) -> ListRead
+fn told(answer: ListAnswer, start: [u16; LIST_LIMIT], size: [u8; LIST_LIMIT]) -> ListRead
     ensures { λ r. ⌜ r ≡ answerOf answer start size ⌝ }
 {
     match answer {
@@ -435,17 +432,14 @@ fn told(answer: ListAnswer, start: [usize; LIST_LIMIT], size: [usize; LIST_LIMIT
             answer,
             places: LabelPlaces { count, start, size },
         },
-        ListAnswer::Refused(_) => {
-            let none = [0usize; LIST_LIMIT];
-            ListRead {
-                answer,
-                places: LabelPlaces {
-                    count: 0,
-                    start: none,
-                    size: none,
-                },
-            }
-        }
+        ListAnswer::Refused(_) => ListRead {
+            answer,
+            places: LabelPlaces {
+                count: 0,
+                start: [0; LIST_LIMIT],
+                size: [0; LIST_LIMIT],
+            },
+        },
     }
 }
 
@@ -454,8 +448,8 @@ pub fn read_list(edition: Edition, text: &[u8], body: Body) -> ListRead
     ensures { λ r. ⌜ r ≡ listRead body (readListIn edition (now (text .entry))) ⌝ }
 {
     let table = trees::classes();
-    let mut start = [0usize; LIST_LIMIT];
-    let mut size = [0usize; LIST_LIMIT];
+    let mut start = [0u16; LIST_LIMIT];
+    let mut size = [0u8; LIST_LIMIT];
     let mut seen = trees::first_marks();
     let mut stage = Stage::Start;
     let mut i: usize = 0;

@@ -34,7 +34,8 @@ use Rattle.lists.specs.declared.LabelPlaces.{LabelPlaces}
 use Rattle.lists.specs.declared.ListAnswer.the-variants.{Labels, Refused as ListRefused}
 use Rattle.lists.specs.declared.ListRead.{ListRead}
 use Rattle.lists.specs.ReadList.{readList, readListIn, listRead, placesOf, listLimit, foldedList, keysOf}
-use Rattle.lists.proofs.EditionLists.{list-accepts-in, one-list, places-folded, joined-folded, list-starts-folded}
+use Rattle.lists.proofs.EditionLists.{list-accepts-in, one-list, places-folded, joined-folded}
+use Rattle.agreement.proofs.PlaceLaws.{number-folded}
 use Rattle.agreement.specs.Closer.{holds}
 use Rattle.agreement.specs.Sets.{common, increasing}
 use Rattle.agreement.proofs.SetLaws.{common-inc, in-common, common-in}
@@ -47,7 +48,7 @@ use Rattle.leaves.specs.Numbered.{Numbered}
 use Rattle.triples.specs.declared.Three.{Three}
 use Rattle.triples.proofs.Ranks.{place-number}
 use Rattle.mast.specs.declared.LargestAnswer.the-variants.{Disagree}
-use Rattle.mast.specs.Largest.{Solution, clashed, turned, solutionOf, solveList, strayFor, sharedThen, treesThen, Task, task, plain, solve, setPlaces, largestOf, outputOf}
+use Rattle.mast.specs.Largest.{Solution, clashed, turned, solutionOf, solveList, strayFor, sharedThen, secondThen, treesThen, Task, task, plain, solve, setPlaces, largestOf, outputOf}
 use Rattle.mast.specs.declared.Options.{Options}
 use Rattle.table.specs.Choice.{chosenFrom, Solved}
 use Rattle.mast.specs.Engine.{OwnLeaves, OwnList, Ordered}
@@ -60,6 +61,9 @@ use Rattle.mast.specs.Given.{Reads}
 use Rattle.mast.specs.declared.strict.Shared.the-variants as shared
 use Rattle.mast.specs.Strays.{sharedOf}
 use Rattle.mast.specs.Bodies.{Bodies, unreadTree, unreadList, lackOf}
+use Rattle.mast.specs.BothTrees.{Trees, refusedBy, both, readTrees, afterTrees, TreesRead, PairIs}
+use Rattle.mast.specs.declared.reading.Pair.{Pair}
+use Rattle.mast.specs.declared.reading.Way.the-variants.{Clear, Stopped}
 use Rattle.mast.proofs.RankLaws.{proper-nodes, own-proper}
 use Rattle.mast.proofs.RequiredLaws.{marked-all, marked-common}
 use Rattle.mast.proofs.StrayLaws.{shared-nowhere}
@@ -175,28 +179,6 @@ module _ {e : Edition} {text : List ℕ} {places : LabelPlaces} (r : ListAs e te
         count-is = ap (λ p. p .count) folded-places;
       }
 
-unfoldable pub bodies-of : {e : Edition} {first second list : List ℕ} {tree1 tree2 : TreeArrays} {places : LabelPlaces} {m n : ℕ}
-    (one : ReadAs e first tree1 m) (two : ReadAs e second tree2 n) (three : ListAs e list places) (partner : List ℕ) (most : ℕ)
-    → Partners (tree1 .nodes) (keyed e (one .of)) (keyed e (two .of)) partner → most ≡ min m n
-    → Bodies e first list tree1 tree2 partner places most
-bodies-of {e} {first} one two three partner most p d =
-    let a = accepts-in e first (one .of) (one .is) in
-    record {
-      s = one .of;
-      t = two .of;
-      K = three .of;
-      valid1 = a .1;
-      first-text = a .0;
-      one = tree-leaves one;
-      valid2 = tree-leaves two .valid;
-      first-arrays = folded-arrays one;
-      second-arrays = folded-arrays two;
-      own-list = list-labels three;
-      list-places = folded-places three;
-      partners = p;
-      bound = d ∙ ap₂ min (one .count-is ∙ sym (keyed-count e (one .of))) (two .count-is ∙ sym (keyed-count e (two .of)));
-    }
-
 -- a body that is not read ends the job there, and so does a leaf that stands in only one tree of a strict job
 
 module _ {R : Type 0} (stop : Refusal → R) (o : Options) (first second : List ℕ) (on : Tree → Tree → R) where
@@ -236,6 +218,23 @@ module _ {R : Type 0} (stop : Refusal → R) (o : Options) (first second : List 
     unfolding sharedThen
     all-then k = trees-then nowhere k
 
+-- S, T and 12 as data, and what comes after them
+pub pair-then : {R : Type 0} (stop : Refusal → R) (o : Options) (first second : List ℕ) (on : Tree → Tree → R)
+    → treesThen stop o (readTreeIn (o .edition) first) (readTreeIn (o .edition) second) on ≡ afterTrees stop on (readTrees o first second)
+unfolding readTrees treesThen secondThen sharedThen
+pair-then stop o first second on = go (readTreeIn (o .edition) first) (readTreeIn (o .edition) second)
+  where
+    strays : (s t : Tree) (x : Stray)
+        → sharedThen stop (o .edition) s t (on s t) x ≡ afterTrees stop on (sharedThen refusedBy (o .edition) s t (both s t) x)
+    strays s t (inFirst x) = refl
+    strays s t (inSecond x) = refl
+    strays s t nowhere = refl
+
+    go : (x y : Reading Tree) → treesThen stop o x y on ≡ afterTrees stop on (treesThen refusedBy o x y both)
+    go (good s) (good t) = strays s t (strayFor o s t)
+    go (good s) (refused r i) = refl
+    go (refused r i) y = refl
+
 pub all-shared : (o : Options) (s t : Tree)
     → shared.All ≡ sharedOf (folded (o .edition) s) (folded (o .edition) t) (strayFor o s t) → strayFor o s t ≡ nowhere
 unfolding sharedOf
@@ -245,6 +244,82 @@ all-shared o s t k = go (strayFor o s t) k
     go (inFirst x) k = let z : _≡_ {A = ℕ} 0 1 = cc in absurd (omega arith)
     go (inSecond x) k = let z : _≡_ {A = ℕ} 0 1 = cc in absurd (omega arith)
     go nowhere k = refl
+
+-- what the reading of both trees says
+module _ (o : Options) (first second : List ℕ) where
+  pub trees-first : (a : Refusal) → Unread Tree (readTreeIn (o .edition) first) S a → readTrees o first second ≡ refusedBy a
+  unfolding readTrees
+  trees-first a u = first-unread refusedBy o first second both a u
+
+  pub trees-second : (s : Tree) → readTreeIn (o .edition) first ≡ good s → (a : Refusal) → Unread Tree (readTreeIn (o .edition) second) T a
+      → readTrees o first second ≡ refusedBy a
+  unfolding readTrees
+  trees-second s e a u = second-unread refusedBy o first second both s e a u
+
+  pub trees-stray : (s t : Tree) → readTreeIn (o .edition) first ≡ good s → readTreeIn (o .edition) second ≡ good t → (p : Refusal)
+      → shared.Stray p ≡ sharedOf (folded (o .edition) s) (folded (o .edition) t) (strayFor o s t) → readTrees o first second ≡ refusedBy p
+  unfolding readTrees
+  trees-stray s t e f p k = stray-stops refusedBy o first second both s t e f p k
+
+  pub trees-both : (s t : Tree) → readTreeIn (o .edition) first ≡ good s → readTreeIn (o .edition) second ≡ good t
+      → strayFor o s t ≡ nowhere → readTrees o first second ≡ both s t
+  unfolding readTrees
+  trees-both s t e f k = all-then refusedBy o first second both s t e f k
+
+  pub pair-stopped : (r : Pair) (q : Refusal) → r .way ≡ Stopped q → readTrees o first second ≡ refusedBy q → PairIs o first second r
+  pair-stopped r q e d = record { stopped = λ p f. d ∙ ap refusedBy (same (sym e ∙ f)); clear = λ f. other (sym e ∙ f) }
+    where
+      same : {p : Refusal} → Stopped q ≡ Stopped p → q ≡ p
+      same h = cc
+
+      other : Stopped q ≡ Clear → TreesRead o first second r
+      other h = let z : _≡_ {A = ℕ} 0 1 = cc in absurd (omega arith)
+
+  pub pair-clear : (r : Pair) {m n : ℕ} (one : ReadAs (o .edition) first (r .tree1) m) (two : ReadAs (o .edition) second (r .tree2) n)
+      → r .way ≡ Clear → strayFor o (one .of) (two .of) ≡ nowhere
+      → Partners (r .tree1 .nodes) (keyed (o .edition) (one .of)) (keyed (o .edition) (two .of)) (r .partner) → r .most ≡ min m n
+      → PairIs o first second r
+  pair-clear r one two e k p d =
+      let a = accepts-in (o .edition) first (one .of) (one .is) in
+      record {
+        stopped = λ q f. other (sym e ∙ f);
+        clear = λ _.
+            record {
+              s = one .of;
+              t = two .of;
+              is = trees-both (one .of) (two .of) (one .is) (two .is) k;
+              valid1 = a .1;
+              first-text = a .0;
+              one = tree-leaves one;
+              valid2 = tree-leaves two .valid;
+              first-arrays = folded-arrays one;
+              second-arrays = folded-arrays two;
+              partners = p;
+              bound = d ∙ ap₂ min (one .count-is ∙ sym (keyed-count (o .edition) (one .of))) (two .count-is ∙ sym (keyed-count (o .edition) (two .of)));
+            };
+      }
+    where
+      other : {q : Refusal} → Clear ≡ Stopped q → readTrees o first second ≡ refusedBy q
+      other h = let z : _≡_ {A = ℕ} 0 1 = cc in absurd (omega arith)
+
+unfoldable pub bodies-from : {o : Options} {first second list : List ℕ} {r : Pair} {places : LabelPlaces} → TreesRead o first second r
+    → ListAs (o .edition) list places → Bodies (o .edition) first list (r .tree1) (r .tree2) (r .partner) places (r .most)
+bodies-from two three =
+    record {
+      s = two .s;
+      t = two .t;
+      K = three .of;
+      valid1 = two .valid1;
+      first-text = two .first-text;
+      one = two .one;
+      valid2 = two .valid2;
+      first-arrays = two .first-arrays;
+      second-arrays = two .second-arrays;
+      own-list = list-labels three;
+      list-places = folded-places three;
+      partners = two .partners;
+      bound = two .bound;
+    }
 
 module _ (q : Task) (room : ℕ) where
   abbrev E : Edition
@@ -257,29 +332,26 @@ module _ (q : Task) (room : ℕ) where
   unfolding solve
   solve-then = refl
 
-  pub solve-first : (a : Refusal) → Unread Tree (readTreeIn E (q .first)) S a → solve q room ≡ turned a
-  solve-first a u = solve-then ∙ first-unread turned (q .options) (q .first) (q .second) On a u
+  pub solve-after : (x : Trees) → readTrees (q .options) (q .first) (q .second) ≡ x → solve q room ≡ afterTrees turned On x
+  solve-after x e = solve-then ∙ pair-then turned (q .options) (q .first) (q .second) On ∙ ap (afterTrees turned On) e
 
-  pub solve-second : (s : Tree) → readTreeIn E (q .first) ≡ good s → (a : Refusal) → Unread Tree (readTreeIn E (q .second)) T a
-      → solve q room ≡ turned a
-  solve-second s e a u = solve-then ∙ second-unread turned (q .options) (q .first) (q .second) On s e a u
+  pub solve-unlisted : (s t : Tree) → readTrees (q .options) (q .first) (q .second) ≡ both s t → (a : Refusal)
+      → Unread (List Token) (readListIn E (q .required)) K a → solve q room ≡ turned a
+  unfolding solveList
+  solve-unlisted s t e a u = solve-after (both s t) e ∙ (rw (u .is, u .told) refl)
+
+  pub solve-listed : (s t : Tree) → readTrees (q .options) (q .first) (q .second) ≡ both s t → (xs : List Token)
+      → readListIn E (q .required) ≡ good xs → solve q room ≡ solutionOf E s xs room (answer (keyed E s) (keyed E t) (keysOf E xs))
+  unfolding solveList
+  solve-listed s t e xs g = solve-after (both s t) e ∙ (rw g refl)
 
   module _ (s t : Tree) (e : readTreeIn E (q .first) ≡ good s) (f : readTreeIn E (q .second) ≡ good t) where
     pub solve-trees : (r : Stray) → strayFor (q .options) s t ≡ r → solve q room ≡ sharedThen turned E s t (On s t) r
     solve-trees r k = solve-then ∙ trees-then turned (q .options) (q .first) (q .second) On s t e f r k
 
-    pub solve-stray : (p : Refusal) → shared.Stray p ≡ sharedOf (folded E s) (folded E t) (strayFor (q .options) s t) → solve q room ≡ turned p
-    solve-stray p k = solve-then ∙ stray-stops turned (q .options) (q .first) (q .second) On s t e f p k
-
-    pub list-not-read : strayFor (q .options) s t ≡ nowhere → (a : Refusal) → Unread (List Token) (readListIn E (q .required)) K a
-        → solve q room ≡ turned a
-    unfolding sharedThen solveList
-    list-not-read k a u = solve-trees nowhere k ∙ (rw (u .is, u .told) refl)
-
     pub solve-read : strayFor (q .options) s t ≡ nowhere → (xs : List Token) → readListIn E (q .required) ≡ good xs
         → solve q room ≡ solutionOf E s xs room (answer (keyed E s) (keyed E t) (keysOf E xs))
-    unfolding sharedThen solveList
-    solve-read k xs g = solve-trees nowhere k ∙ (rw g refl)
+    solve-read k xs g = solve-listed s t (trees-both (q .options) (q .first) (q .second) s t e f k) xs g
 
     pub strict-as-plain : SameLeaves (keyed E s) (keyed E t)
         → solve q room ≡ solve (task (plain E) (q .first) (q .second) (q .required)) room
@@ -323,11 +395,6 @@ unfolding solutionOf
 lack-solved e s xs room = lack-stops (solutionOf e s xs room) turned K xs (λ n. refl) (λ n. refl)
 
 -- number 6 or 7: the first label of the list that is not common
-
--- a label's number in a list tells its place, however it is spelled
-pub number-folded : (e : Edition) (xs : List Token) (n : ℕ) → placeOfNumber (foldedList e xs) n ≡ placeOfNumber xs n
-unfolding placeOfNumber
-number-folded e xs n = ap (λ (l : List ℕ). getD l n 0) (list-starts-folded e xs 0)
 
 module _ (e : Edition) (s t : Tree) (xs : List Token) (first list : List ℕ) (tree1 : TreeArrays) (places : LabelPlaces) (n : ℕ)
     (h : FirstMissing (folded e s) (folded e t) (foldedList e xs) first list tree1 places n) where

@@ -10,6 +10,7 @@ use native.Mathlib.Omega.{arith}
 use lib.Dec.{eqb, ltb}
 use lib.ListN.{length, getD, length-map}
 use borrow.Author.Tests.{eqb-true, eqb-false, ltb-true, ltb-false, lt-ltb, le-ltb}
+use Rattle.trees.specs.declared.Reason.the-variants.{NotShared}
 use Rattle.trees.specs.declared.Body.the-variants.{S, T, K, C as C′}
 use Rattle.trees.specs.declared.Refusal.{Refusal}
 use Rattle.trees.specs.declared.TreeArrays.{TreeArrays}
@@ -28,17 +29,18 @@ use Rattle.lists.specs.ReadList.{readListIn, placesOf, foldedList, keysOf}
 use Rattle.newick.specs.ReadTree.{readTreeIn}
 use Rattle.trees.specs.Reading.{good}
 use Rattle.agreement.specs.Sets.{common, setOf}
-use Rattle.agreement.specs.Closer.{Common}
+use Rattle.agreement.specs.Closer.{holds, Common}
 use Rattle.agreement.specs.Answer.{Answer, firstLacks, secondLacks, disagree, largest, answer}
-use Rattle.agreement.specs.Places.{placeOfNumber}
-use Rattle.agreement.specs.Strict.{nowhere}
+use Rattle.agreement.specs.Places.{placeIn, placeOfNumber}
+use Rattle.agreement.specs.Strict.{IsStray, inFirst, inSecond, nowhere}
+use Rattle.agreement.proofs.PlaceLaws.{number-folded}
 use Rattle.agreement.specs.Demand.{IsAnswer}
 use Rattle.agreement.proofs.Promises as agreement
 use Rattle.newick.proofs.EditionReads.{accepts-in}
 use Rattle.lists.proofs.EditionLists.{list-accepts-in}
 use Rattle.trees.proofs.EditionLaws.{valid-folded}
 use Rattle.mast.specs.Given.{Reads}
-use Rattle.mast.proofs.StrayLaws.{shared-nowhere}
+use Rattle.mast.proofs.StrayLaws.{shared-nowhere, stray-told}
 use Rattle.agreement.proofs.SetLaws.{number-of, common-in}
 use Rattle.leaves.specs.Numbered.{Numbered}
 use Rattle.table.specs.Choice.{Ranked, Marked, Posed}
@@ -54,9 +56,10 @@ use Rattle.mast.specs.Compare.{Comparison, compareLists, compareRead, co
 use Rattle.mast.specs.Comparing.{clashOf, AllHeld, ClashIs, BothLists}
 use Rattle.mast.specs.declared.LargestAnswer.the-variants.{Disagree}
 use Rattle.mast.specs.Bodies.{lackOf, Bodies}
+use Rattle.mast.specs.BothTrees.{Trees, both, readTrees, afterTrees}
 use Rattle.mast.specs.declared.strict.Shared.the-variants as shared
 use Rattle.mast.specs.Strays.{sharedOf}
-use Rattle.mast.proofs.BodyLaws.{number-folded, eight-result, lack-stops, Unread, first-unread, second-unread, stray-stops, all-then, ListAs, list-labels, folded-places}
+use Rattle.mast.proofs.BodyLaws.{eight-result, lack-stops, Unread, pair-then, trees-first, trees-second, trees-stray, trees-both, ListAs, list-labels, folded-places}
 
 -- ---- the first label of a list that another lacks
 
@@ -433,36 +436,63 @@ module _ (q : Task) (other : List ℕ) where
   unfolding compare
   compare-then = refl
 
+  pub compare-after : (x : Trees) → readTrees (q .options) (q .first) (q .second) ≡ x → compare q other ≡ afterTrees stopped On x
+  compare-after x e = compare-then ∙ pair-then stopped (q .options) (q .first) (q .second) On ∙ ap (afterTrees stopped On) e
+
+  module _ (s t : Tree) (e : readTrees (q .options) (q .first) (q .second) ≡ both s t) where
+    pub compare-unlisted : (a : Refusal) → Unread (List Token) (readListIn E (q .required)) K a → compare q other ≡ stopped a
+    unfolding compareRead
+    compare-unlisted a u = compare-after (both s t) e ∙ (rw (u .is, u .told) refl)
+
+    module _ (xs : List Token) (g : readListIn E (q .required) ≡ good xs) where
+      pub compare-unclaimed : (a : Refusal) → Unread (List Token) (readListIn E other) C′ a → compare q other ≡ stopped a
+      unfolding compareRead compareLists
+      compare-unclaimed a u = compare-after (both s t) e ∙ (rw (g, u .is, u .told) refl)
+
+      pub compare-listed : (ys : List Token) → readListIn E other ≡ good ys
+          → compare q other
+          ≡ compareAnswers E s xs ys (answer (keyed E s) (keyed E t) (keysOf E xs)) (answer (keyed E s) (keyed E t) (keysOf E ys))
+      unfolding compareRead compareLists
+      compare-listed ys h = compare-after (both s t) e ∙ (rw (g, h) refl)
+
   pub compare-first : (a : Refusal) → Unread Tree (readTreeIn E (q .first)) S a → compare q other ≡ stopped a
-  compare-first a u = compare-then ∙ first-unread stopped (q .options) (q .first) (q .second) On a u
+  compare-first a u = compare-after _ (trees-first (q .options) (q .first) (q .second) a u)
 
   pub compare-second : (s : Tree) → readTreeIn E (q .first) ≡ good s → (a : Refusal) → Unread Tree (readTreeIn E (q .second)) T a
       → compare q other ≡ stopped a
-  compare-second s e a u = compare-then ∙ second-unread stopped (q .options) (q .first) (q .second) On s e a u
+  compare-second s e a u = compare-after _ (trees-second (q .options) (q .first) (q .second) s e a u)
 
   module _ (s t : Tree) (e : readTreeIn E (q .first) ≡ good s) (f : readTreeIn E (q .second) ≡ good t) where
     pub compare-stray : (p : Refusal) → shared.Stray p ≡ sharedOf (folded E s) (folded E t) (strayFor (q .options) s t)
         → compare q other ≡ stopped p
-    compare-stray p k = compare-then ∙ stray-stops stopped (q .options) (q .first) (q .second) On s t e f p k
+    compare-stray p k = compare-after _ (trees-stray (q .options) (q .first) (q .second) s t e f p k)
+
+    pub compare-stray-first : q .options .strict ≡ true → (x : Label) → IsStray (keyed E s) (keyed E t) x
+        → compare q other ≡ stopped (record { reason = NotShared; body = S; place = placeIn (folded E s) 0 x })
+    unfolding sharedOf
+    compare-stray-first h x k = compare-stray _ (rw (stray-told (q .options) s t h (inFirst x) k) refl)
+
+    pub compare-stray-second : q .options .strict ≡ true → (x : Label)
+        → ((y : Label) → holds (keyed E s) y ≡ true → holds (keyed E t) y ≡ true) → IsStray (keyed E t) (keyed E s) x
+        → compare q other ≡ stopped (record { reason = NotShared; body = T; place = placeIn (folded E t) 0 x })
+    unfolding sharedOf
+    compare-stray-second h x a k = compare-stray _ (rw (stray-told (q .options) s t h (inSecond x) (a, k)) refl)
 
     module _ (k : strayFor (q .options) s t ≡ nowhere) where
-      compare-trees : compare q other ≡ compareRead E s t (readListIn E (q .required)) (readListIn E other)
-      compare-trees = compare-then ∙ all-then stopped (q .options) (q .first) (q .second) On s t e f k
+      read : readTrees (q .options) (q .first) (q .second) ≡ both s t
+      read = trees-both (q .options) (q .first) (q .second) s t e f k
 
       pub compare-list : (a : Refusal) → Unread (List Token) (readListIn E (q .required)) K a → compare q other ≡ stopped a
-      unfolding compareRead
-      compare-list a u = compare-trees ∙ (rw (u .is, u .told) refl)
+      compare-list = compare-unlisted s t read
 
       pub compare-other : (xs : List Token) → readListIn E (q .required) ≡ good xs → (a : Refusal)
           → Unread (List Token) (readListIn E other) C′ a → compare q other ≡ stopped a
-      unfolding compareRead compareLists
-      compare-other xs g a u = compare-trees ∙ (rw (g, u .is, u .told) refl)
+      compare-other = compare-unclaimed s t read
 
       pub compare-read : (xs ys : List Token) → readListIn E (q .required) ≡ good xs → readListIn E other ≡ good ys
           → compare q other
           ≡ compareAnswers E s xs ys (answer (keyed E s) (keyed E t) (keysOf E xs)) (answer (keyed E s) (keyed E t) (keysOf E ys))
-      unfolding compareRead compareLists
-      compare-read xs ys g h = compare-trees ∙ (rw (g, h) refl)
+      compare-read xs ys g = compare-listed s t read xs g ys
 
 pub compare-decides : (q : Task) (other : List ℕ) (s t : Tree) (xs ys : List Token) → Reads q s t xs
     → readListIn (q .options .edition) other ≡ good ys → (X : List Label)

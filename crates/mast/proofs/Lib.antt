@@ -6,6 +6,5 @@ pub mod OutcomeLaws
 pub mod Promises
 pub mod RankLaws
 pub mod RequiredLaws
-pub mod SaidLaws
 pub mod SolutionLaws
 pub mod StrayLaws

@@ -23,9 +23,8 @@ use Rattle.agreement.specs.Closer.{holds, Common}
 use Rattle.agreement.specs.Sets.{increasing, common, sorted, keep, setOf}
 use Rattle.agreement.proofs.SetLaws.{in-sorted, length-sorted, sorted-inc, keep-set, in-common, number-of}
 use Rattle.agreement.proofs.KeepLaws.{keep-cong}
-use Rattle.triples.specs.Loops.{labelIn}
 use Rattle.triples.specs.Clash.{rankOf}
-use Rattle.triples.proofs.Ranks.{label-at}
+use Rattle.triples.proofs.Ranks.{part-at}
 use Rattle.triples.proofs.RowLaws.{rank-at}
 use Rattle.leaves.specs.Find.{foundLeaf}
 use Rattle.leaves.specs.Numbered.{Numbered}
@@ -47,8 +46,7 @@ search-holds {t} {text} {left} {start} {size} {nodes} o x = go (bool-cases (hold
 -- token k of the list stands for its label k
 pub list-part : {K : List Token} {text start size : List ℕ} {count : ℕ} → OwnList K text start size count → (k : ℕ) → k < count
     → spelling (partOf (getD start k 0) (getD size k 0) text) ≡ getD (map spelling K) k []
-unfolding labelIn
-list-part {K} o k h = rw (o .text-is, o .start-is, o .size-is) (label-at K k (omega (arith, o .count-is)))
+list-part {K} o k h = rw (o .text-is, o .start-is, o .size-is) (part-at K k (omega (arith, o .count-is)))
 
 -- the search for a rank
 

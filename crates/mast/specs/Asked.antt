@@ -1,5 +1,5 @@
--- What is asked, once texts are read and labels have ranks: two trees by their arrays, the required labels, and three that clash.
--- Intermediate: nothing public rests on this text.
+-- The query once texts are read and labels have ranks: two trees by their arrays, the required labels, and three with different closer
+-- pairs. Intermediate: nothing public rests on this text.
 use Prim.Native.Nat.{ℕ, _<_, _≤_}
 use mathlib.Core.Path.{_≡_}
 use mathlib.Core.Bool.{Bool, true, false}
@@ -21,7 +21,7 @@ use Rattle.triples.specs.declared.Three.{Three}
 use Rattle.table.specs.Choice.{Marked}
 use Rattle.mast.specs.Engine.{OwnLeaves, OwnList}
 
--- a tree by its arrays, with its leaves by the rank in C of the labels that they stand for
+-- a tree by its arrays, with its leaves by the rank in C of their decoded labels
 pub record RankedArrays (t : Tree) (C : List Label) (tree : TreeArrays) (order : List ℕ) (m : ℕ) : Type 0 where
   pub valid : Valid t
   pub arrays-is : tree ≡ arraysOf t
@@ -58,11 +58,11 @@ pub record SomeAsked (tree1 tree2 : TreeArrays) (order1 order2 : List ℕ) (m : 
   pub K : List Token
   pub of : AskedOf s t K tree1 tree2 order1 order2 m number places
 
--- where three labels of the list stand in it
+-- the places of three labels in the list
 abbrev pub placesOfThree : List Token → Label → Label → Label → Three
 placesOfThree K a b c = record { first = placeOfLabel K 0 a; second = placeOfLabel K 0 b; third = placeOfLabel K 0 c }
 
--- three labels of the list that clash, if any do: their places in the list, and their leaves in the first tree
+-- three labels of the list with different closer pairs, if there are any: their places in the list, and their leaves in the first tree
 pub record ThreeIs (s t : Tree) (K : List Token) (apart : Bool) (places : Three) (leaves : List ℕ) : Type 0 where
   pub agreed : apart ≡ false → (X : List Label) × (answer (decoded s) (decoded t) (map spelling K) ≡ largest X)
       × (places ≡ record { first = 0; second = 0; third = 0 })

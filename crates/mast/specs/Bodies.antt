@@ -1,4 +1,4 @@
--- Three bodies, turned down or read, as the engine hands them on. Intermediate: nothing public rests on this text.
+-- Three bodies, refused or read, as the engine passes them on. Intermediate: nothing public rests on this text.
 use Prim.Native.Nat.{ℕ}
 use mathlib.Core.Path.{_≡_}
 use mathlib.Core.List.{List}
@@ -27,11 +27,11 @@ use Rattle.mast.specs.Largest.{solutionOf, largestOf, outputOf}
 use Rattle.mast.specs.Engine.{OwnLeaves, OwnList}
 use Rattle.mast.specs.Ranks.{Partners, mostCommon}
 
--- a refusal, where a text was read after all: it does not come there
+-- The refusal for a text that was read after all. This does not occur.
 unfoldable pub unreadBody : Body → Refusal
 unreadBody body = record { reason = EndsTooSoon; body = body; place = 0 }
 
--- the refusal of a body that was turned down
+-- the refusal of a body
 unfoldable pub unreadTree : TreeAnswer → Body → Refusal
 unfolding unreadBody
 unreadTree (Leaves n) body = unreadBody body
@@ -49,7 +49,7 @@ lackOf body xs (secondLacks n) = some (record { reason = SecondLacks; body = bod
 lackOf body xs (disagree a b c) = none
 lackOf body xs (largest X) = none
 
--- two trees and a list that were read, as they stand: what the engine's parts are handed of them, as the edition reads them
+-- two trees and a list that were read, and what the engine's parts receive of them, as the edition reads them
 pub record Bodies (e : Edition) (first list : List ℕ) (tree1 tree2 : TreeArrays) (partner : List ℕ) (places : LabelPlaces) (most : ℕ)
     : Type 0 where
   pub s : Tree
@@ -66,7 +66,7 @@ pub record Bodies (e : Edition) (first list : List ℕ) (tree1 tree2 : TreeArray
   pub partners : Partners (tree1 .nodes) (keyed e s) (keyed e t) partner
   pub bound : most ≡ mostCommon (keyed e s) (keyed e t)
 
--- the answer to them: what comes back, and what the output then holds
+-- the answer to them: what is returned, and what the output then holds
 pub record Settled (e : Edition) (s t : Tree) (K : List Token) (out new : List ℕ) (r : LargestResult) : Type 0 where
   pub result : r ≡ largestOf (solutionOf e s K (length out) (answer (keyed e s) (keyed e t) (keysOf e K)))
   pub output : new ≡ outputOf (solutionOf e s K (length out) (answer (keyed e s) (keyed e t) (keysOf e K))) out

@@ -1,4 +1,4 @@
--- A further list beside the required one, and three labels of a list that clash, as the engine's parts hand them on.
+-- A further list with the required one, and three labels of a list with different closer pairs, as the engine's parts pass them on.
 -- Intermediate: nothing public rests on this text.
 use Prim.Native.Nat.{ℕ}
 use mathlib.Core.Path.{_≡_}
@@ -18,21 +18,21 @@ use Rattle.mast.specs.Compare.{isThere, threeAt, threeIn}
 use Rattle.mast.specs.Engine.{OwnList}
 use Rattle.mast.specs.Bodies.{Bodies}
 
--- the first three labels that clash, as the answer names them
+-- the first three labels with different closer pairs, as the answer names them
 unfoldable pub clashOf : Answer → Option Three
 clashOf (firstLacks n) = none
 clashOf (secondLacks n) = none
 clashOf (disagree a b c) = some (record { one = a; two = b; three = c })
 clashOf (largest X) = none
 
--- both trees hold all labels of the list
+-- both trees have all labels of the list
 abbrev pub AllHeld : Answer → Type 0
 AllHeld (firstLacks n) = ⊥
 AllHeld (secondLacks n) = ⊥
 AllHeld (disagree a b c) = Prim.Unit {0}
 AllHeld (largest X) = Prim.Unit {0}
 
--- what is told of three labels that clash, where A is the answer to the list
+-- three labels with different closer pairs, if A, the answer to the list, names some
 pub record ClashIs (e : Edition) (s : Tree) (xs : List Token) (A : Answer) (apart : Bool) (three : places.Three) (set : LabelPlaces)
     : Type 0 where
   pub all-held : AllHeld A

@@ -1,6 +1,5 @@
--- What the parts of the engine hand to each other: arrays lent apart, and common labels by rank. Trees and lists that have a text are
--- as they are read, of tokens; what is told of labels is told of the decoded ones.
--- Intermediate: nothing public rests on this text.
+-- What the parts of the engine pass to each other: arrays lent apart, and common labels by rank. Trees and lists that have a text are of
+-- tokens; ranks are those of decoded labels. Intermediate: nothing public rests on this text.
 use Prim.Native.Nat.{ℕ, _≤_}
 use mathlib.Core.Path.{_≡_}
 use mathlib.Core.Bool.{true}
@@ -15,7 +14,7 @@ use Rattle.lists.specs.ReadList.{joined, placesOf, listLimit}
 use Rattle.agreement.specs.Sets.{common}
 use Rattle.leaves.specs.Numbered.{Numbered}
 
--- the text and the arrays of tree t that say where its leaves are
+-- the text and the arrays of tree t that locate its leaves
 pub record OwnLeaves (t : Tree) (text left start size : List ℕ) (nodes : ℕ) : Type 0 where
   pub valid : Valid t
   pub text-is : text ≡ textOf t
@@ -24,7 +23,7 @@ pub record OwnLeaves (t : Tree) (text left start size : List ℕ) (nodes : ℕ) 
   pub size-is : size ≡ arraysOf t .size
   pub nodes-is : nodes ≡ nodesOf t
 
--- the text of the list K and where its tokens stand
+-- the text of the list K and the places of its tokens
 pub record OwnList (K : List Token) (text start size : List ℕ) (count : ℕ) : Type 0 where
   pub good : goodLabels K ≡ true
   pub different : distinct (map spelling K) ≡ true

@@ -1,5 +1,5 @@
--- What the last steps of the engine hand to each other: places and flags by rank, and bodies that were read.
--- Intermediate: nothing public rests on this text.
+-- What the last steps of the engine pass to each other: places and flags by rank, and bodies that were read. Intermediate: nothing public
+-- rests on this text.
 use Prim.Native.Nat.{ℕ, _+_, _<_}
 use mathlib.Core.Path.{_≡_}
 use mathlib.Core.Bool.{Bool, false, cond}
@@ -35,7 +35,7 @@ pub record Stored (forced : Bool) (at len : ℕ) (old new : LabelPlaces) : Type 
   pub start : new .start ≡ cond forced (set (old .start) (old .count) at) (old .start)
   pub size : new .size ≡ cond forced (set (old .size) (old .count) len) (old .size)
 
--- the flags of the leaves of tree t tell whether the set X has their labels
+-- the flag of each leaf of tree t is whether the set X has its label
 abbrev pub Flagged : Tree → List Label → List Bool → Type 0
 Flagged t X kept = (u : ℕ) → u < nodesOf t → (x : Label) → subtree (postorder t) u ≡ leaf x → getD kept u false ≡ isIn x X
 
@@ -47,7 +47,7 @@ pub record ByRank (e : Edition) (t : Tree) (C : List Label) (tree : TreeArrays) 
   pub count : m ≡ length C
   pub numbered : Numbered (keyed e t) C order
 
--- what a set comes to in an output of `room` bytes
+-- the result for a set and an output of `room` bytes
 abbrev pub fittedSet : Edition → Tree → List Label → ℕ → Solution
 fittedSet e s X room = fitted e s X (keptTextIn e (restrictIn e (setOf X) s)) room
 

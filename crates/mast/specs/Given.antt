@@ -1,5 +1,5 @@
--- Texts that are read, and demand 3 of a set that comes back, sentence by sentence. Scope paper, "Conditions of acceptance";
--- request C-12: "The comparison with the definition is made on decoded labels.", as the edition reads them (request C-15).
+-- Texts that are read, and demand 3 for a set that is returned, sentence by sentence. 01, "Conditions of acceptance"; C-12: "The comparison
+-- with the definition is made on decoded labels.", as the edition reads them (C-15).
 use Prim.Native.Nat.{ℕ, _≤_}
 use mathlib.Core.Path.{_≡_}
 use mathlib.Core.Bool.{true}
@@ -20,15 +20,16 @@ use Rattle.agreement.specs.Demand.{IsAnswer}
 use Rattle.agreement.specs.Strict.{SameLeaves}
 use Rattle.mast.specs.Largest.{Task}
 
--- the texts are read as these two trees and this list, and where the job is strict both trees hold the same leaves (C-11): no row
--- before 6 turns the job away
+-- The texts are read as these two trees and this list. If the job is strict, both trees have the same leaves (C-11). So no number before 6
+-- is given.
 pub record Reads (q : Task) (s t : Tree) (K : List Token) : Type 0 where
   pub first-is : readTreeIn (q .options .edition) (q .first) ≡ good s
   pub second-is : readTreeIn (q .options .edition) (q .second) ≡ good t
   pub shared : q .options .strict ≡ true → SameLeaves (keyed (q .options .edition) s) (keyed (q .options .edition) t)
   pub list-is : readListIn (q .options .edition) (q .required) ≡ good K
 
--- a set comes back: the answer, with the text of the restriction of the first tree, which fits; up to spelling it is that of the second's
+-- A set is returned: it is the answer, and the text of the first tree's restriction fits. Up to spelling that is the text of the second
+-- tree's restriction.
 pub record SetGiven (e : Edition) (s t : Tree) (xs : List Token) (X : List Label) (text : List ℕ) (room : ℕ) : Type 0 where
   pub isAnswer : IsAnswer (keyed e s) (keyed e t) (keysOf e xs) X
   pub first-text : text ≡ keptTextIn e (restrictIn e (setOf X) s)

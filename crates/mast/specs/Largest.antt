@@ -1,6 +1,5 @@
--- The engine's answer to three texts and an output. Scope paper: "Job and printed result", "Why a job is turned down". Trees and lists
--- are as they stand, of tokens; what is asked of them is asked of their keys, the labels that the tokens stand for (request C-12) as the
--- edition reads them (request C-15).
+-- The engine's answer to three texts and an output. 01: "Job and printed result", "Why a job is turned down". Trees and lists are of
+-- tokens; the answer is about their keys, which are the decoded labels (C-12) as the edition reads them (C-15).
 use Prim.Native.Nat.{ℕ}
 use mathlib.Core.Bool.{false, cond}
 use mathlib.Core.List.{List, [], _∷_, _++_, map}
@@ -28,12 +27,12 @@ use Rattle.mast.specs.declared.LargestAnswer.the-variants.{Found, Disagr
 use Rattle.mast.specs.declared.LargestResult.{LargestResult}
 use Rattle.mast.specs.declared.Options.{Options}
 
--- what a job comes to
+-- the engine's result for two trees, a list and an output: a set, number 8, or another refusal
 pub data Solution : Type 0 where
-  -- the edition and the first tree, which spells all that is printed; the set in label order, by its keys; the normal text of its common
+  -- the edition; the first tree, which spells all that is printed; the set in label order, by its keys; the normal text of its common
   -- restriction
   solved : Edition → Tree → List Label → List ℕ → Solution
-  -- number 8: the same two, the list and three of its labels, by their keys
+  -- number 8: the edition, the first tree, the list and three of its labels, by their keys
   clashed : Edition → Tree → List Token → Label → Label → Label → Solution
   turned : Refusal → Solution
 
@@ -41,7 +40,7 @@ pub data Solution : Type 0 where
 abbrev pub tooShort : Refusal
 tooShort = record { reason = TooShort; body = O; place = 0 }
 
--- the text of the set's restriction goes into an output of `room` bytes, "too short exactly if it has fewer bytes than the text"
+-- the text of the set's restriction for an output of `room` bytes, "too short exactly if it has fewer bytes than the text"
 unfoldable pub fitted : Edition → Tree → List Label → List ℕ → ℕ → Solution
 fitted e s X text room =
     cond (leb (length text) room) (solved e s X text) (turned tooShort)
@@ -58,31 +57,31 @@ unfolding solutionOf
 solveList e s t room (good xs) = solutionOf e s xs room (answer (keyed e s) (keyed e t) (keysOf e xs))
 solveList e s t room (refused r i) = turned (record { reason = r; body = K; place = i })
 
--- request C-11: "a leaf that stands in only one tree stops the job", where the job is strict
+-- C-11: "a leaf that stands in only one tree stops the job", if the job is strict
 unfoldable pub strayFor : Options → Tree → Tree → Stray
 unfolding strayOf
 strayFor o s t = cond (o .strict) (strayOf (keyed (o .edition) s) (keyed (o .edition) t)) nowhere
 
--- it gets number 12, "with the letter and place of the first such leaf in S or, if S has none, in T"; else the job goes on
+-- it gets number 12, "with the letter and place of the first such leaf in S or, if S has none, in T"; otherwise `on` is the result
 unfoldable pub sharedThen : {R : Type 0} → (Refusal → R) → Edition → Tree → Tree → R → Stray → R
 unfolding placeIn
 sharedThen stop e s t on (inFirst x) = stop (record { reason = NotShared; body = S; place = placeIn (folded e s) 0 x })
 sharedThen stop e s t on (inSecond x) = stop (record { reason = NotShared; body = T; place = placeIn (folded e t) 0 x })
 sharedThen stop e s t on nowhere = on
 
--- 12 is told "after both trees are read and before K"
+-- 12 is given "after both trees are read and before K"
 unfoldable pub secondThen : {R : Type 0} → (Refusal → R) → Options → Tree → Reading Tree → (Tree → Tree → R) → R
 unfolding sharedThen strayFor
 secondThen stop o s (good t) on = sharedThen stop (o .edition) s t (on s t) (strayFor o s t)
 secondThen stop o s (refused r i) on = stop (record { reason = r; body = T; place = i })
 
--- "Order: .. S, T", then 12, then what is asked of the trees. "A body that fails to read ends the job there."
+-- "Order: .. S, T", then 12, then `on` for the two trees. "A body that fails to read ends the job there."
 unfoldable pub treesThen : {R : Type 0} → (Refusal → R) → Options → Reading Tree → Reading Tree → (Tree → Tree → R) → R
 unfolding secondThen
 treesThen stop o (good s) second on = secondThen stop o s second on
 treesThen stop o (refused r i) second on = stop (record { reason = r; body = S; place = i })
 
--- what is asked of the engine
+-- what the engine is given
 pub record Task : Type 0 where
   pub options : Options
   pub first : List ℕ
@@ -92,7 +91,7 @@ pub record Task : Type 0 where
 abbrev pub task : Options → List ℕ → List ℕ → List ℕ → Task
 task options first second required = record { options = options; first = first; second = second; required = required }
 
--- nothing is asked beside the texts and the edition
+-- no option but the edition
 abbrev pub plain : Edition → Options
 plain e = record { strict = false; edition = e }
 
@@ -103,17 +102,17 @@ solve q room =
     treesThen turned (q .options) (readTreeIn (q .options .edition) (q .first)) (readTreeIn (q .options .edition) (q .second))
     (λ s t. solveList (q .options .edition) s t room (readListIn (q .options .edition) (q .required)))
 
--- where the labels of a set stand in the text of a tree, in label order: "the part of the text shown for it has both quotes"
+-- the places of the labels of a set in the text of a tree, in label order: "the part of the text shown for it has both quotes"
 unfoldable pub setPlaces : Tree → List Label → LabelPlaces
 setPlaces s X =
     record { count = length X; start = padded (map (placeIn s 0) X); size = padded (map (λ (x : Label). length (tokenIn s x)) X) }
 
--- where three labels stand in a list
+-- number 8 with the places of its three labels in a list
 abbrev pub disagreeAt : List Token → Label → Label → Label → LargestAnswer
 disagreeAt xs a b c = Disagree (placeOfLabel xs 0 a) (placeOfLabel xs 0 b) (placeOfLabel xs 0 c)
 
--- what comes back: size and text's length, with the set's places; the three labels' places in the list, and where the first tree spells
--- them; or the refusal
+-- What is returned: the size and the text's length, with the set's places; number 8 with the places of its labels in the list and in the
+-- first tree; or the refusal.
 unfoldable pub largestOf : Solution → LargestResult
 unfolding setPlaces
 largestOf (solved e s X text) = record { answer = Found (length X) (length text); set = setPlaces (folded e s) X }

@@ -1,5 +1,6 @@
 pub mod Asked
 pub mod Bodies
+pub mod BothTrees
 pub mod Compare
 pub mod Comparing
 pub mod Engine

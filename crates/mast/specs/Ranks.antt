@@ -41,7 +41,7 @@ pub record Collected (s t : Tree) (u : ℕ) (order1 : List ℕ) (m : ℕ) : Type
   pub count : m ≡ length (commonFrom s t u)
   pub first : Numbered s (commonFrom s t u) order1
 
--- the leaf of t with label x, 159 where there is none
+-- the leaf of t with label x; 159 if there is none
 pub record PartnerIs (t : Tree) (x : Label) (v : ℕ) : Type 0 where
   pub held : holds t x ≡ true → LeafIs t v x
   pub lacked : holds t x ≡ false → v ≡ 159
@@ -55,7 +55,7 @@ pub record NodePartner (s t : Tree) (u v : ℕ) : Type 0 where
   pub at-leaf : (x : Label) → subtree (postorder s) u ≡ leaf x → PartnerIs t x v
   pub at-node : (a b : Tree) → subtree (postorder s) u ≡ node a b → v ≡ 159
 
--- the label of leaf u as it is kept
+-- the label of leaf u as it is stored
 abbrev pub storedLabel : List ℕ → List ℕ → List ℕ → ℕ → Label
 storedLabel text start size u = storedBytes (storedOf (spelling (leafLabel text start size u)))
 

@@ -7,12 +7,12 @@ use lib.Dec.{eqb}
 use lib.ListN.{length, getD, set}
 use Rattle.trees.specs.Label.{Label, isIn}
 
--- r is the rank of x in C, or C has not x
+-- r is the rank of x in C, or C lacks x
 pub record FoundRank (C : List Label) (x : Label) (r : ℕ) : Type 0 where
   pub at : r < length C → getD C r [] ≡ x
   pub missing : length C ≤ r → isIn x C ≡ false
 
--- the first n labels of K are in C and marked there by their numbers, counted from 1; label n, if there is one, is not in C
+-- The first n labels of K are in C and marked there by their positions, counted from 1. Label n, if there is one, is not in C.
 pub record Marks (n : ℕ) (C K : List Label) (number : List ℕ) : Type 0 where
   pub size : length number ≡ 81
   pub inside : (k : ℕ) → k < n → isIn (getD K k []) C ≡ true
@@ -37,11 +37,12 @@ pub record Added (n number r : ℕ) (old : List ℕ) (k : ℕ) (new : List ℕ) 
   pub count : k ≡ cond (eqb number 0) n (n + 1)
   pub stored : new ≡ cond (eqb number 0) old (set old n r)
 
--- the lesser of a number counted from 0 and one counted from 1, where this is one of a required label that the further list lacks
+-- Smallest index so far of a required label that the other list lacks. `number` and `other` are the label's position in each list, counted
+-- from 1; 0 means the list does not contain it.
 unfoldable pub nearerOf : ℕ → ℕ → ℕ → ℕ
 nearerOf best number other = cond (eqb number 0) best (cond (eqb other 0) (min best (number - 1)) best)
 
--- the least of them over the first m ranks, or `count`
+-- the smallest such index over the first m ranks, or `count`
 unfoldable pub leastMissing : List ℕ → List ℕ → ℕ → ℕ → ℕ
 unfolding nearerOf
 leastMissing number other zero count = count

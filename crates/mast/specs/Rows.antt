@@ -1,22 +1,17 @@
--- The papers' number and values for each case of the engine's answer. Scope paper, "Why a job is turned down".
+-- 01's number and values for each case of the engine's answer. 01, "Why a job is turned down".
 use Prim.Native.Nat.{ℕ}
 use mathlib.Core.List.{List, [], _∷_}
-use lib.ListN.{length}
 use Rattle.trees.specs.declared.Reason.the-variants.{Disagree as DisagreeReason}
 use Rattle.trees.specs.declared.Body.the-variants.{K}
 use Rattle.trees.specs.declared.Refusal.{Refusal}
 use Rattle.trees.specs.Refusals.{numberOf, letterOf}
-use Rattle.lists.specs.ReadList.{foldedList}
-use Rattle.agreement.specs.Places.{placeOfLabel}
 use Rattle.mast.specs.declared.LargestAnswer.{LargestAnswer}
 use Rattle.mast.specs.declared.LargestAnswer.the-variants.{Found, Disagree, Refused}
 use Rattle.mast.specs.declared.CompareAnswer.{CompareAnswer}
 use Rattle.mast.specs.declared.CompareAnswer.the-variants as compare-answer
-use Rattle.mast.specs.Largest.{Solution, solved, clashed, turned}
-use Rattle.mast.specs.Compare.{Comparison, stopped, clashing, compared}
 
 pub data Said : Type 0 where
-  -- no row turns the job away: the answer's own numbers
+  -- the job is not refused: the answer's own numbers
   granted : List ℕ → Said
   -- a row: number, letter and place, and for number 8 the places of its three labels
   row : (number letter place : ℕ) → List ℕ → Said
@@ -36,24 +31,9 @@ saidOfLargest (Found size bytes) = granted (size ∷ bytes ∷ [])
 saidOfLargest (Disagree a b c) = eightRow a b c
 saidOfLargest (Refused q) = refusalRow q
 
--- what has to be said of two trees and a list
-unfoldable pub saidOfSolution : Solution → Said
-unfolding refusalRow eightRow placeOfLabel
-saidOfSolution (solved e s X text) = granted (length X ∷ length text ∷ [])
-saidOfSolution (clashed e s xs a b c) =
-    eightRow (placeOfLabel (foldedList e xs) 0 a) (placeOfLabel (foldedList e xs) 0 b) (placeOfLabel (foldedList e xs) 0 c)
-saidOfSolution (turned q) = refusalRow q
-
 -- of a further list, the size of the largest set and its own, or a row
 unfoldable pub saidOfCompare : CompareAnswer → Said
 unfolding refusalRow eightRow
 saidOfCompare (compare-answer.Compared c) = granted (c .size ∷ c .count ∷ [])
 saidOfCompare (compare-answer.Disagree a b c) = eightRow a b c
 saidOfCompare (compare-answer.Refused q) = refusalRow q
-
-unfoldable pub saidOfComparison : Comparison → Said
-unfolding refusalRow eightRow placeOfLabel
-saidOfComparison (stopped q) = refusalRow q
-saidOfComparison (clashing e s xs a b c) =
-    eightRow (placeOfLabel (foldedList e xs) 0 a) (placeOfLabel (foldedList e xs) 0 b) (placeOfLabel (foldedList e xs) 0 c)
-saidOfComparison (compared e s xs ys size missed clash) = granted (size ∷ length ys ∷ [])

@@ -1,4 +1,4 @@
--- Leaves that stand in only one tree, by their numbers and places. Intermediate: nothing public rests on this text.
+-- Leaves in only one tree, by their numbers and places. Intermediate: nothing public rests on this text.
 use Prim.Native.Nat.{ℕ, _<_}
 use mathlib.Core.Path.{_≡_}
 use mathlib.Core.List.{List}
@@ -20,7 +20,7 @@ use Rattle.mast.specs.declared.strict.Shared.the-variants as shared
 use Rattle.mast.specs.Largest.{strayFor}
 use Rattle.mast.specs.Ranks.{Partners}
 
--- node r of s is the first leaf that t lacks, if one is
+-- node r of s is the first leaf that t lacks, if there is one
 pub record Lone (s t : Tree) (r : ℕ) : Type 0 where
   pub found : r < nodesOf s → (x : Label) × LeafIs s r x × (firstOutside (holds t) (leaves s) ≡ some x)
   pub missing : r ≡ nodesOf s → firstOutside (holds t) (leaves s) ≡ none
@@ -34,7 +34,7 @@ sharedOf s t (inFirst x) = strayAt S (placeIn s 0 x)
 sharedOf s t (inSecond x) = strayAt T (placeIn t 0 x)
 sharedOf s t nowhere = shared.All
 
--- the partner of each leaf of s, and number 12 as far as it is asked for
+-- the partner of each leaf of s, and number 12 if the options are strict
 pub record Paired (o : Options) (s t : Tree) (nodes : ℕ) (partner : List ℕ) (r : Shared) : Type 0 where
   pub partners : Partners nodes (keyed (o .edition) s) (keyed (o .edition) t) partner
   pub told : r ≡ sharedOf (folded (o .edition) s) (folded (o .edition) t) (strayFor o s t)

@@ -90,7 +90,7 @@ fn place_if(places: LabelPlaces, k: usize) -> usize
 {
     if k < places.count {
         let starts = places.start;
-        return trees::entry(&starts, k);
+        return trees::place_entry(&starts, k);
     }
     0
 }

@@ -172,12 +172,16 @@ pub(crate) fn lacks(
 {
     let starts = places.start;
     let sizes = places.size;
-    let at = starts[n];
-    let held = holds_label(edition, first, tree1, trees::part(list, at, sizes[n]));
+    let held = holds_label(
+        edition,
+        first,
+        tree1,
+        trees::leaf_label(list, &starts, &sizes, n),
+    );
     Refusal {
         reason: lacking(held),
         body,
-        place: at,
+        place: trees::place_entry(&starts, n),
     }
 }
 

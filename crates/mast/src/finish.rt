@@ -30,10 +30,10 @@ use writer::WriteAnswer;
 // Stores a label's place behind n others if the label is chosen, and says how many there are then.
 fn add_place(
     chosen: bool,
-    at: usize,
-    len: usize,
-    start: &mut [usize; LEAF_LIMIT],
-    size: &mut [usize; LEAF_LIMIT],
+    at: u16,
+    len: u8,
+    start: &mut [u16; LEAF_LIMIT],
+    size: &mut [u8; LEAF_LIMIT],
     n: usize,
 ) -> usize
     requires { ⌜ n < 80 ⌝ }
@@ -53,16 +53,16 @@ pub(crate) fn set_places(
     order1: &[usize; LEAF_LIMIT],
     m: usize,
     chosen: &[bool; LEAF_LIMIT],
-    start1: &[usize; NODE_LIMIT],
-    size1: &[usize; NODE_LIMIT],
+    start1: &[u16; NODE_LIMIT],
+    size1: &[u8; NODE_LIMIT],
 ) -> LabelPlaces
     requires { ⌜ (m ≤ 80) × InRange (now order1) m ⌝ }
     ensures { λ r. ⌜ ((s : Tree) (C : List Label) → Valid s → now (start1 .entry) ≡ arraysOf s .start
         → now (size1 .entry) ≡ arraysOf s .size → m ≡ length C → Numbered (decoded s) C (now (order1 .entry))
         → r ≡ setPlaces s (chosenFrom (now (chosen .entry)) 0 C)) ⌝ }
 {
-    let mut start = [0usize; LEAF_LIMIT];
-    let mut size = [0usize; LEAF_LIMIT];
+    let mut start = [0u16; LEAF_LIMIT];
+    let mut size = [0u8; LEAF_LIMIT];
     let mut count: usize = 0;
     let mut r: usize = 0;
     while r < m {
@@ -108,8 +108,8 @@ pub(crate) fn no_places() -> LabelPlaces
 {
     LabelPlaces {
         count: 0,
-        start: [0usize; LEAF_LIMIT],
-        size: [0usize; LEAF_LIMIT],
+        start: [0u16; LEAF_LIMIT],
+        size: [0u8; LEAF_LIMIT],
     }
 }
 

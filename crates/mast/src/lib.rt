@@ -5,57 +5,55 @@ use crate::beside::compare_bodies;
 use crate::beside::stopped;
 use crate::bodies::answer_bodies;
 use crate::finish::without_set;
-use crate::ranks::NONE;
-use crate::strict::Shared;
-use crate::strict::pair_leaves;
+use crate::reading::Way;
+use crate::reading::read_pair;
+use crate::reading::unread;
 use lists::LabelPlaces;
 use lists::ListAnswer;
-use newick::TreeAnswer;
 use trees::Body;
 use trees::Edition;
-use trees::NODE_LIMIT;
-use trees::Reason;
 use trees::Refusal;
 use triples::Three;
 ghost use mathlib.Core.Path.{_≡_};
 ghost use lib.ListN.{length};
 ghost use Rattle.mast.specs.Largest.{turned, task, solve, largestOf, outputOf};
 ghost use Rattle.mast.specs.Compare.{compare, comparedOf};
-ghost use Rattle.mast.specs.Bodies.{unreadBody, unreadTree, unreadList};
+ghost use Rattle.mast.specs.Bodies.{unreadList};
 
 mod beside;
 mod bodies;
 mod finish;
 mod ranks;
+mod reading;
 mod required;
 mod strict;
 
-// What is asked beside the texts.
+// The options of a call.
 pub struct Options {
-    // A leaf that stands in only one tree stops the job.
+    // A leaf in only one tree stops the job.
     pub strict: bool,
-    // By which edition of the naming code labels are compared.
+    // The edition by which labels are compared.
     pub edition: Edition,
 }
 
-// The size of the set and the length of its tree's text; the places in the list of three required labels that have different
-// closer pairs (number 8); or why the job was turned down.
+// The size of the set and the length of its tree's text. Number 8: the places in the list of three required labels with different closer
+// pairs. Or why the job was refused.
 pub enum LargestAnswer {
     Found(usize, usize),
     Disagree(usize, usize, usize),
     Refused(Refusal),
 }
 
-// The answer with the labels that it tells beside it: where the set's, or the three of number 8, stand in the first tree's text, as they
-// are spelled there, in label order. Any other refusal has no label.
+// The answer, and the places of its labels in the first tree's text, in label order: those of the set, or the three of number 8. Any other
+// refusal has no label.
 pub struct LargestResult {
     pub answer: LargestAnswer,
     pub set: LabelPlaces,
 }
 
-// What a further list is beside the largest set: the size of that set and the number of labels of the list; whether the list lacks a
-// required label, and the place of the first such in the required list; whether three of its labels clash, and the places of the first
-// such three in it, in label order.
+// A further list compared with the largest set: the size of that set and the number of labels of the list; whether the list lacks a
+// required label, and the place of the first such label in the required list; whether three of its labels have different closer pairs, and
+// the places of the first such three in it, in label order.
 pub struct Compared {
     pub size: usize,
     pub count: usize,
@@ -65,42 +63,21 @@ pub struct Compared {
     pub three: Three,
 }
 
-// A further list beside the largest set; the places in the required list of three labels that have different closer pairs (number 8); or
-// why the job was turned down.
+// The comparison of a further list. Number 8: the places in the required list of three labels with different closer pairs. Or why the job
+// was refused.
 pub enum CompareAnswer {
     Compared(Compared),
     Disagree(usize, usize, usize),
     Refused(Refusal),
 }
 
-// The answer, and where three labels that it names stand in the first tree's text, as they are spelled there, in label order.
+// The answer, and the places of the three labels that it names in the first tree's text, in label order.
 pub struct CompareResult {
     pub answer: CompareAnswer,
     pub set: LabelPlaces,
 }
 
-// A refusal for a text that was read, where one that was not is asked for: no such call is made, and no success is made up.
-fn unread(body: Body) -> Refusal
-    ensures { λ r. ⌜ r ≡ unreadBody body ⌝ }
-{
-    Refusal {
-        reason: Reason::EndsTooSoon,
-        body,
-        place: 0,
-    }
-}
-
-// The refusal of a tree text that was turned down.
-fn unread_tree(answer: TreeAnswer, body: Body) -> Refusal
-    ensures { λ r. ⌜ r ≡ unreadTree answer body ⌝ }
-{
-    match answer {
-        TreeAnswer::Leaves(_) => unread(body),
-        TreeAnswer::Refused(refusal) => refusal,
-    }
-}
-
-// The refusal of a list that was turned down.
+// The refusal of a list.
 fn unread_list(answer: ListAnswer, body: Body) -> Refusal
     ensures { λ r. ⌜ r ≡ unreadList answer body ⌝ }
 {
@@ -117,9 +94,9 @@ fn refused(refusal: Refusal) -> LargestResult
     without_set(LargestAnswer::Refused(refusal))
 }
 
-// The largest set of common leaves that holds the required ones and on which the trees agree, the first in label order among equals: its
-// size and places, and the normal text of its restriction in `out`, labels as the first tree spells them. Refusals are told in the order
-// S, T, 12 if the options are strict, K, 6 or 7, 8, 9, and `out` then keeps every byte.
+// The largest set of common leaves that contains the required ones and on which the trees agree, the first in label order among equals.
+// Returns its size and places, and writes the normal text of its restriction to `out`, labels as the first tree spells them. Refusals come
+// in the order S, T, 12 if the options are strict, K, 6 or 7, 8, 9; `out` then keeps every byte.
 pub fn largest(
     options: Options,
     first: &[u8],
@@ -135,31 +112,21 @@ pub fn largest(
         (solve (task options (now (first .entry)) (now (second .entry)) (now (required .entry))) (length (now (out .entry))))
         (now (out .entry)) ⌝ }
 {
-    let edition = options.edition;
-    let one = newick::read_tree(edition, first, Body::S);
-    let answer1 = one.answer;
-    let TreeAnswer::Leaves(leaves1) = answer1 else {
-        return refused(unread_tree(answer1, Body::S));
-    };
-    let two = newick::read_tree(edition, second, Body::T);
-    let answer2 = two.answer;
-    let TreeAnswer::Leaves(leaves2) = answer2 else {
-        return refused(unread_tree(answer2, Body::T));
-    };
-    let tree1 = one.tree;
-    let tree2 = two.tree;
-    let mut partner = [NONE; NODE_LIMIT];
-    let shared = pair_leaves(options, first, tree1, second, tree2, &mut partner);
-    if let Shared::Stray(refusal) = shared {
+    let pair = read_pair(options, first, second);
+    let way = pair.way;
+    if let Way::Stopped(refusal) = way {
         return refused(refusal);
     }
+    let edition = options.edition;
     let list = lists::read_list(edition, required, Body::K);
     let answer3 = list.answer;
     let ListAnswer::Labels(_) = answer3 else {
         return refused(unread_list(answer3, Body::K));
     };
     let places = list.places;
-    let most = trees::least(leaves1, leaves2);
+    let tree1 = pair.tree1;
+    let tree2 = pair.tree2;
+    let partner = pair.partner;
     answer_bodies(
         edition,
         first,
@@ -168,14 +135,14 @@ pub fn largest(
         &partner,
         required,
         places,
-        most,
+        pair.most,
         out,
     )
 }
 
-// A further list beside the largest set: whether it lacks a required label, whether three of its labels clash, and how large both are. No
-// set is built. Refusals are told in the order S, T, 12 if the options are strict, the required list, the further one, 6 or 7 and 8 of the
-// required list, 6 or 7 of the further one.
+// Compares a further list with the largest set: whether it lacks a required label, whether three of its labels have different closer pairs,
+// and how large both are. No set is built. Refusals come in the order S, T, 12 if the options are strict, the required list, the further
+// one, 6 or 7 and 8 of the required list, 6 or 7 of the further one.
 pub fn compare(
     options: Options,
     first: &[u8],
@@ -187,24 +154,12 @@ pub fn compare(
         ⌜ r ≡ comparedOf
         (compare (task options (now (first .entry)) (now (second .entry)) (now (required .entry))) (now (other .entry))) ⌝ }
 {
-    let edition = options.edition;
-    let one = newick::read_tree(edition, first, Body::S);
-    let answer1 = one.answer;
-    let TreeAnswer::Leaves(leaves1) = answer1 else {
-        return stopped(unread_tree(answer1, Body::S));
-    };
-    let two = newick::read_tree(edition, second, Body::T);
-    let answer2 = two.answer;
-    let TreeAnswer::Leaves(leaves2) = answer2 else {
-        return stopped(unread_tree(answer2, Body::T));
-    };
-    let tree1 = one.tree;
-    let tree2 = two.tree;
-    let mut partner = [NONE; NODE_LIMIT];
-    let shared = pair_leaves(options, first, tree1, second, tree2, &mut partner);
-    if let Shared::Stray(refusal) = shared {
+    let pair = read_pair(options, first, second);
+    let way = pair.way;
+    if let Way::Stopped(refusal) = way {
         return stopped(refusal);
     }
+    let edition = options.edition;
     let listed = lists::read_list(edition, required, Body::K);
     let answer3 = listed.answer;
     let ListAnswer::Labels(_) = answer3 else {
@@ -217,6 +172,9 @@ pub fn compare(
     };
     let places = listed.places;
     let others = further.places;
+    let tree1 = pair.tree1;
+    let tree2 = pair.tree2;
+    let partner = pair.partner;
     compare_bodies(
         edition,
         first,
@@ -227,6 +185,6 @@ pub fn compare(
         places,
         other,
         others,
-        trees::least(leaves1, leaves2),
+        pair.most,
     )
 }

@@ -22,6 +22,7 @@ use trees::NODE_LIMIT;
 use trees::Order;
 use trees::StoredLabel;
 use trees::TreeArrays;
+use trees::wide;
 
 // The rank of a label that is not common.
 pub(crate) const NO_RANK: usize = LEAF_LIMIT;
@@ -33,9 +34,9 @@ pub(crate) const NONE: usize = NODE_LIMIT;
 fn look_up(
     edition: Edition,
     text: &[u8],
-    left: &[usize; NODE_LIMIT],
-    start: &[usize; NODE_LIMIT],
-    size: &[usize; NODE_LIMIT],
+    left: &[u8; NODE_LIMIT],
+    start: &[u16; NODE_LIMIT],
+    size: &[u8; NODE_LIMIT],
     nodes: usize,
     token: &[u8],
 ) -> usize
@@ -93,8 +94,8 @@ fn comes_first(a: StoredLabel, b: StoredLabel) -> bool
 fn place_of(
     edition: Edition,
     text: &[u8],
-    start: &[usize; NODE_LIMIT],
-    size: &[usize; NODE_LIMIT],
+    start: &[u16; NODE_LIMIT],
+    size: &[u8; NODE_LIMIT],
     order: &[usize; LEAF_LIMIT],
     m: usize,
     label: StoredLabel,
@@ -138,8 +139,8 @@ fn open_at(order: &mut [usize; LEAF_LIMIT], m: usize, p: usize, u: usize)
 fn insert_leaf(
     edition: Edition,
     text: &[u8],
-    start: &[usize; NODE_LIMIT],
-    size: &[usize; NODE_LIMIT],
+    start: &[u16; NODE_LIMIT],
+    size: &[u8; NODE_LIMIT],
     order: &mut [usize; LEAF_LIMIT],
     m: usize,
     u: usize,
@@ -167,8 +168,8 @@ pub(crate) fn leaf_partner(child: usize, u: usize, v: usize) -> usize
 fn add_common(
     edition: Edition,
     text1: &[u8],
-    start1: &[usize; NODE_LIMIT],
-    size1: &[usize; NODE_LIMIT],
+    start1: &[u16; NODE_LIMIT],
+    size1: &[u8; NODE_LIMIT],
     order1: &mut [usize; LEAF_LIMIT],
     m: usize,
     most: usize,
@@ -218,7 +219,7 @@ pub(crate) fn common_order(
     let mut u: usize = tree1.nodes;
     while 0 < u {
         u -= 1;
-        let v = leaf_partner(left1[u], u, partner[u]);
+        let v = leaf_partner(wide(left1[u]), u, partner[u]);
         m = add_common(edition, text1, &start1, &size1, order1, m, most, u, v);
     }
     m

@@ -25,14 +25,15 @@ use trees::NODE_LIMIT;
 use trees::TreeArrays;
 use trees::narrow;
 use trees::wide;
+use trees::wide_place;
 use triples::Three;
 
 // The rank among the m common labels of the one that a token stands for, or m.
 fn rank_in(
     edition: Edition,
     text1: &[u8],
-    start1: &[usize; NODE_LIMIT],
-    size1: &[usize; NODE_LIMIT],
+    start1: &[u16; NODE_LIMIT],
+    size1: &[u8; NODE_LIMIT],
     order1: &[usize; LEAF_LIMIT],
     m: usize,
     token: &[u8],
@@ -91,7 +92,7 @@ pub(crate) fn mark_required(
             &size1,
             order1,
             m,
-            trees::part(list, starts[k], sizes[k]),
+            trees::leaf_label(list, &starts, &sizes, k),
         );
         if r == m {
             return k;
@@ -161,7 +162,7 @@ pub(crate) fn entries_at(
 
 // Where label i of the required ones in label order stands in the list.
 fn place_at(
-    starts: &[usize; LEAF_LIMIT],
+    starts: &[u16; LEAF_LIMIT],
     number: &[u8; RANKS],
     ranks: &[usize; LEAF_LIMIT],
     i: usize,
@@ -172,7 +173,7 @@ fn place_at(
 {
     let r = ranks[i];
     let n = wide(number[r]);
-    starts[n - 1]
+    wide_place(starts[n - 1])
 }
 
 // Whether three labels clash; if so, their places in the list, and their leaves in the first tree, the first three of the array.
@@ -251,8 +252,8 @@ pub(crate) fn clash_places(
     }
 }
 
-// The lesser of two numbers in the required list, counted from 0, where the label with number `number`, counted from 1, is missing from
-// the further list.
+// Smallest index so far of a required label that the other list lacks. `number` and `other` are the label's position in each list, counted
+// from 1; 0 means the list does not contain it.
 fn nearer(best: usize, number: u8, other: u8) -> usize
     ensures { λ r. ⌜ r ≡ nearerOf best number other ⌝ }
 {
@@ -265,8 +266,8 @@ fn nearer(best: usize, number: u8, other: u8) -> usize
     trees::least(best, wide(number) - 1)
 }
 
-// The number in the required list, counted from 0, of its first label that a further list lacks, or `count`: by the labels' numbers in
-// both lists, by rank.
+// Index in the required list, from 0, of its first label that a further list lacks, or `count`. `number` and `other` have, by rank, the
+// label's position in each list.
 pub(crate) fn first_missing(
     number: &[u8; RANKS],
     other: &[u8; RANKS],

@@ -1,4 +1,4 @@
-// Leaves that stand in only one tree. Request C-11: they stop a strict job.
+// Leaves that stand in only one tree. C-11: they stop a strict job.
 //
 // Names that end in 1 are of the first tree, in 2 of the second.
 ghost use mathlib.Core.Path.{_≡_};
@@ -23,6 +23,8 @@ use trees::NODE_LIMIT;
 use trees::Reason;
 use trees::Refusal;
 use trees::TreeArrays;
+use trees::wide;
+use trees::wide_place;
 
 // Whether both trees hold the same leaves, as far as that is asked; if not, number 12.
 pub(crate) enum Shared {
@@ -39,7 +41,7 @@ fn is_lone(child: usize, u: usize, v: usize) -> bool
 
 // The first leaf from left to right that has no partner, by its number; `nodes` if each has one. Leaves stand in the arrays in the
 // order of the text.
-fn lone_leaf(left: &[usize; NODE_LIMIT], nodes: usize, partner: &[usize; NODE_LIMIT]) -> usize
+fn lone_leaf(left: &[u8; NODE_LIMIT], nodes: usize, partner: &[usize; NODE_LIMIT]) -> usize
     requires { ⌜ nodes ≤ 159 ⌝ }
     ensures { λ r. ⌜ r ≤ nodes ⌝ }
     ensures { λ r. ⌜ ((s t : Tree) → now (left .entry) ≡ arraysOf s .left → nodes ≡ nodesOf s → Proper t
@@ -47,7 +49,7 @@ fn lone_leaf(left: &[usize; NODE_LIMIT], nodes: usize, partner: &[usize; NODE_LI
 {
     let mut u: usize = 0;
     while u < nodes {
-        if is_lone(left[u], u, partner[u]) {
+        if is_lone(wide(left[u]), u, partner[u]) {
             return u;
         }
         u += 1;
@@ -68,7 +70,7 @@ fn stray(body: Body, place: usize) -> Shared
 
 // The partners turned round: for each leaf of the second tree the first tree's leaf with the same label.
 fn turned_round(
-    left1: &[usize; NODE_LIMIT],
+    left1: &[u8; NODE_LIMIT],
     nodes1: usize,
     partner: &[usize; NODE_LIMIT],
 ) -> [usize; NODE_LIMIT]
@@ -79,7 +81,7 @@ fn turned_round(
     let mut back = [NONE; NODE_LIMIT];
     let mut u: usize = 0;
     while u < nodes1 {
-        put_at(&mut back, leaf_partner(left1[u], u, partner[u]), u);
+        put_at(&mut back, leaf_partner(wide(left1[u]), u, partner[u]), u);
         u += 1;
     }
     back
@@ -99,14 +101,14 @@ fn stray_leaf(tree1: TreeArrays, tree2: TreeArrays, partner: &[usize; NODE_LIMIT
     let start1 = tree1.start;
     let u = lone_leaf(&left1, tree1.nodes, partner);
     if u < tree1.nodes {
-        return stray(Body::S, start1[u]);
+        return stray(Body::S, wide_place(start1[u]));
     }
     let back = turned_round(&left1, tree1.nodes, partner);
     let left2 = tree2.left;
     let start2 = tree2.start;
     let v = lone_leaf(&left2, tree2.nodes, &back);
     if v < tree2.nodes {
-        return stray(Body::T, start2[v]);
+        return stray(Body::T, wide_place(start2[v]));
     }
     Shared::All
 }

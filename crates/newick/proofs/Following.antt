@@ -1,6 +1,6 @@
 -- What it is for the reading machine to follow the reading of a tree text, and that it still does after each kind of step
 -- that goes on. Assumes nothing.
-use Prim.Native.Nat.{ℕ, _+_, _-_, _≤_, _<_}
+use Prim.Native.Nat.{ℕ, _+_, _*_, _-_, _≤_, _<_}
 use mathlib.Core.Path.{_≡_, refl, ap, sym, _∙_}
 use mathlib.Core.Bool.{true}
 use mathlib.Core.List.{List, [], _∷_, _++_, map, append-assoc, map-append}
@@ -9,7 +9,7 @@ use lib.ListN.{length, getD, set, length-append, length-set}
 use lib.Seq.{getD-set-same, getD-set-other}
 use Rattle.trees.specs.Bytes.{isLabelByte, isInnerByte, openByte, closeByte, commaByte, semicolonByte, quoteByte}
 use Rattle.trees.specs.Label.{Label, labelLimit}
-use Rattle.trees.specs.Token.{Token, spelling, allOf, allLabelBytes, allInnerBytes, quotedToken}
+use Rattle.trees.specs.Token.{Token, spelling, tokenLimit, allOf, allLabelBytes, allInnerBytes, quotedToken}
 use Rattle.trees.specs.Tree.{Tree, leaf, node, leaves}
 use Rattle.trees.specs.Text.{written, textOf}
 use Rattle.trees.specs.Arrays.{nodesOf, nodeLimit}
@@ -58,11 +58,20 @@ ModeIs (inQuotes x) s m = (m ≡ Quoted (length (textIn s)) (length x)) × (allI
 ModeIs (afterNode t) s m = m ≡ After (nodesIn s + nodesOf t - 1)
 ModeIs (ended t) s m = (m ≡ Done) × (s ≡ [])
 
+-- how far a text can go: to each `(` a byte, to each node 36, since a token has at most 34 and `,` or `)` follows it
+abbrev pub Near : Phase → (i opens nodes : ℕ) → Type 0
+Near nodeDue i o n = i ≤ o + 36 * n
+Near (inLabel x) i o n = i ≤ o + 36 * n + length x
+Near (inQuotes x) i o n = i ≤ o + 36 * n + length x + 1
+Near (afterNode t) i o n = i + 1 ≤ o + 36 * n
+Near (ended t) i o n = Unit {0}
+
 -- the machine at place i, with `rest` to come, stands where the reading does
 pub record Follows (text : List ℕ) (ph : Phase) (s : List Opened) (seen : List Label) (st : Scan) (a : Arrays) (i : ℕ) (rest : List ℕ)
     : Type 0 where
   pub parted : text ≡ textIn s ++ (heading ph ++ rest)
   pub place : i ≡ length (textIn s) + length (heading ph)
+  pub near : Near ph i (st .opens) (st .nodes)
   pub counts : Counts s (opensHere ph) (nodesHere ph) (st .depth) (st .opens) (st .nodes)
   pub labels : seen ≡ map spelling (labelsBy s ph)
   pub columns : Columns s ph (a .left) (a .right) (a .start) (a .size)
@@ -71,17 +80,18 @@ pub record Follows (text : List ℕ) (ph : Phase) (s : List Opened) (seen : List
 
 -- a label that is complete at place j, with `post` to come, is a leaf
 leaf-at : (text : List ℕ) (s : List Opened) (seen : List Label) (st : Scan) (a : Arrays) (x : Token) (j : ℕ) (post : List ℕ)
-    → text ≡ textIn s ++ (x ++ post) → j ≡ length (textIn s) + length x
+    → text ≡ textIn s ++ (x ++ post) → j ≡ length (textIn s) + length x → j ≤ st .opens + 36 * st .nodes + tokenLimit
     → Counts s 0 0 (st .depth) (st .opens) (st .nodes) → seen ≡ map spelling (leavesIn s)
     → Columns s nodeDue (a .left) (a .right) (a .start) (a .size) → Stacked s (a .stack)
     → Follows text (afterNode (leaf x)) s (seen ++ (spelling x ∷ [])) (leafScan st) (leafArrays st a (length (textIn s)) (length x)) j post
 unfolding written nodesOf leaves inner
-leaf-at text s seen st a x j post ep ej C el ec es =
+leaf-at text s seen st a x j post ep ej en C el ec es =
     let e : st .nodes ≡ nodesIn s = omega (arith, C .nodes) in
     let room : st .nodes < nodeLimit = omega (arith, C .nodes, C .opens, C .few, nodes-bound s) in
     record {
       parted = ep;
       place = ej;
+      near = omega (arith, en);
       counts = record { depth = C .depth; opens = C .opens; few = C .few; nodes = omega (arith, C .nodes) };
       labels = ap (λ (l : List Label). l ++ (spelling x ∷ [])) el ∙ sym (map-append spelling (leavesIn s) (x ∷ []));
       columns = leaf-columns (st .nodes) ec e room;
@@ -98,6 +108,7 @@ module _ {text : List ℕ} {s : List Opened} {seen : List Label} {st : Scan} {a 
       record {
         parted = F .parted;
         place = omega (arith, F .place);
+        near = omega (arith, F .near);
         counts = F .counts;
         labels = F .labels;
         columns = refilled (λ (f : Column). refl) (F .columns);
@@ -113,6 +124,7 @@ module _ {text : List ℕ} {s : List Opened} {seen : List Label} {st : Scan} {a 
       record {
         parted = F .parted ∙ ap (λ (c : ℕ). textIn s ++ (c ∷ rest)) e;
         place = omega (arith, F .place);
+        near = omega (arith, F .near);
         counts = F .counts;
         labels = F .labels;
         columns = refilled (λ (f : Column). refl) (F .columns);
@@ -130,6 +142,7 @@ module _ {text : List ℕ} {s : List Opened} {seen : List Label} {st : Scan} {a 
       record {
         parted = F .parted ∙ ap (λ (r : List ℕ). textIn s ++ r) (sym (append-assoc x (b ∷ []) rest));
         place = omega (arith, F .place, more);
+        near = omega (arith, F .near, more);
         counts = F .counts;
         labels = F .labels;
         columns = refilled (λ (f : Column). refl) (F .columns);
@@ -147,6 +160,7 @@ module _ {text : List ℕ} {s : List Opened} {seen : List Label} {st : Scan} {a 
       record {
         parted = F .parted ∙ ap (λ (r : List ℕ). textIn s ++ (quoteByte ∷ r)) (sym (append-assoc x (b ∷ []) rest));
         place = omega (arith, F .place, more);
+        near = omega (arith, F .near, more);
         counts = F .counts;
         labels = F .labels;
         columns = refilled (λ (f : Column). refl) (F .columns);
@@ -159,7 +173,7 @@ module _ {text : List ℕ} {s : List Opened} {seen : List Label} {st : Scan} {a 
       → Follows text (afterNode (leaf x)) s (seen ++ (spelling x ∷ [])) (leafScan st) (leafArrays st a (length (textIn s)) (length x)) i rest
   unfolding filled
   leaf-follows F =
-      leaf-at text s seen st a _ i rest (F .parted) (F .place) (F .counts) (F .labels) (refilled (λ (f : Column). refl) (F .columns)) (F .stack)
+      leaf-at text s seen st a _ i rest (F .parted) (F .place) (omega (arith, F .near, F .mode .3)) (F .counts) (F .labels) (refilled (λ (f : Column). refl) (F .columns)) (F .stack)
 
   -- one between quotes with the quote at i
   pub closing-follows : {x : List ℕ} {b : ℕ} → b ≡ quoteByte → Follows text (inQuotes x) s seen st a i (b ∷ rest)
@@ -172,7 +186,7 @@ module _ {text : List ℕ} {s : List Opened} {seen : List Label} {st : Scan} {a 
       (leaf-at text s seen st a (quotedToken x) (i + 1) rest
       (F .parted ∙ ap (λ (c : ℕ). textIn s ++ (quoteByte ∷ (x ++ (c ∷ rest)))) e
       ∙ ap (λ (r : List ℕ). textIn s ++ (quoteByte ∷ r)) (sym (append-assoc x (quoteByte ∷ []) rest)))
-      (omega (arith, F .place, size)) (F .counts) (F .labels) (refilled (λ (f : Column). refl) (F .columns)) (F .stack))
+      (omega (arith, F .place, size)) (omega (arith, F .near, F .mode .2)) (F .counts) (F .labels) (refilled (λ (f : Column). refl) (F .columns)) (F .stack))
 
   -- `(` begins a node
   pub open-follows : {b : ℕ} → b ≡ openByte → st .opens < openLimit → Follows text nodeDue s seen st a i (b ∷ rest)
@@ -185,6 +199,7 @@ module _ {text : List ℕ} {s : List Opened} {seen : List Label} {st : Scan} {a 
       record {
         parted = F .parted ∙ rw eb (simp append-assoc);
         place = omega (arith, F .place, length-append (textIn s) (openByte ∷ []));
+        near = omega (arith, F .near);
         counts = record { depth = omega (arith, C .depth); opens = omega (arith, C .opens); few = omega (arith, l); nodes = C .nodes };
         labels = F .labels;
         columns = refilled (λ (f : Column). refl) (F .columns);
@@ -211,6 +226,7 @@ module _ {text : List ℕ} {s : List Opened} {seen : List Label} {st : Scan} {a 
       record {
         parted = F .parted ∙ rw eb (simp append-assoc);
         place = omega (arith, F .place, second-place t s, length-append (textIn s) (openByte ∷ []));
+        near = omega (arith, F .near);
         counts = record { depth = C .depth; opens = omega (arith, C .opens); few = C .few; nodes = omega (arith, C .nodes) };
         labels = F .labels;
         columns = refilled (λ (f : Column). comma-filled f s t) (F .columns);
@@ -237,6 +253,7 @@ module _ {text : List ℕ} {s : List Opened} {seen : List Label} {st : Scan} {a 
       record {
         parted = F .parted ∙ rw eb (simp append-assoc);
         place = omega (arith, F .place, second-place c s, node-length c t);
+        near = omega (arith, F .near);
         counts = record { depth = d; opens = omega (arith, C .opens); few = C .few; nodes = omega (arith, C .nodes) };
         labels = F .labels ∙ ap (map spelling) (append-assoc (leavesIn s) (leaves c) (leaves t));
         columns = node-columns (st .nodes) (getD (a .stack) (st .depth - 1) 0) (F .columns) (C .nodes) room (rw d (F .stack .holds .0));
@@ -253,6 +270,7 @@ semicolon-follows {t = t} eb F =
     record {
       parted = F .parted ∙ rw eb (simp append-assoc);
       place = omega (arith, F .place, length-append (written t) (semicolonByte ∷ []));
+      near = tt;
       counts = F .counts;
       labels = F .labels;
       columns = refilled (λ (f : Column). refl) (F .columns);

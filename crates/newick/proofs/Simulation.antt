@@ -1,6 +1,6 @@
 -- The reading machine tells what the reading of a tree text tells: it starts with it, may take each step, follows it byte by
 -- byte, and ends as it does. Assumes nothing.
-use Prim.Native.Nat.{ℕ, _+_, _≤_, _<_}
+use Prim.Native.Nat.{ℕ, _+_, _*_, _≤_, _<_}
 use mathlib.Core.Path.{_≡_, refl, ap, sym, _∙_, subst}
 use mathlib.Core.Bool.{Bool, true, false, cond}
 use mathlib.Core.List.{List, [], _∷_, _++_}
@@ -14,7 +14,7 @@ use Rattle.trees.specs.declared.Body.{Body}
 use Rattle.trees.specs.declared.Refusal.{Refusal}
 use Rattle.trees.specs.Bytes.{isLabelByte, isInnerByte, kindOf}
 use Rattle.trees.specs.Label.{Label, isIn}
-use Rattle.trees.specs.Token.{spelling}
+use Rattle.trees.specs.Token.{spelling, tokenLimit}
 use Rattle.trees.specs.Tree.{Tree, leaves}
 use Rattle.trees.specs.Reading.{good, refused}
 use Rattle.trees.specs.Arrays.{nodesOf, nodeLimit, arraysOf}
@@ -28,10 +28,10 @@ use Rattle.newick.specs.declared.TreeAnswer.the-variants.{Leaves, Refuse
 use Rattle.newick.specs.ReadTree.{Opened, Phase, nodeDue, inLabel, inQuotes, afterNode, ended, readFrom, endOf}
 use Rattle.newick.specs.ReadTree.{readTree, treeRead}
 use Rattle.newick.specs.Machine.{openLimit, Arrays, arrays, Outcome, outcome, scan, moveOf, answerOf, refusal, turnedDown}
-use Rattle.newick.specs.Machine.{withArrays, Room, Ready}
+use Rattle.newick.specs.Machine.{withArrays, Room, Fits, Ready}
 use Rattle.newick.proofs.MachineLaws.{ready-as, answer-as}
 use Rattle.newick.proofs.OpenNodes.{nodes-inner, leaves-inner, textIn, nodesIn, leavesIn, opensIn, heading, nodes-bound}
-use Rattle.newick.proofs.OpenNodes.{depth-bound}
+use Rattle.newick.proofs.OpenNodes.{depth-bound, nodesHere, opensHere}
 use Rattle.newick.proofs.Columns.{columnIn, filled}
 use Rattle.newick.proofs.Following.{Follows}
 use Rattle.newick.proofs.Moves.{Follower, Leads, expected, moves, leads-as, seen-before, told-bare}
@@ -52,6 +52,7 @@ starts-so text =
       follows = record {
         parted = refl;
         place = refl;
+        near = omega arith;
         counts = record { depth = refl; opens = refl; few = omega arith; nodes = refl };
         labels = refl;
         columns = record { left = refl; right = refl; start = refl; size = refl };
@@ -67,15 +68,23 @@ place-in : {text : List ℕ} {ph : Phase} {s : List Opened} {seen : List Label} 
 place-in {ph = ph} {s = s} {rest = rest} F =
     omega (arith, F .place, ap length (F .parted) ∙ length-append (textIn s) (heading ph ++ rest), length-append (heading ph) rest)
 
+-- a label that is being read can be stored as a leaf
+token-fits : {text : List ℕ} {ph : Phase} {s : List Opened} {seen : List Label} {st : Scan} {a : Arrays} {i : ℕ} {rest : List ℕ} {len : ℕ}
+    → Follows text ph s seen st a i rest → nodesHere ph ≡ 0 → opensHere ph ≡ 0 → len ≤ tokenLimit
+    → i ≤ st .opens + 36 * st .nodes + length (heading ph) → Fits st (length (textIn s)) len
+token-fits {s = s} F n o l h =
+    let C = F .counts in
+    record {
+      one-more = omega (arith, C .nodes, C .depth, C .opens, n, o, nodes-bound s);
+      short = l;
+      near = omega (arith, F .place, h, C .few, C .nodes, C .opens, n, o, nodes-bound s);
+    }
+
 ready-by : {text : List ℕ} (ph : Phase) {s : List Opened} {seen : List Label} {st : Scan} {a : Arrays} {i : ℕ} {rest : List ℕ}
     → Follows text ph s seen st a i rest → Room st → Ready (st .mode) st
 ready-by nodeDue {st = st} F r = ready-as st (sym (F .mode)) r
-ready-by (inLabel x) {s = s} {st = st} F r =
-    let C = F .counts in
-    ready-as st (sym (F .mode .0)) (r, omega (arith, C .nodes, C .depth, C .opens, nodes-bound s))
-ready-by (inQuotes x) {s = s} {st = st} F r =
-    let C = F .counts in
-    ready-as st (sym (F .mode .0)) (r, omega (arith, C .nodes, C .depth, C .opens, nodes-bound s), F .mode .2)
+ready-by (inLabel x) F r = ready-as _ (sym (F .mode .0)) (r, token-fits F refl refl (omega (arith, F .mode .3)) (F .near))
+ready-by (inQuotes x) F r = ready-as _ (sym (F .mode .0)) (r, token-fits F refl refl (omega (arith, F .mode .2)) (omega (arith, F .near)))
 ready-by (afterNode t) {s = s} {st = st} F r =
     let C = F .counts in
     ready-as st (sym (F .mode)) (

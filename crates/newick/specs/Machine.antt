@@ -1,5 +1,5 @@
--- The reading machine over lists of array entries, a definition for each function of the source that takes a step.
--- Intermediate: nothing public rests on this text; proofs/Simulation.antt ties it to the reading of a tree text.
+-- The reading machine over lists of array entries, with a definition for each function of the source that takes a step. Intermediate:
+-- nothing public rests on this text; proofs/Simulation.antt relates it to the reading of a tree text.
 use Prim.Native.Nat.{ℕ, _+_, _-_, _*_, _≤_, _<_}
 use mathlib.Core.Bool.{Bool, cond}
 use mathlib.Core.List.{List}
@@ -14,6 +14,7 @@ use Rattle.trees.specs.Label.{labelLimit}
 use Rattle.trees.specs.Tree.{leafLimit}
 use Rattle.trees.specs.Arrays.{noArrays, nodeLimit}
 use Rattle.trees.specs.Stored.{partOf, isAmong}
+use Rattle.trees.specs.Token.{tokenLimit}
 use Rattle.newick.specs.declared.Mode.{Mode}
 use Rattle.newick.specs.declared.Mode.the-variants.{Due, Inside, Quoted, After, Done}
 use Rattle.newick.specs.declared.Scan.{Scan}
@@ -116,7 +117,7 @@ leafOf text st a first len =
     cond (repeatOf text (a .start) (a .size) (st .nodes) first len) (halt Repeated first)
     (on (leafScan st) (leafArrays st a first len))
 
--- the byte after a label, when the label led to this
+-- the byte after a label, given the result of the label
 abbrev pub afterLeaf : Outcome → (u i : ℕ) → Kind → Outcome
 afterLeaf (on st a) u i k = afterOf st a u i k
 afterLeaf (halt r j) u i k = halt r j
@@ -139,7 +140,7 @@ insideOf text st a first len i Quote = labelEnd text st a first len i Quote
 insideOf text st a first len i Blank = labelEnd text st a first len i Blank
 insideOf text st a first len i Other = labelEnd text st a first len i Other
 
--- a byte that may stand between quotes, after the quote at `first` and `inner` bytes
+-- a byte that is allowed between quotes, after the quote at `first` and `inner` bytes
 unfoldable pub innerOf : Scan → Arrays → (first inner i : ℕ) → Outcome
 innerOf st a first inner i =
     cond (ltb inner labelLimit) (on (scan (Quoted first (inner + 1)) (st .depth) (st .opens) (st .nodes)) a) (halt LabelTooLong i)
@@ -182,7 +183,7 @@ abbrev pub withArrays : TreeAnswer → ℕ → (l r s z : List ℕ) → TreeRead
 withArrays answer nodes l r s z =
     record { answer = answer; tree = record { nodes = nodes; left = l; right = r; start = s; size = z } }
 
--- the answer where the text ends
+-- the answer if the text ends here
 unfoldable pub answerOf : Mode → List ℕ → Body → Scan → (start size : List ℕ) → TreeAnswer
 unfolding repeatOf
 answerOf Due text body st start size = refusal body EndsTooSoon (length text)
@@ -198,10 +199,16 @@ pub record Room (st : Scan) : Type 0 where
   pub few : st .opens ≤ openLimit
   pub deep : st .depth ≤ st .opens
 
+-- a token of `len` bytes from `first` can be stored as the next leaf
+pub record Fits (st : Scan) (first len : ℕ) : Type 0 where
+  pub one-more : st .nodes + st .depth ≤ 2 * st .opens
+  pub short : len ≤ tokenLimit
+  pub near : first < 65536
+
 -- what a step in this mode may rely on
 abbrev pub Ready : Mode → Scan → Type 0
 Ready Due st = Room st
-Ready (Inside first len) st = Room st × (st .nodes + st .depth ≤ 2 * st .opens)
-Ready (Quoted first len) st = Room st × (st .nodes + st .depth ≤ 2 * st .opens) × (len ≤ labelLimit)
+Ready (Inside first len) st = Room st × Fits st first len
+Ready (Quoted first len) st = Room st × Fits st first (len + 2)
 Ready (After u) st = Room st × (st .nodes + st .depth ≤ 2 * st .opens + 1) × (u < nodeLimit)
 Ready Done st = Room st

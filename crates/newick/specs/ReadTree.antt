@@ -1,6 +1,6 @@
--- Reading a tree text from left to right: "The class of the byte and what may follow at that point decide each step."
--- Scope paper, "Tree text" and rows 1 to 5 of "Why a job is turned down"; request paper, C-12, for quotes. A repeat is told at its first
--- byte, so the first fault that is met is the one with the smallest place. The tree has the labels as they stand in the text.
+-- Reading a tree text from left to right: "The class of the byte and what may follow at that point decide each step." 01, "Tree text" and
+-- rows 1 to 5 of "Why a job is turned down"; C-12 for quotes. A repeat is reported at its first byte, so the first fault that is met is the
+-- one with the smallest place. The tree has tokens for labels.
 use Prim.Native.Nat.{ℕ, _+_, _-_}
 use mathlib.Core.Bool.{Bool, cond}
 use mathlib.Core.List.{List, [], _∷_, _++_}
@@ -27,8 +27,8 @@ pub data Opened : Type 0 where
   first : Opened
   second : Tree → Opened
 
--- where the reader stands: a node must begin, inside a bare label with these bytes so far, after an opening quote with these bytes since,
--- just after a node, or after `;`
+-- where the reader is: a node must begin; inside a bare label, with its bytes so far; after an opening quote, with the bytes since; just
+-- after a node; after `;`
 pub data Phase : Type 0 where
   nodeDue : Phase
   inLabel : Token → Phase
@@ -66,8 +66,7 @@ stepAfter t stack opens seen Quote = stop BadByte
 stepAfter t stack opens seen Blank = stop BadByte
 stepAfter t stack opens seen Other = stop BadByte
 
--- a byte where a node must begin; `repeat` says whether the label that begins here was seen before. C-12: "An opening quote begins a
--- label"
+-- a byte where a node must begin; `repeat` is whether the label that begins here was seen before. C-12: "An opening quote begins a label"
 unfoldable pub stepDue : List Opened → ℕ → List Label → (repeat : Bool) → ℕ → Kind → Step
 stepDue stack opens seen repeat b LabelByte =
     cond repeat (stop Repeated) (next (record { phase = inLabel (b ∷ []); stack = stack; opens = opens; seen = seen }))
@@ -150,12 +149,12 @@ unfoldable pub readTree : List ℕ → Reading Tree
 unfolding readFrom
 readTree text = readFrom startState 0 text
 
--- by an edition, which decides whether a label repeats
+-- under an edition, which decides whether a label repeats
 unfoldable pub readTreeIn : Edition → List ℕ → Reading Tree
 unfolding readTree asStands
 readTreeIn e text = asStands (readTree (inEdition e text)) (readTree text)
 
--- the answer of the tree reader, told which body it reads
+-- the answer of the tree reader for the given body
 unfoldable pub treeRead : Body → Reading Tree → TreeRead
 treeRead body (good t) = record { answer = Leaves (length (leaves t)); tree = arraysOf t }
 treeRead body (refused r at) =

@@ -1,5 +1,5 @@
--- What an answer of the tree reader says in the scope paper's terms: how many leaves, or a row of the table "Why a job is turned down"
--- with its number, body letter and place. Beside it the table's examples.
+-- An answer of the tree reader in 01's terms: how many leaves, or a row of the table "Why a job is turned down" with its number, body
+-- letter and place. Then the table's examples.
 use Prim.Native.Nat.{ℕ}
 use mathlib.Core.Path.{_≡_}
 use mathlib.Core.List.{List, [], _∷_, _++_}
@@ -20,7 +20,7 @@ unfolding rowOf
 treeSays (Leaves n) = value n
 treeSays (Refused r) = rowOf r
 
--- what the reader says by an edition of a text that is given as a body
+-- the answer under an edition for a text given as a body
 unfoldable pub saysOf : Edition → Body → List ℕ → Said ℕ
 unfolding treeRead readTreeIn treeSays
 saysOf e body text = treeSays (treeRead body (readTreeIn e text) .answer)
@@ -30,7 +30,7 @@ pub record TableRows : Type 0 where
   pub blank : saysOf One S (bytesOf "(a b);") ≡ row 1 83 2
   pub no-semicolon : saysOf One S (bytesOf "(a,b)") ≡ row 2 83 5
   pub no-bytes : saysOf One S (bytesOf "") ≡ row 2 83 0
-  -- thirty-three `a`: "Number 3 now stands at the 33rd byte" (request C-14)
+  -- thirty-three `a`: "Number 3 now stands at the 33rd byte" (C-14)
   pub thirty-three : saysOf One S (replicate 33 97) ≡ row 3 83 32
   -- seventeen `a` and `;`, which were refused before it
   pub seventeen : saysOf One S (replicate 17 97 ++ bytesOf ";") ≡ value 1

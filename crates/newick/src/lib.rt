@@ -22,7 +22,7 @@ ghost use Rattle.trees.specs.Arrays.{nodeLimit};
 ghost use Rattle.trees.specs.Slots.{Marked};
 ghost use Rattle.newick.specs.ReadTree.{readTreeIn, treeRead};
 ghost use Rattle.newick.specs.declared.Mode.the-variants.{Due};
-ghost use Rattle.newick.specs.Machine.{repeatOf, arrays, outcome, Room, Ready};
+ghost use Rattle.newick.specs.Machine.{repeatOf, arrays, outcome, Room, Fits, Ready};
 ghost use Rattle.newick.specs.Machine.{scan, dueOf, closeOf, commaOf, afterOf, leafOf, labelEnd, insideOf, innerOf};
 ghost use Rattle.newick.specs.Machine.{quotedOf, moveOf, answerOf};
 ghost use Rattle.newick.specs.Machine.{refusal, turnedDown, withArrays};
@@ -70,8 +70,8 @@ enum Move {
 fn repeated(
     edition: Edition,
     text: &[u8],
-    start: &[usize; NODE_LIMIT],
-    size: &[usize; NODE_LIMIT],
+    start: &[u16; NODE_LIMIT],
+    size: &[u8; NODE_LIMIT],
     nodes: usize,
     first: usize,
     len: usize,
@@ -89,7 +89,7 @@ fn repeated(
 }
 
 // A byte where a node must begin.
-fn on_due(st: Scan, kind: Kind, at: usize, stack: &mut [usize; OPEN_LIMIT]) -> Move
+fn on_due(st: Scan, kind: Kind, at: usize, stack: &mut [u8; OPEN_LIMIT]) -> Move
     requires { ⌜ Room st ⌝ }
     ensures { λ m. ⌜ ((l r s z : List ℕ) → outcome m (arrays (now (stack .exit)) l r s z)
         ≡ dueOf st (arrays (now (stack .entry)) l r s z) at kind) ⌝ }
@@ -130,12 +130,12 @@ fn on_close(
     st: Scan,
     u: usize,
     at: usize,
-    stack: &[usize; OPEN_LIMIT],
-    left: &mut [usize; NODE_LIMIT],
-    right: &mut [usize; NODE_LIMIT],
+    stack: &[u8; OPEN_LIMIT],
+    left: &mut [u8; NODE_LIMIT],
+    right: &mut [u8; NODE_LIMIT],
 ) -> Move
     requires { ⌜ Room st ⌝ }
-    requires { ⌜ st .nodes + st .depth ≤ 2 * st .opens + 1 ⌝ }
+    requires { ⌜ (st .nodes + st .depth ≤ 2 * st .opens + 1) × (u < nodeLimit) ⌝ }
     ensures { λ m. ⌜ ((s z : List ℕ) → outcome m (arrays (now (stack .entry)) (now (left .exit)) (now (right .exit)) s z)
         ≡ closeOf st (arrays (now (stack .entry)) (now (left .entry)) (now (right .entry)) s z) u at) ⌝ }
 {
@@ -149,7 +149,7 @@ fn on_close(
     }
     let nodes = st.nodes;
     left[nodes] = child - 1;
-    right[nodes] = u;
+    right[nodes] = trees::narrow(u);
     Move::On(Scan {
         mode: Mode::After(nodes),
         depth: depth - 1,
@@ -159,7 +159,7 @@ fn on_close(
 }
 
 // `,` after node `u`: the innermost `(` lacks its first child, and `u` is that child.
-fn on_comma(st: Scan, u: usize, at: usize, stack: &mut [usize; OPEN_LIMIT]) -> Move
+fn on_comma(st: Scan, u: usize, at: usize, stack: &mut [u8; OPEN_LIMIT]) -> Move
     requires { ⌜ Room st ⌝ }
     requires { ⌜ u < nodeLimit ⌝ }
     ensures { λ m. ⌜ ((l r s z : List ℕ) → outcome m (arrays (now (stack .exit)) l r s z)
@@ -173,7 +173,7 @@ fn on_comma(st: Scan, u: usize, at: usize, stack: &mut [usize; OPEN_LIMIT]) -> M
     if child != 0 {
         return Move::Stop(Reason::BadByte, at);
     }
-    stack[depth - 1] = u + 1;
+    stack[depth - 1] = trees::narrow(u + 1);
     Move::On(Scan {
         mode: Mode::Due,
         depth: depth,
@@ -188,9 +188,9 @@ fn on_after(
     u: usize,
     kind: Kind,
     at: usize,
-    stack: &mut [usize; OPEN_LIMIT],
-    left: &mut [usize; NODE_LIMIT],
-    right: &mut [usize; NODE_LIMIT],
+    stack: &mut [u8; OPEN_LIMIT],
+    left: &mut [u8; NODE_LIMIT],
+    right: &mut [u8; NODE_LIMIT],
 ) -> Move
     requires { ⌜ Room st ⌝ }
     requires { ⌜ (st .nodes + st .depth ≤ 2 * st .opens + 1) × (u < nodeLimit) ⌝ }
@@ -224,14 +224,14 @@ fn on_leaf(
     st: Scan,
     first: usize,
     len: usize,
-    left: &mut [usize; NODE_LIMIT],
-    right: &mut [usize; NODE_LIMIT],
-    start: &mut [usize; NODE_LIMIT],
-    size: &mut [usize; NODE_LIMIT],
+    left: &mut [u8; NODE_LIMIT],
+    right: &mut [u8; NODE_LIMIT],
+    start: &mut [u16; NODE_LIMIT],
+    size: &mut [u8; NODE_LIMIT],
     seen: &mut [u8; SLOTS],
 ) -> Move
     requires { ⌜ Room st ⌝ }
-    requires { ⌜ st .nodes + st .depth ≤ 2 * st .opens ⌝ }
+    requires { ⌜ Fits st first len ⌝ }
     requires { ⌜ Marked nodeLimit (inEdition edition (now text)) (now start) (now size) (now seen) ⌝ }
     ensures { λ m. ⌜ ((k : List ℕ) → outcome m (arrays k (now (left .exit)) (now (right .exit)) (now (start .exit)) (now (size .exit)))
         ≡ leafOf (inEdition edition (now (text .entry))) st
@@ -245,10 +245,11 @@ fn on_leaf(
         return Move::Stop(Reason::Repeated, first);
     }
     seen[slot] = 1;
-    left[nodes] = nodes;
-    right[nodes] = nodes;
-    start[nodes] = first;
-    size[nodes] = len;
+    let own = trees::narrow(nodes);
+    left[nodes] = own;
+    right[nodes] = own;
+    start[nodes] = trees::narrow_place(first);
+    size[nodes] = trees::narrow(len);
     Move::On(Scan {
         mode: Mode::After(nodes),
         depth: st.depth,
@@ -266,15 +267,15 @@ fn on_label_end(
     len: usize,
     kind: Kind,
     at: usize,
-    stack: &mut [usize; OPEN_LIMIT],
-    left: &mut [usize; NODE_LIMIT],
-    right: &mut [usize; NODE_LIMIT],
-    start: &mut [usize; NODE_LIMIT],
-    size: &mut [usize; NODE_LIMIT],
+    stack: &mut [u8; OPEN_LIMIT],
+    left: &mut [u8; NODE_LIMIT],
+    right: &mut [u8; NODE_LIMIT],
+    start: &mut [u16; NODE_LIMIT],
+    size: &mut [u8; NODE_LIMIT],
     seen: &mut [u8; SLOTS],
 ) -> Move
     requires { ⌜ Room st ⌝ }
-    requires { ⌜ st .nodes + st .depth ≤ 2 * st .opens ⌝ }
+    requires { ⌜ Fits st first len ⌝ }
     requires { ⌜ Marked nodeLimit (inEdition edition (now text)) (now start) (now size) (now seen) ⌝ }
     ensures { λ m. ⌜ outcome m (arrays (now (stack .exit)) (now (left .exit)) (now (right .exit)) (now (start .exit)) (now (size .exit)))
         ≡ labelEnd (inEdition edition (now (text .entry))) st
@@ -309,15 +310,15 @@ fn on_inside(
     len: usize,
     kind: Kind,
     at: usize,
-    stack: &mut [usize; OPEN_LIMIT],
-    left: &mut [usize; NODE_LIMIT],
-    right: &mut [usize; NODE_LIMIT],
-    start: &mut [usize; NODE_LIMIT],
-    size: &mut [usize; NODE_LIMIT],
+    stack: &mut [u8; OPEN_LIMIT],
+    left: &mut [u8; NODE_LIMIT],
+    right: &mut [u8; NODE_LIMIT],
+    start: &mut [u16; NODE_LIMIT],
+    size: &mut [u8; NODE_LIMIT],
     seen: &mut [u8; SLOTS],
 ) -> Move
     requires { ⌜ Room st ⌝ }
-    requires { ⌜ st .nodes + st .depth ≤ 2 * st .opens ⌝ }
+    requires { ⌜ Fits st first len ⌝ }
     requires { ⌜ Marked nodeLimit (inEdition edition (now text)) (now start) (now size) (now seen) ⌝ }
     ensures { λ m. ⌜ outcome m (arrays (now (stack .exit)) (now (left .exit)) (now (right .exit)) (now (start .exit)) (now (size .exit)))
         ≡ insideOf (inEdition edition (now (text .entry))) st
@@ -381,14 +382,14 @@ fn on_quoted(
     len: usize,
     kind: Kind,
     at: usize,
-    left: &mut [usize; NODE_LIMIT],
-    right: &mut [usize; NODE_LIMIT],
-    start: &mut [usize; NODE_LIMIT],
-    size: &mut [usize; NODE_LIMIT],
+    left: &mut [u8; NODE_LIMIT],
+    right: &mut [u8; NODE_LIMIT],
+    start: &mut [u16; NODE_LIMIT],
+    size: &mut [u8; NODE_LIMIT],
     seen: &mut [u8; SLOTS],
 ) -> Move
     requires { ⌜ Room st ⌝ }
-    requires { ⌜ (st .nodes + st .depth ≤ 2 * st .opens) × (len ≤ labelLimit) ⌝ }
+    requires { ⌜ Fits st first (len + 2) ⌝ }
     requires { ⌜ Marked nodeLimit (inEdition edition (now text)) (now start) (now size) (now seen) ⌝ }
     ensures { λ m. ⌜ ((k : List ℕ) → outcome m (arrays k (now (left .exit)) (now (right .exit)) (now (start .exit)) (now (size .exit)))
         ≡ quotedOf (inEdition edition (now (text .entry))) st
@@ -426,11 +427,11 @@ fn step(
     table: &[u8; 256],
     st: Scan,
     at: usize,
-    stack: &mut [usize; OPEN_LIMIT],
-    left: &mut [usize; NODE_LIMIT],
-    right: &mut [usize; NODE_LIMIT],
-    start: &mut [usize; NODE_LIMIT],
-    size: &mut [usize; NODE_LIMIT],
+    stack: &mut [u8; OPEN_LIMIT],
+    left: &mut [u8; NODE_LIMIT],
+    right: &mut [u8; NODE_LIMIT],
+    start: &mut [u16; NODE_LIMIT],
+    size: &mut [u8; NODE_LIMIT],
     seen: &mut [u8; SLOTS],
 ) -> Move
     requires { ⌜ (at < length (now text)) × (now table ≡ classTable) ⌝ }
@@ -499,8 +500,8 @@ fn at_end(
     text: &[u8],
     body: Body,
     st: Scan,
-    start: &[usize; NODE_LIMIT],
-    size: &[usize; NODE_LIMIT],
+    start: &[u16; NODE_LIMIT],
+    size: &[u8; NODE_LIMIT],
 ) -> TreeAnswer
     requires { ⌜ Ready (st .mode) st ⌝ }
     ensures { λ a. ⌜ a ≡ answerOf (st .mode) (inEdition edition (now (text .entry))) body st (now (start .entry)) (now (size .entry)) ⌝ }
@@ -527,10 +528,10 @@ fn turned_down(answer: TreeAnswer) -> TreeRead
         answer: answer,
         tree: TreeArrays {
             nodes: 0,
-            left: [0usize; NODE_LIMIT],
-            right: [0usize; NODE_LIMIT],
-            start: [0usize; NODE_LIMIT],
-            size: [0usize; NODE_LIMIT],
+            left: [0u8; NODE_LIMIT],
+            right: [0u8; NODE_LIMIT],
+            start: [0u16; NODE_LIMIT],
+            size: [0u8; NODE_LIMIT],
         },
     }
 }
@@ -539,10 +540,10 @@ fn turned_down(answer: TreeAnswer) -> TreeRead
 fn with_arrays(
     answer: TreeAnswer,
     nodes: usize,
-    left: [usize; NODE_LIMIT],
-    right: [usize; NODE_LIMIT],
-    start: [usize; NODE_LIMIT],
-    size: [usize; NODE_LIMIT],
+    left: [u8; NODE_LIMIT],
+    right: [u8; NODE_LIMIT],
+    start: [u16; NODE_LIMIT],
+    size: [u8; NODE_LIMIT],
 ) -> TreeRead
     ensures { λ r. ⌜ r ≡ withArrays answer nodes left right start size ⌝ }
 {
@@ -576,11 +577,11 @@ pub fn read_tree(edition: Edition, text: &[u8], body: Body) -> TreeRead
     ensures { λ r. ⌜ r ≡ treeRead body (readTreeIn edition (now (text .entry))) ⌝ }
 {
     let table = trees::classes();
-    let mut stack = [0usize; OPEN_LIMIT];
-    let mut left = [0usize; NODE_LIMIT];
-    let mut right = [0usize; NODE_LIMIT];
-    let mut start = [0usize; NODE_LIMIT];
-    let mut size = [0usize; NODE_LIMIT];
+    let mut stack = [0u8; OPEN_LIMIT];
+    let mut left = [0u8; NODE_LIMIT];
+    let mut right = [0u8; NODE_LIMIT];
+    let mut start = [0u16; NODE_LIMIT];
+    let mut size = [0u8; NODE_LIMIT];
     let mut seen = trees::first_marks();
     let mut st = beginning();
     let mut i: usize = 0;

@@ -1,8 +1,8 @@
 // Reads one tree text from standard input and writes its normal text and a line end, or one refusal line with letter S. A text alone states
-// no edition: it is read and written by the first.
+// no edition: it is read and written under the first.
 //
-// No accepted text passes `trees::TREE_ROOM` bytes, no refusal has a place beyond, and each is decided by the bytes before its place, the
-// label that begins there and one byte more. So the first `INPUT_ROOM` bytes decide the answer to an input of any length.
+// No accepted text is longer than `trees::TREE_ROOM` bytes, and no refusal has a place beyond. Each is decided by the bytes before its
+// place, the label that begins there and one more byte. So the first `INPUT_ROOM` bytes decide the answer to an input of any length.
 use newick::TreeAnswer;
 use trees::Body;
 use trees::Edition;

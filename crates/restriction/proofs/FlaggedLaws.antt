@@ -17,16 +17,23 @@ use Rattle.trees.specs.Edition.{keyed, ValidIn}
 use Rattle.trees.specs.Text.{textOf}
 use Rattle.trees.specs.declared.TreeArrays.{TreeArrays}
 use Rattle.trees.specs.Arrays.{nodesOf, arraysOf, treeOf, oneTree}
-use Rattle.trees.specs.Postorder.{postorder, subtree}
+use Rattle.trees.specs.Postorder.{postorder, subtree, LeafIs}
 use Rattle.trees.proofs.Bools.{bool-cases, clash, and-left, and-right, and-intro, or-cases, or-inl, or-inr}
 use Rattle.trees.proofs.LabelLaws.{same-eq, same-refl}
 use Rattle.trees.proofs.EditionLaws.{valid-spelled}
 use Rattle.trees.proofs.ArrayLaws.{stands}
 use Rattle.trees.proofs.PostorderLaws.{leaf-once}
 use Rattle.agreement.specs.Restrict.{restrictIn}
-use Rattle.restriction.specs.Flagged.{isThisLeaf, flaggedBelow, flagged, FlaggedLeaf}
+use Rattle.restriction.specs.Flagged.{isThisLeaf, flaggedBelow, flagged}
 use Rattle.restriction.specs.Kept.{keptStanding, standingOf}
 use Rattle.restriction.proofs.RestrictionLaws.{own-kept}
+
+-- a node below n that is the leaf x and has a flag
+record FlaggedLeaf (n : ℕ) (ts : List Tree) (kept : List Bool) (x : Label) : Type 0 where
+  at : ℕ
+  below : at < n
+  flag : getD kept at false ≡ true
+  is : subtree ts at ≡ leaf x
 
 this-leaf : (t : Tree) (x : Label) → isThisLeaf t x ≡ true → t ≡ leaf x
 unfolding isThisLeaf
@@ -91,9 +98,19 @@ pub kept-flagged : (e : Edition) (t : Tree) → ValidIn e t → (kept : List Boo
 kept-flagged e t v kept = own-kept e t v kept (flagged (keyed e t) kept) (flag-tells (keyed e t) (v .different) kept)
 
 -- a label is flagged exactly if some flagged node is its leaf
-pub flagged-iff : (t : Tree) (kept : List Bool) (x : Label) → flagged t kept x ≡ true ↔ FlaggedLeaf (nodesOf t) (postorder t) kept x
+pub flagged-iff : (t : Tree) (kept : List Bool) (x : Label)
+    → (flagged t kept x ≡ true) ↔ ((u : ℕ) × LeafIs t u x × (getD kept u false ≡ true))
 unfolding flagged
-flagged-iff t kept x = (flagged-leaf (nodesOf t) (postorder t) kept x, leaf-flagged (nodesOf t) (postorder t) kept x)
+flagged-iff t kept x = (
+  λ h. let r = flagged-leaf (nodesOf t) (postorder t) kept x h in (r .at, record { below = r .below; is = r .is }, r .flag),
+  λ h. leaf-flagged (nodesOf t) (postorder t) kept x (record { at = h .0; below = h .1 .below; flag = h .2; is = h .1 .is }),
+)
+
+-- where each leaf's flag tells whether a set has its label, what is kept is the restriction to that set
+pub set-kept : (e : Edition) (t : Tree) → ValidIn e t → (kept : List Bool) (X : Label → Bool)
+    → ((u : ℕ) (x : Label) → LeafIs (keyed e t) u x → getD kept u false ≡ X x)
+    → keptStanding (arraysOf t) (textOf t) kept ≡ standingOf (restrictIn e X t)
+set-kept e t v kept X f = own-kept e t v kept X (λ u h x k. f u x (record { below = h; is = k }))
 
 -- so what the contract of `restrict_tree` says of its result over a valid tree's own arrays is this
 pub result-flagged : (e : Edition) (t : Tree) → ValidIn e t → (kept : List Bool) (r : TreeArrays)

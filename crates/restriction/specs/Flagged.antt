@@ -1,7 +1,6 @@
 -- The labels of the flagged leaves of a tree whose nodes are numbered in postorder.
-use Prim.Native.Nat.{ℕ, zero, suc, _<_}
-use mathlib.Core.Path.{_≡_}
-use mathlib.Core.Bool.{Bool, true, false, _&&_, _||_}
+use Prim.Native.Nat.{ℕ, zero, suc}
+use mathlib.Core.Bool.{Bool, false, _&&_, _||_}
 use mathlib.Core.List.{List}
 use lib.ListN.{getD}
 use Rattle.trees.specs.Label.{Label, sameLabel}
@@ -23,10 +22,3 @@ flaggedBelow (suc n) ts kept x = (getD kept n false && isThisLeaf (subtree ts n)
 unfoldable pub flagged : Tree → List Bool → Label → Bool
 unfolding flaggedBelow
 flagged t kept x = flaggedBelow (nodesOf t) (postorder t) kept x
-
--- a node below n that is the leaf x and has a flag
-pub record FlaggedLeaf (n : ℕ) (ts : List Tree) (kept : List Bool) (x : Label) : Type 0 where
-  pub at : ℕ
-  pub below : at < n
-  pub flag : getD kept at false ≡ true
-  pub is : subtree ts at ≡ leaf x

@@ -1,4 +1,4 @@
--- The tree that is left of tree arrays when only the leaves with these numbers are kept. Source paper 003, section 2.
+-- The tree that is left of tree arrays when only the leaves with these numbers are kept. 003, section 2.
 use Prim.Native.Nat.{ℕ, zero, suc, _-_}
 use mathlib.Core.Bool.{Bool, false, cond}
 use mathlib.Core.List.{List}
@@ -21,7 +21,7 @@ unfoldable pub standingOf : Option Tree → Standing
 standingOf none = noLeaf
 standingOf (some t) = oneTree t
 
--- what is left of the arrays, where they stand for a tree
+-- what is left of the arrays, if they represent a tree
 unfoldable pub keptStanding : TreeArrays → List ℕ → List Bool → Standing
 unfolding keptAt standingOf
 keptStanding a text kept = standingOf (keptAt (a .nodes) a text kept (a .nodes - 1))

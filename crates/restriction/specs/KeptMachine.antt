@@ -10,7 +10,7 @@ use Rattle.trees.specs.Arrays.{nodeLimit}
 use Rattle.restriction.specs.declared.Fate.{Fate}
 use Rattle.restriction.specs.declared.Fate.the-variants.{Known, Fresh}
 
--- how far the pass is: the new nodes so far, and the new number of each node passed, 159 where no leaf is kept below it
+-- how far the pass is: the new nodes so far, and the new number of each node passed, 159 if no leaf is kept below it
 pub record Pass : Type 0 where
   pub count : ℕ
   pub moved : List ℕ
@@ -38,7 +38,7 @@ movedTo moved child u = cond (ltb child u) (getD moved child 0) nodeLimit
 unfoldable pub joined : ℕ → ℕ → Fate
 joined p q = cond (eqb p nodeLimit) (Known q) (cond (eqb q nodeLimit) (Known p) (Fresh p q))
 
--- what becomes of node u where `count` is the next new number
+-- what becomes of node u if `count` is the next new number
 unfoldable pub fateOf : List ℕ → List ℕ → List ℕ → List Bool → ℕ → ℕ → Fate
 unfolding movedTo joined
 fateOf left right moved kept u count =

@@ -13,12 +13,12 @@ ghost use Rattle.restriction.specs.KeptMachine.{passAt, movedTo, fateOf,
 
 // What becomes of a node: it has this new number, 159 where no leaf is kept below it; or it is a new node with these children.
 enum Fate {
-    Known(usize),
-    Fresh(usize, usize),
+    Known(u8),
+    Fresh(u8, u8),
 }
 
 // The new number of a child of node u. A child that does not come before its parent has none.
-fn moved_to(moved: &[usize; 159], child: usize, u: usize) -> usize
+fn moved_to(moved: &[u8; 159], child: usize, u: usize) -> u8
     requires { ⌜ u < 159 ⌝ }
     ensures { λ r. ⌜ r ≡ movedTo (now (moved .entry)) child u ⌝ }
 {
@@ -28,17 +28,17 @@ fn moved_to(moved: &[usize; 159], child: usize, u: usize) -> usize
 // What becomes of node u, `count` being the next new number: a kept leaf is new and its own child, an inner node is new
 // where both children keep a leaf, and else it goes by the one child that does.
 fn fate_of(
-    left: &[usize; 159],
-    right: &[usize; 159],
-    moved: &[usize; 159],
+    left: &[u8; 159],
+    right: &[u8; 159],
+    moved: &[u8; 159],
     kept: &[bool; 159],
     u: usize,
-    count: usize,
+    count: u8,
 ) -> Fate
     requires { ⌜ u < 159 ⌝ }
     ensures { λ r. ⌜ r ≡ fateOf (now (left .entry)) (now (right .entry)) (now (moved .entry)) (now (kept .entry)) u count ⌝ }
 {
-    let l = left[u];
+    let l = trees::wide(left[u]);
     if l == u {
         if kept[u] {
             return Fate::Fresh(count, count);
@@ -46,7 +46,7 @@ fn fate_of(
         return Fate::Known(159);
     }
     let p = moved_to(moved, l, u);
-    let q = moved_to(moved, right[u], u);
+    let q = moved_to(moved, trees::wide(right[u]), u);
     if p == 159 {
         return Fate::Known(q);
     }
@@ -59,11 +59,11 @@ fn fate_of(
 // Node u passed: the new count. The `count` new nodes stand at the front of the arrays that are read: they are never more
 // than the nodes passed, so nothing is overwritten that is still to be read.
 fn keep_node(
-    left: &mut [usize; 159],
-    right: &mut [usize; 159],
-    start: &mut [usize; 159],
-    size: &mut [usize; 159],
-    moved: &mut [usize; 159],
+    left: &mut [u8; 159],
+    right: &mut [u8; 159],
+    start: &mut [u16; 159],
+    size: &mut [u8; 159],
+    moved: &mut [u8; 159],
     kept: &[bool; 159],
     u: usize,
     count: usize,
@@ -74,7 +74,8 @@ fn keep_node(
         ≡ stepOf (now (kept .entry)) u
         (passAt count (now (moved .entry)) (now (left .entry)) (now (right .entry)) (now (start .entry)) (now (size .entry))) ⌝ }
 {
-    let fate = fate_of(left, right, moved, kept, u, count);
+    let next = trees::narrow(count);
+    let fate = fate_of(left, right, moved, kept, u, next);
     match fate {
         Fate::Known(p) => {
             moved[u] = p;
@@ -85,21 +86,21 @@ fn keep_node(
             right[count] = r;
             start[count] = start[u];
             size[count] = size[u];
-            moved[u] = count;
+            moved[u] = next;
             count + 1
         }
     }
 }
 
 // The nodes up to the new number of the root, the last of n nodes; 0 where no leaf is kept.
-fn nodes_kept(moved: &[usize; 159], n: usize) -> usize
+fn nodes_kept(moved: &[u8; 159], n: usize) -> usize
     requires { ⌜ n ≤ 159 ⌝ }
     ensures { λ r. ⌜ r ≡ nodesKept (now (moved .entry)) n ⌝ }
 {
     if n == 0 {
         return 0;
     }
-    let root = moved[n - 1];
+    let root = trees::wide(moved[n - 1]);
     if root < 159 { root + 1 } else { 0 }
 }
 
@@ -119,7 +120,7 @@ pub fn restrict_tree(tree: TreeArrays, kept: [bool; 159]) -> TreeArrays
     let mut right = tree.right;
     let mut start = tree.start;
     let mut size = tree.size;
-    let mut moved = [0usize; 159];
+    let mut moved = [0u8; 159];
     let mut count: usize = 0;
     let mut u: usize = 0;
     while u < n {

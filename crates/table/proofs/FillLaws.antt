@@ -17,9 +17,9 @@ use Rattle.agreement.specs.Weights.{best}
 use Rattle.agreement.specs.Powers.{power}
 use Rattle.table.specs.declared.fill.Children.{Children}
 use Rattle.table.specs.Table.{valueAt, columnAt, nodesAt, weightPlace, joinNeed, need, SplitAt, Shape, RowTo}
-use Rattle.table.specs.Table.{Filling, Spared, Filled, Rows, InnerRow, Joined, LeafRow, NodeRow}
+use Rattle.table.specs.Table.{Filling, Spared, Filled, Rows, InnerRow, Joined, SpanRow, NodeRow}
 use Rattle.table.specs.Solving.{TopIs}
-use Rattle.table.proofs.RowLaws.{NodeCase, is-leaf, is-node, node-case, row-apart, rank-kept}
+use Rattle.table.proofs.RowLaws.{NodeCase, is-leaf, is-node, node-case, row-apart, rank-kept, span-best}
 
 -- the child that needs more rows may use all that the node needs; for the other one a row less is enough
 need-split : (a b next : ℕ) → next + joinNeed a b ≤ 8 → (swapped : Bool) → swapped ≡ ltb a b
@@ -95,9 +95,9 @@ filling-kept first second ss ts w h l h' l' shape same f = record {
 
 module _ (first second : List ℕ) (u row other next : ℕ) (hu : u < nodesAt first) (h0 l0 h3 l3 : List ℕ) where
   -- a leaf
-  pub leaf-made : columnAt first 0 u ≡ u → LeafRow (nodesAt second) second (columnAt first 2 u) row h0 l0 h3 l3
-      → NodeRow first second u row other next h0 l0 h3 l3
-  leaf-made e made = record {
+  pub leaf-made : nodesAt second ≤ 159 → columnAt first 0 u ≡ u → columnAt first 2 u ≤ 80
+      → SpanRow (nodesAt second) second (columnAt first 2 u) row h0 l0 h3 l3 → NodeRow first second u row other next h0 l0 h3 l3
+  leaf-made few e small made = record {
     sized = made .sized;
     filled = λ ss ts w sh sl f rows. record {
       right = go ss ts w sh sl f (node-case (f .one .laid u hu));
@@ -108,7 +108,11 @@ module _ (first second : List ℕ) (u row other next : ℕ) (hu : u < nodesAt fi
       go : (ss ts : List Tree) (w : Label → ℕ) → length h0 ≡ 1431 → length l0 ≡ 1431 → Filling first second ss ts w h0 l0
           → NodeCase ss (columnAt first 0 u) (columnAt first 1 u) u (subtree ss u)
           → RowTo (nodesAt second) ts w (subtree ss u) row h3 l3
-      go ss ts w sh sl f (is-leaf x _ p) = rw p (made .right-row ts w x sh sl (f .two) (f .ranks u hu x p))
+      go ss ts w sh sl f (is-leaf x _ p) = record {
+        right = λ v hv.
+            made .each sh sl v hv
+            ∙ (rw p (span-best second (nodesAt second) ts w (f .two) few x (columnAt first 2 u) _ small (f .ranks u hu x p) (suc v) v (omega arith) hv));
+      }
       go ss ts w sh sl f (is-node a b p) = absurd (omega arith)
 
   -- an inner node

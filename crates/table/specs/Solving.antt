@@ -1,4 +1,4 @@
--- What the one fill of the table is given and tells: trees by their columns, and the greatest weight. Intermediate: nothing public
+-- The input and the result of the one fill of the table: trees by their columns, and the greatest weight. Intermediate: nothing public
 -- rests on this text.
 use Prim.Native.Nat.{ℕ, _-_, _<_, _≤_}
 use mathlib.Core.Path.{_≡_}
@@ -22,7 +22,7 @@ pub record Rooted (columns : List ℕ) : Type 0 where
   pub shape : Shape columns (nodesAt columns)
   pub root : 0 < nodesAt columns
 
--- the columns of tree t, with the ranks of its leaves' labels in C, 80 for a label that C has not
+-- the columns of tree t, with the ranks of its leaves' labels in C, 80 for a label that C lacks
 pub record OwnColumns (t : Tree) (C : List Label) (columns : List ℕ) : Type 0 where
   pub proper : Proper t
   pub nodes-is : nodesAt columns ≡ nodesOf t

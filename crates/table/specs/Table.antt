@@ -5,7 +5,7 @@ use mathlib.Core.Path.{_≡_}
 use mathlib.Core.Bool.{Bool, cond}
 use mathlib.Core.Logic.{_⊎_}
 use mathlib.Core.List.{List}
-use lib.Dec.{eqb, ltb}
+use lib.Dec.{eqb, ltb, leb}
 use lib.ListN.{length, getD}
 use Rattle.trees.specs.Label.{Label, sameLabel}
 use Rattle.trees.specs.Tree.{Tree, leaf, node, leaves, leafLimit}
@@ -32,19 +32,20 @@ valueAt high low i = getD high i 0 * two64 + getD low i 0
 abbrev pub wrapped : ℕ → ℕ → ℕ
 wrapped a b = (a + b) % two96
 
--- the entry of node u in column k of a tree's columns: 0 left children, 1 right children, 2 ranks, 3 rows needed
+-- the entry of node u in column k of a tree's columns: 0 left children, 1 right children, 2 ranks, 3 rows needed, 4 the first node
+-- below; in column 5 the entry of rank u is its leaf
 abbrev pub columnAt : List ℕ → ℕ → ℕ → ℕ
 columnAt columns k u = getD columns (k * 159 + u) 0
 
 -- and how many nodes there are
 abbrev pub nodesAt : List ℕ → ℕ
-nodesAt columns = getD columns 636 0
+nodesAt columns = getD columns 954 0
 
--- where the weight of rank r stands
+-- where the weight of rank r is
 abbrev pub weightPlace : ℕ → ℕ
 weightPlace r = 1272 + r
 
--- how many rows a node needs beside two, from what its children need: the child that needs more is done first
+-- how many rows a node needs in addition to two, from what its children need: the child that needs more is done first
 unfoldable pub joinNeed : ℕ → ℕ → ℕ
 joinNeed a b = cond (ltb a b) b (cond (ltb b a) a (min (suc a) 255))
 
@@ -73,20 +74,34 @@ unfolding innerAt
 cellAt f second a b u v =
     cond (eqb (columnAt second 0 v) v) (max (f (a + v)) (f (b + v))) (innerAt f a b u (columnAt second 0 v) (columnAt second 1 v) v)
 
--- the cell of a leaf with this rank and node v
-unfoldable pub leafCellAt : (ℕ → ℕ) → List ℕ → ℕ → ℕ → ℕ → ℕ
-leafCellAt f second rank u v =
-    cond (eqb (columnAt second 0 v) v) (cond (eqb (columnAt second 2 v) rank) (f (weightPlace rank)) 0)
-    (max (f (u + columnAt second 0 v)) (f (u + columnAt second 1 v)))
+-- the cell of leaf `at` of the second tree, if there is one with that number, and node v: the leaf's weight if it is below v
+unfoldable pub spanAt : List ℕ → ℕ → ℕ → ℕ → ℕ
+spanAt second weight at v = cond (ltb v at) 0 (cond (leb (columnAt second 4 v) at) weight 0)
 
 -- nothing outside a row changed
 pub record Outside (row : ℕ) (high low high' low' : List ℕ) : Type 0 where
   pub same : (i : ℕ) → (i < row * 159) ⊎ (row * 159 + 159 ≤ i) → valueAt high' low' i ≡ valueAt high low i
 
--- the columns stand for the subtrees ts
+-- the leaf among the first n nodes that has rank r; 255 if there is none
+pub data LeafOf (columns : List ℕ) (n r at : ℕ) : Type 0 where
+  no-leaf : at ≡ 255 → ((u : ℕ) → u < n → columnAt columns 0 u ≡ u → columnAt columns 2 u ≡ r → ⊥) → LeafOf columns n r at
+  one-leaf : at < n → columnAt columns 0 at ≡ at → columnAt columns 2 at ≡ r → LeafOf columns n r at
+
+-- the nodes below an inner node: those below its left child, then those below its right child, then the node
+pub record Spans (columns : List ℕ) (v : ℕ) : Type 0 where
+  pub right-last : columnAt columns 1 v + 1 ≡ v
+  pub right-low : columnAt columns 4 (columnAt columns 1 v) ≡ columnAt columns 0 v + 1
+  pub left-low : columnAt columns 4 (columnAt columns 0 v) ≡ columnAt columns 4 v
+
+-- the columns represent the subtrees ts
 pub record Columns (columns : List ℕ) (nodes : ℕ) (ts : List Tree) : Type 0 where
   pub laid : (v : ℕ) → v < nodes → LaidNode ts (columnAt columns 0 v) (columnAt columns 1 v) v (subtree ts v)
   pub count : length ts ≡ nodes
+  pub once : (u v : ℕ) (x : Label) → u < nodes → v < nodes → subtree ts u ≡ leaf x → subtree ts v ≡ leaf x → u ≡ v
+  pub leaf-of : (r : ℕ) → r ≤ 80 → LeafOf columns nodes r (columnAt columns 5 r)
+  pub low : (v : ℕ) → v < nodes → columnAt columns 4 v ≤ v
+  pub leaf-low : (v : ℕ) → v < nodes → columnAt columns 0 v ≡ v → columnAt columns 4 v ≡ v
+  pub spans : (v : ℕ) → v < nodes → (columnAt columns 0 v ≡ v → ⊥) → Spans columns v
 
 -- the first n cells of a row are right for subtree s
 pub record RowTo (n : ℕ) (ts : List Tree) (w : Label → ℕ) (s : Tree) (row : ℕ) (high low : List ℕ) : Type 0 where
@@ -152,18 +167,17 @@ pub record InnerRow (n : ℕ) (second : List ℕ) (left right row : ℕ) (high l
       → RowTo (nodesAt second) ts w p left high low → RowTo (nodesAt second) ts w q right high low
       → RowTo n ts w (node p q) row high' low'
 
--- the whole row, where the rows are swapped or not
+-- the whole row, with the rows swapped or not
 abbrev pub Joined : List ℕ → Bool → ℕ → ℕ → ℕ → List ℕ → List ℕ → List ℕ → List ℕ → Type 0
 Joined second swapped row other next high low high' low' =
     InnerRow (nodesAt second) second (cond swapped next other) (cond swapped other next) row high low high' low'
 
--- the first n cells of the row of a leaf
-pub record LeafRow (n : ℕ) (second : List ℕ) (rank row : ℕ) (high low high' low' : List ℕ) : Type 0 where
+-- the first n cells of the row of a leaf with this rank
+pub record SpanRow (n : ℕ) (second : List ℕ) (rank row : ℕ) (high low high' low' : List ℕ) : Type 0 where
   pub sized : Sized high low high' low'
   pub outside : Outside row high low high' low'
-  pub right-row : (ts : List Tree) (w : Label → ℕ) (x : Label) → length high ≡ 1431 → length low ≡ 1431
-      → Columns second (nodesAt second) ts → RankIs second (nodesAt second) ts w x rank (valueAt high low (weightPlace rank))
-      → RowTo n ts w (leaf x) row high' low'
+  pub each : length high ≡ 1431 → length low ≡ 1431 → (v : ℕ) → v < n
+      → valueAt high' low' (row * 159 + v) ≡ spanAt second (valueAt high low (weightPlace rank)) (columnAt second 5 rank) v
 
 -- the row of a node
 pub record NodeRow (first second : List ℕ) (u row other next : ℕ) (high low high' low' : List ℕ) : Type 0 where

@@ -1,5 +1,5 @@
-// A tree's nodes as columns of bytes in one array, so that it is lent as one: left children, right children, ranks, and how many
-// rows of the table a node needs beside two. The last entry is the number of nodes.
+// A tree's nodes as columns of bytes in one array, so that it is lent as one: left children, right children, ranks, how many rows
+// of the table a node needs beside two, and the first node below; then, by rank, the leaf. The last entry is the number of nodes.
 ghost use mathlib.Core.Path.{_≡_};
 ghost use mathlib.Core.List.{List};
 ghost use Prim.Native.Nat.{_%_, _<_, _≤_};
@@ -7,7 +7,7 @@ ghost use lib.ListN.{length};
 ghost use Rattle.trees.specs.Label.{Label};
 ghost use Rattle.trees.specs.Tree.{Tree};
 ghost use Rattle.table.specs.Table.{joinNeed};
-ghost use Rattle.table.specs.Columns.{childAt, needAt, Put, NodePut, Gathered};
+ghost use Rattle.table.specs.Columns.{childAt, needAt, lowAt, leafPlace, Put, NodePut, Gathered};
 ghost use Rattle.table.specs.Choice.{Given};
 ghost use Rattle.table.specs.Solving.{Rooted, OwnColumns};
 use crate::fill::COLUMNS;
@@ -17,6 +17,9 @@ use crate::fill::column;
 use trees::LEAF_LIMIT;
 use trees::NODE_LIMIT;
 use trees::TreeArrays;
+
+// No leaf's rank.
+const INNER: usize = LEAF_LIMIT + 1;
 
 // The rows that a node needs, from what its children need.
 fn joined_need(a: usize, b: usize) -> usize
@@ -54,8 +57,28 @@ fn needed(columns: &[u8; COLUMNS], u: usize, a: usize, b: usize) -> usize
     joined_need(column(columns, 3, a), column(columns, 3, b))
 }
 
+// The first node below node u with left child a.
+fn first_below(columns: &[u8; COLUMNS], u: usize, a: usize) -> usize
+    requires { ⌜ (u < 159) × (a ≤ u) ⌝ }
+    ensures { λ r. ⌜ r ≡ lowAt (now (columns .entry)) u a ⌝ }
+{
+    if a == u {
+        return u;
+    }
+    column(columns, 4, a)
+}
+
+// Where node u with left child a and rank n is stored as the leaf of its rank; an inner node where no leaf is.
+fn leaf_place(u: usize, a: usize, n: usize) -> usize
+    requires { ⌜ n ≤ 80 ⌝ }
+    ensures { λ r. ⌜ r ≡ leafPlace u a n ⌝ }
+    ensures { λ r. ⌜ r ≤ 81 ⌝ }
+{
+    if a == u { n } else { INNER }
+}
+
 fn put(columns: &mut [u8; COLUMNS], k: usize, u: usize, x: usize)
-    requires { ⌜ (k < 4) × (u < 159) ⌝ }
+    requires { ⌜ (k < 6) × (u < 159) ⌝ }
     ensures { λ _. ⌜ Put k u (x % 256) (now (columns .entry)) (now (columns .exit)) ⌝ }
 {
     let i = k * ROW + u;
@@ -70,27 +93,37 @@ fn put_node(columns: &mut [u8; COLUMNS], u: usize, left: usize, right: usize, ra
     let a = child(left, right, u);
     let b = child(right, left, u);
     let need = needed(columns, u, a, b);
+    let low = first_below(columns, u, a);
+    let n = trees::least(rank, LEAF_LIMIT);
     put(columns, 0, u, a);
     put(columns, 1, u, b);
-    put(columns, 2, u, trees::least(rank, LEAF_LIMIT));
+    put(columns, 2, u, n);
     put(columns, 3, u, need);
+    put(columns, 4, u, low);
+    put(columns, 5, leaf_place(u, a, n), u);
 }
 
 // The columns of the first `nodes` nodes.
 fn gathered(
-    left: &[usize; NODE_LIMIT],
-    right: &[usize; NODE_LIMIT],
+    left: &[u8; NODE_LIMIT],
+    right: &[u8; NODE_LIMIT],
     rank: &[usize; NODE_LIMIT],
     nodes: usize,
 ) -> [u8; COLUMNS]
     requires { ⌜ nodes ≤ 159 ⌝ }
     ensures { λ r. ⌜ Gathered nodes (now (left .entry)) (now (right .entry)) (now (rank .entry)) nodes r ⌝ }
 {
-    let mut columns = [0u8; COLUMNS];
+    let mut columns = [255u8; COLUMNS];
     columns[NODES] = trees::narrow(nodes);
     let mut u: usize = 0;
     while u < nodes {
-        put_node(&mut columns, u, left[u], right[u], rank[u]);
+        put_node(
+            &mut columns,
+            u,
+            trees::wide(left[u]),
+            trees::wide(right[u]),
+            rank[u],
+        );
         u += 1;
     }
     columns

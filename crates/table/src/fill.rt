@@ -1,15 +1,14 @@
 // The table over pairs of nodes: the cell of node u of the first tree and node v of the second has the greatest weight of a set on
-// which their subtrees agree (source paper 001, Lemma 3.1). The row of a node of the first tree is needed until its parent's row
+// which their subtrees agree (001, Lemma 3.1). The row of a node of the first tree is needed until its parent's row
 // is made, so that a few rows are enough.
 //
 // A weight takes 94 bits, so a cell is two numbers. The area has eight rows of cells and, in a ninth, the weights of the common
-// labels by rank. The columns of a tree are one array: left children, right children, ranks, and how many rows a node needs beside
-// the first two. Nodes are numbered children first, and a leaf is its own left child. Arrays are lent: by value they would cost
+// labels by rank. The columns of a tree are one array (columns.rt). Nodes are numbered children first, and a leaf is its own left child. Arrays are lent: by value they would cost
 // more than the work.
 ghost use mathlib.Core.Path.{_≡_};
 ghost use Prim.Native.Nat.{_<_, _≤_, max};
-ghost use Rattle.table.specs.Table.{valueOf, valueAt, wrapped, columnAt, innerAt, cellAt, leafCellAt, Shape};
-ghost use Rattle.table.specs.Table.{nodesAt, SplitAt, InnerRow, Joined, LeafRow, NodeRow};
+ghost use Rattle.table.specs.Table.{valueOf, valueAt, wrapped, columnAt, innerAt, cellAt, spanAt, Shape};
+ghost use Rattle.table.specs.Table.{nodesAt, SplitAt, InnerRow, Joined, SpanRow, NodeRow};
 ghost use Rattle.table.specs.Solving.{Rooted, TopIs};
 use trees::NODE_LIMIT;
 
@@ -23,7 +22,7 @@ pub(crate) const WEIGHTS: usize = ROWS * ROW;
 pub(crate) const AREA: usize = WEIGHTS + ROW;
 
 // The entries of a tree's columns; the last is the number of nodes.
-pub(crate) const NODES: usize = 4 * NODE_LIMIT;
+pub(crate) const NODES: usize = 6 * NODE_LIMIT;
 
 pub(crate) const COLUMNS: usize = NODES + 1;
 
@@ -70,9 +69,10 @@ pub(crate) fn cell(high: &[u32; AREA], low: &[u64; AREA], i: usize) -> Weight
     }
 }
 
-// The entry of node u in column k: 0 left children, 1 right children, 2 ranks, 3 rows needed.
+// The entry of node u in column k: 0 left children, 1 right children, 2 ranks, 3 rows needed, 4 the first node below. In column 5 the
+// entry of rank u is its leaf.
 pub(crate) fn column(columns: &[u8; COLUMNS], k: usize, u: usize) -> usize
-    requires { ⌜ (k < 4) × (u < 159) ⌝ }
+    requires { ⌜ (k < 6) × (u < 159) ⌝ }
     ensures { λ r. ⌜ r ≡ columnAt (now (columns .entry)) k u ⌝ }
 {
     let i = k * ROW + u;
@@ -140,32 +140,18 @@ fn pair_cell(
     inner_cell(high, low, a, b, u, c, d, v)
 }
 
-// The cell of a leaf with this rank, whose row starts at u, and node v.
-fn leaf_cell(
-    second: &[u8; COLUMNS],
-    high: &[u32; AREA],
-    low: &[u64; AREA],
-    rank: usize,
-    u: usize,
-    v: usize,
-) -> Weight
-    requires { ⌜ (rank ≤ 80) × (u ≤ 1272) × (v < 159) ⌝ }
-    requires { ⌜ (columnAt (now second) 0 v ≤ v) × (columnAt (now second) 1 v ≤ v) ⌝ }
-    ensures { λ r. ⌜ valueOf r ≡ leafCellAt (valueAt (now (high .entry)) (now (low .entry))) (now (second .entry)) rank u v ⌝ }
+// The cell of leaf `at` of the second tree and a node v from it on: the leaf's weight if it is below v.
+fn span_cell(second: &[u8; COLUMNS], weight: Weight, at: usize, v: usize) -> Weight
+    requires { ⌜ (v < 159) × (at ≤ v) ⌝ }
+    ensures { λ r. ⌜ valueOf r ≡ spanAt (now (second .entry)) (valueOf weight) at v ⌝ }
 {
-    let c = column(second, 0, v);
-    if c == v {
-        let other = column(second, 2, v);
-        if other == rank {
-            return cell(high, low, WEIGHTS + rank);
-        }
-        return Weight { high: 0, low: 0 };
+    if column(second, 4, v) <= at {
+        return weight;
     }
-    let d = column(second, 1, v);
-    heavier_cell(high, low, u + c, u + d)
+    Weight { high: 0, low: 0 }
 }
 
-// The row of leaf u.
+// The row of leaf u. It is 0 but for the nodes above the leaf with the same rank, which come after that leaf.
 fn fill_leaf(
     first: &[u8; COLUMNS],
     second: &[u8; COLUMNS],
@@ -174,17 +160,25 @@ fn fill_leaf(
     u: usize,
     row: usize,
 )
-    requires { ⌜ Shape (now second) (nodesAt (now second)) ⌝ }
+    requires { ⌜ nodesAt (now second) ≤ 159 ⌝ }
     requires { ⌜ (u < 159) × (columnAt (now first) 2 u ≤ 80) × (row < 8) ⌝ }
-    ensures { λ _. ⌜ LeafRow (nodesAt (now (second .entry))) (now (second .entry)) (columnAt (now (first .entry)) 2 u) row
+    ensures { λ _. ⌜ SpanRow (nodesAt (now (second .entry))) (now (second .entry)) (columnAt (now (first .entry)) 2 u) row
         (now (high .entry)) (now (low .entry)) (now (high .exit)) (now (low .exit)) ⌝ }
 {
     let rank = column(first, 2, u);
+    let weight = cell(high, low, WEIGHTS + rank);
+    let at = column(second, 5, rank);
     let nodes = trees::wide(second[NODES]);
+    let clear = trees::least(at, nodes);
     let start = row * ROW;
     let mut v: usize = 0;
+    while v < clear {
+        high[start + v] = 0;
+        low[start + v] = 0;
+        v += 1;
+    }
     while v < nodes {
-        let value = leaf_cell(second, high, low, rank, start, v);
+        let value = span_cell(second, weight, at, v);
         high[start + v] = value.high;
         low[start + v] = value.low;
         v += 1;

@@ -39,17 +39,17 @@ fn print_tree(edition: Edition, text: &[u8]) {
 }
 
 // Label i of a list, with a comma before it unless it is the first.
-fn print_label(text: &[u8], start: &[usize; 80], size: &[usize; 80], i: usize) {
+fn print_label(text: &[u8], start: &[u16; 80], size: &[u8; 80], i: usize) {
     if 80 <= i {
         return;
     }
     if 0 < i {
         io::write_all(1, b",");
     }
-    io::write_all(1, trees::part(text, start[i], size[i]));
+    io::write_all(1, trees::leaf_label(text, start, size, i));
 }
 
-fn print_labels(text: &[u8], start: &[usize; 80], size: &[usize; 80], count: usize) {
+fn print_labels(text: &[u8], start: &[u16; 80], size: &[u8; 80], count: usize) {
     let mut i: usize = 0;
     while i < count {
         print_label(text, start, size, i);
@@ -86,7 +86,7 @@ fn wide(b: u8) -> usize
     b as usize
 }
 
-// The number that two bytes stand for.
+// The number that two bytes represent.
 fn two(text: &[u8], at: usize) -> usize
     requires { ⌜ at + 2 ≤ length (now text) ⌝ }
     ensures { λ r. ⌜ r < 65536 ⌝ }
@@ -94,7 +94,7 @@ fn two(text: &[u8], at: usize) -> usize
     wide(text[at]) * 256 + wide(text[at + 1])
 }
 
-// The number that four bytes stand for.
+// The number that four bytes represent.
 fn four(text: &[u8], at: usize) -> usize
     requires { ⌜ at + 4 ≤ length (now text) ⌝ }
     ensures { λ r. ⌜ r < 4294967296 ⌝ }
@@ -127,7 +127,7 @@ fn print_case(kind: u8, text: &[u8]) {
     }
 }
 
-// The next case of the stream; false where there is none.
+// The next case of the stream; false if there is none.
 fn run_case() -> bool {
     let mut head = [0u8; 3];
     let got = io::read_full(0, &mut head);

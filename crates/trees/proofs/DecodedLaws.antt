@@ -1,14 +1,13 @@
 -- What a tree of tokens stands for has its shape. Assumes nothing.
-use Prim.Native.Nat.{ℕ, _<_, _≤_}
+use Prim.Native.Nat.{ℕ, _<_}
 use mathlib.Core.Path.{_≡_, refl, sym, _∙_, ap}
-use mathlib.Core.List.{map}
 use lib.ListN.{length}
 use Rattle.trees.specs.Label.{Label}
 use Rattle.trees.specs.Token.{Token, spelling}
 use Rattle.trees.specs.Tree.{Tree, leaf, node, leaves, relabel, decoded}
 use Rattle.trees.specs.Arrays.{nodesOf, arraysOf}
 use Rattle.trees.specs.Postorder.{postorder, subtree}
-use Rattle.trees.proofs.RelabelLaws.{leaves-relabel, leaves-count, nodes-relabel, left-relabel, right-relabel, subtree-relabel, FromLeaf, relabel-leaf}
+use Rattle.trees.proofs.RelabelLaws.{leaves-count, nodes-relabel, left-relabel, right-relabel, subtree-relabel, FromLeaf, relabel-leaf}
 
 pub decoded-leaf : (x : Token) → decoded (leaf x) ≡ leaf (spelling x)
 unfolding decoded relabel
@@ -17,10 +16,6 @@ decoded-leaf x = refl
 pub decoded-node : (a b : Tree) → decoded (node a b) ≡ node (decoded a) (decoded b)
 unfolding decoded relabel
 decoded-node a b = refl
-
-pub decoded-leaves : (t : Tree) → leaves (decoded t) ≡ map spelling (leaves t)
-unfolding decoded
-decoded-leaves t = leaves-relabel spelling t
 
 pub decoded-count : (t : Tree) → length (leaves (decoded t)) ≡ length (leaves t)
 unfolding decoded

@@ -1,5 +1,5 @@
 -- Entries of an array that a loop stores one after the other. Assumes nothing.
-use Prim.Native.Nat.{ℕ, zero, suc, _+_, _<_}
+use Prim.Native.Nat.{ℕ, zero, suc, _+_, _%_, _<_}
 use mathlib.Core.Path.{_≡_, refl}
 use mathlib.Core.Bool.{true, false}
 use mathlib.Core.Logic.{_⊎_, inl, inr}
@@ -31,3 +31,10 @@ pub filled-at : {A : Type 0} (a : A) (n i : ℕ) → getD (replicate n a) i a �
 filled-at a zero i = refl
 filled-at a (suc n) zero = refl
 filled-at a (suc n) (suc i) = filled-at a n i
+
+-- a number that is stored as a byte, or as a place, stays as it is
+pub fits-byte : (n : ℕ) → n < 256 → n % 256 ≡ n
+fits-byte n h = omega arith
+
+pub fits-place : (n : ℕ) → n < 65536 → n % 65536 ≡ n
+fits-place n h = omega arith

@@ -155,10 +155,6 @@ pub label-not-quote : (b : ℕ) → isLabelByte b ≡ true → eqb b quoteByte �
 unfolding isLabelByte
 label-not-quote b h = byte-apart isLabelByte b quoteByte h refl
 
-pub inner-not-quote : (b : ℕ) → isInnerByte b ≡ true → eqb b quoteByte ≡ false
-unfolding isLabelByte isInnerByte
-inner-not-quote b h = byte-apart isInnerByte b quoteByte h refl
-
 -- a label byte may stand between quotes
 pub label-inner : (b : ℕ) → isLabelByte b ≡ true → isInnerByte b ≡ true
 unfolding isInnerByte
@@ -252,12 +248,6 @@ good-parts x h = (
 pub good-intro : (x : Token) → looseLabel x ≡ true → length (spelling x) ≤ labelLimit → goodLabel x ≡ true
 unfolding goodLabel
 good-intro x h l = and-intro (looseLabel x) (leb (length (spelling x)) labelLimit) h (le-leb (length (spelling x)) labelLimit l)
-
-pub good-bare : (x : Token) → 1 ≤ length x → length x ≤ labelLimit → allLabelBytes x ≡ true → goodLabel x ≡ true
-good-bare x l m h = good-intro x (loose-bare x l h) (omega (arith, size-bare x h))
-
-pub good-quoted : (y : List ℕ) → 1 ≤ length y → length y ≤ labelLimit → allInnerBytes y ≡ true → goodLabel (quotedToken y) ≡ true
-good-quoted y l m h = good-intro (quotedToken y) (loose-quoted y l h) (omega (arith, ap length (spelling-quoted y)))
 
 -- a label has one byte at least
 pub loose-some : (x : Token) → looseLabel x ≡ true → (1 ≤ length x) × (1 ≤ length (spelling x))

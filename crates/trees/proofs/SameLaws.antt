@@ -6,10 +6,10 @@ use mathlib.Core.List.{List, _++_}
 use native.Mathlib.Nat.{add-comm}
 use lib.ListN.{length, length-append}
 use Rattle.trees.specs.Label.{Label, isIn, distinct}
-use Rattle.trees.specs.Token.{spelling, goodLabels, looseLabels}
-use Rattle.trees.specs.Tree.{Tree, leaf, node, leaves, decoded, Same, same-leaf, straight, crossed, Valid}
+use Rattle.trees.specs.Token.{spelling, goodLabels}
+use Rattle.trees.specs.Tree.{Tree, leaf, node, leaves, decoded, Same, same-leaf, straight, crossed}
 use Rattle.trees.proofs.RelabelLaws.{relabel-same}
-use Rattle.trees.proofs.ListLaws.{in-append, good-append, loose-append, Apart}
+use Rattle.trees.proofs.ListLaws.{in-append, good-append, Apart}
 use Rattle.trees.proofs.ListLaws.{distinct-left, distinct-right, distinct-apart, distinct-append, distinct-flip}
 
 or-comm : (a b : Bool) → (a || b) ≡ (b || a)
@@ -56,9 +56,6 @@ same-length p = same-joined _+_ length add-comm length-append p
 pub same-good : {s t : Tree} → Same s t → goodLabels (leaves s) ≡ goodLabels (leaves t)
 same-good p = same-joined _&&_ goodLabels and-comm good-append p
 
-pub same-loose : {s t : Tree} → Same s t → looseLabels (leaves s) ≡ looseLabels (leaves t)
-same-loose p = same-joined _&&_ looseLabels and-comm loose-append p
-
 -- the children of equal trees share no label
 distinct-kept : {a b c d : Tree} → Same a c → Same b d → distinct (leaves c) ≡ true → distinct (leaves d) ≡ true
     → distinct (leaves a ++ leaves b) ≡ true → distinct (leaves c ++ leaves d) ≡ true
@@ -81,12 +78,3 @@ same-distinct (crossed {a} {b} {c} {d} p q) h =
 pub same-decoded : {s t : Tree} → Same s t → Same (decoded s) (decoded t)
 unfolding decoded
 same-decoded p = relabel-same spelling p
-
--- validity does not depend on the order of children
-pub same-valid : {s t : Tree} → Same s t → Valid s → Valid t
-same-valid p v =
-    record {
-      labels = rw (same-good p) at (v .labels);
-      different = same-distinct (same-decoded p) (v .different);
-      few = rw (same-length p) at (v .few);
-    }

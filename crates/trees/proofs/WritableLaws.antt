@@ -1,13 +1,12 @@
 -- Trees of decoded labels that can be written: what a valid tree stands for is one, and its written form is a valid tree that stands for
 -- it. Assumes nothing.
-use Prim.Native.Nat.{_≤_}
 use mathlib.Core.Path.{_≡_, refl, sym, _∙_, ap, ap₂}
 use mathlib.Core.Bool.{Bool, true, false, _&&_, and-comm}
 use mathlib.Core.List.{List, [], _∷_, _++_, map}
 use native.Mathlib.Omega.{arith}
 use Rattle.trees.specs.Label.{Label, sameLabel}
 use Rattle.trees.specs.Token.{Token, spelling, tokenOf, goodLabel, goodLabels}
-use Rattle.trees.specs.Tree.{Tree, leaf, node, leaves, relabel, decoded, Same, Valid, Proper, normal}
+use Rattle.trees.specs.Tree.{Tree, leaf, node, leaves, relabel, decoded, Same, Valid, normal}
 use Rattle.trees.specs.Text.{normalText}
 use Rattle.trees.specs.Writable.{writableLabel, writableLabels, Writable}
 use Rattle.trees.proofs.Bools.{and-left, and-right, and-intro}
@@ -74,9 +73,6 @@ tokens-back (x ∷ xs) h =
     ap₂ {C = List Label} _∷_ (label-back x (writable-head x xs h .0)) (tokens-back xs (writable-head x xs h .1))
 
 -- ---- trees
-
-pub writable-proper : (t : Tree) → Writable t → Proper t
-writable-proper t w = record { different = w .different; few = w .few }
 
 pub decoded-writable : (t : Tree) → Valid t → Writable (decoded t)
 unfolding decoded

@@ -1,5 +1,5 @@
--- Tree arrays: which arrays a tree has, and which tree arrays stand for.
--- Nodes are numbered in postorder: children before parents, the root last. A leaf is its own left and right child.
+-- Tree arrays: which arrays a tree has, and which tree some arrays represent. Nodes are numbered in postorder: children before parents, the
+-- root last. A leaf is its own left and right child.
 use Prim.Native.Nat.{ℕ, zero, suc, _+_, _*_, _-_}
 use mathlib.Core.Bool.{Bool, true, cond, _&&_}
 use mathlib.Core.List.{List, [], _∷_, _++_}
@@ -78,7 +78,7 @@ labelAt a text u = take (getD (a .size) u 0) (drop (getD (a .start) u 0) text)
 unfoldable pub isLeaf : TreeArrays → ℕ → Bool
 isLeaf a u = eqb (getD (a .left) u 0) u
 
--- a leaf whose label lies in the text and is not too long, or two children with smaller numbers
+-- a leaf whose label is inside the text and not too long, or two children with smaller numbers
 unfoldable pub goodNode : TreeArrays → List ℕ → ℕ → Bool
 unfolding isLeaf labelAt spelling
 goodNode a text u =
@@ -99,7 +99,7 @@ treeAt (suc room) a text u =
     cond (isLeaf a u) (leaf (labelAt a text u))
     (node (treeAt room a text (getD (a .left) u 0)) (treeAt room a text (getD (a .right) u 0)))
 
--- what arrays stand for over a text: no leaf at all, one tree, or nothing that is a tree of at most 80 leaves
+-- what arrays represent over a text: no leaf at all, one tree, or nothing that is a tree of at most 80 leaves
 pub data Standing : Type 0 where
   noLeaf : Standing
   oneTree : Tree → Standing

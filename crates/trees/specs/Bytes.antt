@@ -1,5 +1,4 @@
--- The classes of bytes. Scope paper, "Tree text": "Each of the 256 byte values has one class". Request paper, C-12, adds the quote and
--- the blank.
+-- The classes of bytes. 01, "Tree text": "Each of the 256 byte values has one class". C-12 adds the quote and the blank.
 use Prim.Native.Nat.{ℕ, zero, suc}
 use mathlib.Core.Bool.{Bool, cond, _&&_, _||_}
 use mathlib.Core.List.{List, [], _∷_}
@@ -51,7 +50,7 @@ kindOf b =
     (cond (eqb b commaByte) Comma
     (cond (eqb b semicolonByte) Semicolon (cond (eqb b quoteByte) Quote (cond (eqb b blankByte) Blank Other))))))
 
--- the number by which the class table tells a kind
+-- the number of a kind in the class table
 unfoldable pub codeOf : Kind → ℕ
 codeOf Other = 0
 codeOf Label = 1
@@ -62,7 +61,7 @@ codeOf Semicolon = 5
 codeOf Quote = 6
 codeOf Blank = 7
 
--- the kind that a number of the class table tells
+-- the kind of a number in the class table
 unfoldable pub kindOfCode : ℕ → Kind
 kindOfCode c =
     cond (eqb c 1) Label

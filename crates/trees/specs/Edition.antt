@@ -1,4 +1,5 @@
--- The editions of the naming code. Request paper, C-15: "Under edition 2 equality and order of labels read capitals as small letters".
+-- The two editions of the naming code, which is the rule by which labels are equal and in order. C-15: "Under edition 2 equality and order
+-- of labels read capitals as small letters".
 use Prim.Native.Nat.{ℕ, _+_, _≤_}
 use mathlib.Core.Path.{_≡_}
 use mathlib.Core.Bool.{true, cond}
@@ -12,7 +13,8 @@ use Rattle.trees.specs.Token.{Token, spelling, tokenOf, goodLabels}
 use Rattle.trees.specs.Tree.{Tree, leaf, node, leaves, relabel, decoded, smallest, leafLimit}
 use Rattle.trees.specs.Text.{textOf}
 
--- a byte as an edition reads it. Edition 1: "Case matters"; edition 2 "treats capital and small letters of A to Z as equal"
+-- A byte as an edition reads it. Edition 1 leaves it as it is: "Case matters" (01). Edition 2 "treats capital and small letters of A to Z
+-- as equal".
 unfoldable pub foldByte : Edition → ℕ → ℕ
 foldByte One b = b
 foldByte Two b = cond (between 65 90 b) (b + 32) b
@@ -21,8 +23,8 @@ foldByte Two b = cond (between 65 90 b) (b + 32) b
 abbrev pub inEdition : Edition → List ℕ → List ℕ
 inEdition e x = map (foldByte e) x
 
--- what labels are compared by: the label that a token stands for, as an edition reads it. It is the same to fold the decoded bytes
--- (`fold-is-of-decoded` in Promises)
+-- What labels are compared by: the decoded token, as the edition reads it. It is the same to fold the decoded bytes (`fold-is-of-decoded`
+-- in Promises).
 abbrev pub key : Edition → Token → Label
 key e x = spelling (inEdition e x)
 
@@ -30,7 +32,7 @@ key e x = spelling (inEdition e x)
 abbrev pub folded : Edition → Tree → Tree
 folded e t = relabel (inEdition e) t
 
--- the tree of its keys, of which agreement, order and ties speak
+-- the tree of its keys; agreement, order and ties are about this tree
 abbrev pub keyed : Edition → Tree → Tree
 keyed e t = decoded (folded e t)
 
@@ -40,14 +42,14 @@ pub record ValidIn (e : Edition) (t : Tree) : Type 0 where
   pub different : distinct (leaves (keyed e t)) ≡ true
   pub few : length (leaves t) ≤ leafLimit
 
--- "each node writes first the child that holds the smaller smallest label", by the order of an edition; labels stay as they stand
+-- "each node writes first the child that holds the smaller smallest label", in the order of an edition; labels stay as they are spelled
 unfoldable pub normalIn : Edition → Tree → Tree
 unfolding smallest
 normalIn e (leaf x) = leaf x
 normalIn e (node a b) =
     cond (labelLess (smallest (keyed e a)) (smallest (keyed e b))) (node (normalIn e a) (normalIn e b)) (node (normalIn e b) (normalIn e a))
 
--- the one form by which a token's label is written, as the token spells it
+-- the one written form of a token's label, as the token spells it
 abbrev pub rewritten : Token → Token
 rewritten x = tokenOf (spelling x)
 

@@ -1,5 +1,5 @@
--- The rows 1 to 5 of the scope paper's table, "Why a job is turned down", said of a text as a whole and not of a way to read it.
--- A body's grammar, limits and repeats left aside, is given by `Whole`; `Crowd text i` says that row 4 stands at place i.
+-- Rows 1 to 5 of 01's table, "Why a job is turned down", stated for a text as a whole and not for a way to read it. `Whole` is the grammar
+-- of a body, limits and repeats left aside; `Crowd text i` means that row 4 applies at place i.
 use Prim.Native.Nat.{ℕ, suc, _+_, _-_, _<_, _≤_}
 use mathlib.Core.Path.{_≡_}
 use mathlib.Core.Logic.{_⊎_}
@@ -22,7 +22,7 @@ Continues Whole p = (q : List ℕ) × Whole (p ++ q)
 abbrev pub Edge : List ℕ → ℕ → Type 0
 Edge text j = (k : ℕ) → suc k ≡ j → (getD text k 0 ≡ openByte) ⊎ (getD text k 0 ≡ commaByte)
 
--- a label begins at place j: a label byte that may stand there; "An opening quote begins a label" (C-12)
+-- a label begins at place j: a label byte where one may begin; "An opening quote begins a label" (C-12)
 pub record LabelStarts (Whole : List ℕ → Type 0) (text : List ℕ) (j : ℕ) : Type 0 where
   pub inside : j < length text
   pub beginning : (isLabelByte (getD text j 0) || eqb (getD text j 0) quoteByte) ≡ true
@@ -39,7 +39,7 @@ pub data Fault (Whole : List ℕ → Type 0) (Crowd : List ℕ → ℕ → Type 
       → Fault Whole Crowd text BadByte i
   -- 2, "the text ends too soon", at its length
   ends-too-soon : Continues Whole text → (Whole text → ⊥) → Fault Whole Crowd text EndsTooSoon (length text)
-  -- 3, "Number 3 now stands at the 33rd byte" (request C-14); "The limit counts bytes between the quotes"
+  -- 3, "Number 3 now stands at the 33rd byte" (C-14); "The limit counts bytes between the quotes"
   label-too-long : (j : ℕ) → LabelStarts Whole text j → labelLimit < length (labelFrom text j .inner)
       → Fault Whole Crowd text LabelTooLong (j + labelFrom text j .opening + labelLimit)
   -- 4
@@ -54,7 +54,7 @@ pub record FirstFault (Whole : List ℕ → Type 0) (Crowd : List ℕ → ℕ �
   pub here : Fault Whole Crowd text r i
   pub first : (q : Reason) (j : ℕ) → Fault Whole Crowd text q j → (i < j) ⊎ ((i ≡ j) × (numberOf r ≤ numberOf q))
 
--- how often a byte stands in a text
+-- how often a byte occurs in a text
 unfoldable pub occurrences : ℕ → List ℕ → ℕ
 occurrences b [] = 0
 occurrences b (x ∷ xs) = cond (eqb b x) (suc (occurrences b xs)) (occurrences b xs)

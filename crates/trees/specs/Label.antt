@@ -1,5 +1,5 @@
--- Labels as lists of decoded bytes, and their order. Scope paper, "Tree text"; request paper, C-12: "Label order reads the decoded
--- bytes". How a label stands in a text is told in Token.antt.
+-- Labels as lists of decoded bytes, and their order. 01, "Tree text"; C-12: "Label order reads the decoded bytes". Token.antt has labels as
+-- they are written in a text.
 use Prim.Native.Nat.{ℕ}
 use mathlib.Core.Bool.{Bool, true, false, cond, _&&_, _||_}
 use mathlib.Core.List.{List, [], _∷_}
@@ -10,11 +10,11 @@ use Rattle.trees.specs.declared.Order.the-variants.{Less, Equal, Greater
 abbrev pub Label : Type 0
 Label = List ℕ
 
--- "The label's capacity becomes 32 bytes wherever a label is stored" (request C-14)
+-- "The label's capacity becomes 32 bytes wherever a label is stored" (C-14)
 abbrev pub labelLimit : ℕ
 labelLimit = 32
 
--- "Case matters": labels are equal byte for byte
+-- labels are equal byte for byte; keys of an edition are compared in the same way
 unfoldable pub sameLabel : Label → Label → Bool
 sameLabel [] [] = true
 sameLabel [] (b ∷ y) = false
@@ -36,7 +36,7 @@ unfoldable pub isIn : Label → List Label → Bool
 isIn x [] = false
 isIn x (y ∷ ys) = sameLabel x y || isIn x ys
 
--- no label stands twice
+-- no label occurs twice
 unfoldable pub distinct : List Label → Bool
 distinct [] = true
 distinct (x ∷ xs) = cond (isIn x xs) false (distinct xs)

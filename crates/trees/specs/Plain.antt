@@ -1,4 +1,4 @@
--- Labels and trees as they were before quotes and blanks: bare, without underscores. Request paper, C-12, moves nothing of them.
+-- Labels and trees as they were before quotes and blanks: bare, without underscores. C-12 changes nothing for them.
 use mathlib.Core.Path.{_≡_}
 use mathlib.Core.Bool.{true, false}
 use Rattle.trees.specs.Token.{Token, allLabelBytes, holdsUnderscore}

@@ -1,4 +1,4 @@
--- What reading a body gives, and labels in a text. Scope paper, "Tree text" and "Why a job is turned down".
+-- The result of reading a body, and labels in a text. 01, "Tree text" and "Why a job is turned down".
 use Prim.Native.Nat.{ℕ}
 use mathlib.Core.Bool.{Bool, false, cond, _&&_}
 use mathlib.Core.List.{List, [], _∷_, map}
@@ -14,7 +14,8 @@ pub data Reading (A : Type 0) : Type 0 where
   good : A → Reading A
   refused : Reason → ℕ → Reading A
 
--- request C-15: a body is turned down or not as an edition reads it, and what is read of it stands there as the text has it
+-- C-15. The edition decides whether a body is accepted; what is returned keeps the spelling of the text. The first argument is the reading
+-- of the folded text, the second that of the text itself.
 unfoldable pub asStands : {A : Type 0} → Reading A → Reading A → Reading A
 asStands (good x) plain = plain
 asStands (refused r i) plain = refused r i
@@ -28,7 +29,7 @@ unfoldable pub quoteFirst : List ℕ → Bool
 quoteFirst [] = false
 quoteFirst (b ∷ rest) = eqb b quoteByte
 
--- what stands ahead at a place where a label may begin
+-- what follows at a place where a label may begin
 pub record Ahead : Type 0 where
   -- how many bytes open it: 1 for a quote
   pub opening : ℕ
@@ -36,7 +37,7 @@ pub record Ahead : Type 0 where
   pub inner : List ℕ
   -- one byte at least; after a quote, a quote follows at once
   pub closed : Bool
-  -- what it stands for
+  -- what it decodes to
   pub label : Label
 
 -- without a quote

@@ -1,5 +1,5 @@
--- The numbers of the reasons and the letters of the bodies. Scope paper, "Why a job is turned down"; "Each number that a request adds
--- is a row of 01's table" (request paper, C-11).
+-- The numbers of the reasons and the letters of the bodies. 01, "Why a job is turned down"; "Each number that a request adds
+-- is a row of 01's table" (C-11).
 use Prim.Native.Nat.{ℕ}
 use Rattle.trees.specs.declared.Refusal.{Refusal}
 use Rattle.trees.specs.declared.Reason.{Reason}
@@ -20,7 +20,7 @@ numberOf Disagree = 8
 numberOf TooShort = 9
 numberOf Contents = 10
 numberOf JobTooLong = 11
--- C-11: a leaf that stands in only one tree of a job that wants both to hold the same leaves
+-- C-11: a leaf in only one tree of a strict job
 numberOf NotShared = 12
 -- C-16: a required label that the claim lacks; three claimed leaves that disagree; a claim smaller than the largest size
 numberOf ClaimLacks = 13
@@ -36,8 +36,8 @@ letterOf C = 67
 letterOf J = 74
 letterOf O = 79
 
--- what an answer says in the paper's terms: a value, or a row of the table. "A refusal carries its number, and within it the body
--- letter and a place"
+-- what an answer means in 01's terms: a value, or a row of the table. "A refusal carries its number, and within it the body letter and a
+-- place"
 pub data Said (A : Type 0) : Type 0 where
   value : A → Said A
   row : (number letter place : ℕ) → Said A

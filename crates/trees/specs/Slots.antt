@@ -1,5 +1,6 @@
--- Intermediate: a number for each label, by which a reader sees at once that most labels are new. Nothing of the papers rests on it: with
--- any other function of a label to the slots the readers would answer the same. `marked-search` in Promises ties it to `isAmong`.
+-- A number for each label, by which a reader sees at once that most labels are new. Intermediate: of public contracts only those of
+-- `slot`, `first_marks` and `is_met` cite it. With any other function of a label to the slots the readers would answer the same;
+-- `marked-search` in Promises ties it to `isAmong`.
 use Prim.Native.Nat.{ℕ, _+_, _*_, _%_}
 use mathlib.Core.Path.{_≡_}
 use mathlib.Core.Bool.{Bool, true}

@@ -12,11 +12,11 @@ use Rattle.trees.specs.Token.{Token, bareByte, spelling, writtenByte, qu
 use Rattle.trees.specs.Reading.{quoteFirst}
 use Rattle.trees.specs.Edition.{foldByte}
 
--- the label that is kept: of a length past the array's all its bytes count
+-- the label that is stored; if the length exceeds the array, all its bytes count
 unfoldable pub storedBytes : StoredLabel → Label
 storedBytes l = take (l .len) (l .bytes)
 
--- a label as it is kept: its bytes, then 0 up to `labelLimit`; of a longer text the first `labelLimit` bytes
+-- a stored label: its bytes, then 0 up to `labelLimit`; of a longer text the first `labelLimit` bytes
 unfoldable pub storedOf : Label → StoredLabel
 storedOf x = record { bytes = take labelLimit x ++ replicate (labelLimit - length x) 0; len = min (length x) labelLimit }
 
@@ -32,7 +32,7 @@ shownOf x =
 unfoldable pub shownBytes : ShownLabel → Token
 shownBytes l = take (l .len) (l .bytes)
 
--- the `size` bytes from `start`, or nothing where they run past the end
+-- the `size` bytes from `start`, or nothing if they run past the end
 unfoldable pub partOf : ℕ → ℕ → List ℕ → List ℕ
 partOf start size text = cond (leb (start + size) (length text)) (take size (drop start text)) []
 
@@ -40,18 +40,18 @@ partOf start size text = cond (leb (start + size) (length text)) (take size (dro
 abbrev pub leafLabel : (text start size : List ℕ) → ℕ → Token
 leafLabel text start size u = partOf (getD start u 0) (getD size u 0) text
 
--- the part of `size` bytes from `start` stands for the same label as x
+-- the part of `size` bytes from `start` decodes to the same label as x
 abbrev pub isPart : (text : List ℕ) → (start size : ℕ) → Token → Bool
 isPart text start size x = sameLabel (spelling x) (spelling (partOf start size text))
 
--- one of the first n parts that starts and sizes name stands for the same label as x
+-- one of the first n parts that starts and sizes name decodes to the same label as x
 unfoldable pub isAmong : (text start size : List ℕ) → ℕ → Token → Bool
 isAmong text start size zero x = false
 isAmong text start size (suc n) x = isPart text (getD start n 0) (getD size n 0) x || isAmong text start size n x
 
 -- ---- how the code reads a token and writes a label. Intermediate: no public contract rests on this part.
 
--- a byte of a token as an edition reads it, by whether it stands between quotes
+-- a byte of a token as an edition reads it, depending on whether it is between quotes
 unfoldable pub byteOf : Edition → (quoted : Bool) → ℕ → ℕ
 byteOf e true b = foldByte e b
 byteOf e false b = bareByte (foldByte e b)

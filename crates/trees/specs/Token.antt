@@ -1,5 +1,5 @@
--- Labels as they stand in a text, and the labels that they stand for. Request paper, C-12: "In exchanged files a bare `a_b` and a quoted
--- `'a b'` are one".
+-- Labels as they are written in a text, and the labels that they decode to. C-12: "In exchanged files a bare `a_b` and a quoted `'a b'` are
+-- one".
 use Prim.Native.Nat.{ℕ, _+_, _-_}
 use mathlib.Core.Bool.{Bool, true, false, cond, _&&_, _||_}
 use mathlib.Core.List.{List, [], _∷_, _++_, map}
@@ -8,11 +8,11 @@ use lib.ListN.{length, take}
 use Rattle.trees.specs.Bytes.{isLabelByte, isInnerByte, quoteByte, blankByte, underscoreByte}
 use Rattle.trees.specs.Label.{Label, labelLimit}
 
--- the bytes of a label as they stand in a text, quotes included
+-- the bytes of a label in a text, quotes included
 abbrev pub Token : Type 0
 Token = List ℕ
 
--- ---- what a token stands for
+-- ---- what a token decodes to
 
 -- "A bare underscore now reads as a blank."
 unfoldable pub bareByte : ℕ → ℕ
@@ -37,7 +37,7 @@ allLabelBytes = allOf isLabelByte
 abbrev pub allInnerBytes : List ℕ → Bool
 allInnerBytes = allOf isInnerByte
 
--- label bytes and blanks up to a quote, which ends the token; `some` says whether one stood there already
+-- label bytes and blanks up to a quote, which ends the token; `some` is whether there was one already
 unfoldable pub closes : (some : Bool) → List ℕ → Bool
 closes some [] = false
 closes some (b ∷ []) = some && eqb b quoteByte
@@ -82,6 +82,6 @@ unfoldable pub tokenOf : Label → Token
 unfolding holdsUnderscore writtenByte
 tokenOf x = cond (holdsUnderscore x) (quotedToken x) (map writtenByte x)
 
--- the most bytes of a written label: two quotes beside the label
+-- the most bytes of a written label: the label and two quotes
 abbrev pub tokenLimit : ℕ
 tokenLimit = labelLimit + 2

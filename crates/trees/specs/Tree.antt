@@ -1,5 +1,5 @@
--- Rooted binary trees with labelled leaves, and when two of them are equal. Scope paper, "Tree text". A tree as it is read has tokens for
--- labels; what it stands for has decoded ones (request paper, C-12).
+-- Rooted binary trees with labelled leaves, and when two of them are equal. 01, "Tree text". A tree that was read has tokens for labels;
+-- the tree that it decodes to has decoded labels (C-12).
 use Prim.Native.Nat.{ℕ, _+_, _≤_}
 use mathlib.Core.Path.{_≡_}
 use mathlib.Core.Bool.{true, cond}

@@ -1,4 +1,4 @@
--- Labels and trees that can be written: decoded labels that some text can hold. Scope paper, "Tree text".
+-- Labels and trees that can be written: decoded labels that some text can contain. 01, "Tree text".
 use mathlib.Core.Path.{_≡_}
 use Prim.Native.Nat.{_≤_}
 use mathlib.Core.Bool.{Bool, true, _&&_}
@@ -8,7 +8,7 @@ use Rattle.trees.specs.Label.{Label, sameLabel, distinct}
 use Rattle.trees.specs.Token.{spelling, tokenOf, goodLabel}
 use Rattle.trees.specs.Tree.{Tree, leaves, leafLimit}
 
--- the label's written form is a good token, which stands for it
+-- the label's written form is a good token that decodes to it
 unfoldable pub writableLabel : Label → Bool
 writableLabel x = goodLabel (tokenOf x) && sameLabel (spelling (tokenOf x)) x
 

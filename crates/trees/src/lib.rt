@@ -60,13 +60,13 @@ pub enum Order {
     Greater,
 }
 
-// An edition of the naming code: by the second one, capital and small letters of A to Z are equal.
+// The edition by which labels are compared. Under the second, capital and small letters of A to Z are equal.
 pub enum Edition {
     One,
     Two,
 }
 
-// Why a job is turned down; the numbers are in specs/Refusals.antt.
+// Why a job is refused; the numbers are in specs/Refusals.antt.
 pub enum Reason {
     BadByte,
     EndsTooSoon,
@@ -115,13 +115,13 @@ pub struct ShownLabel {
 }
 
 // A tree as arrays: children before parents, the root last, a leaf its own left child.
-// A leaf's label is the `size` bytes of the text from `start`.
+// A leaf's label is the `size` bytes of the text from `start`. Entries are as narrow as a tree's limits allow: trees are passed by value.
 pub struct TreeArrays {
     pub nodes: usize,
-    pub left: [usize; NODE_LIMIT],
-    pub right: [usize; NODE_LIMIT],
-    pub start: [usize; NODE_LIMIT],
-    pub size: [usize; NODE_LIMIT],
+    pub left: [u8; NODE_LIMIT],
+    pub right: [u8; NODE_LIMIT],
+    pub start: [u16; NODE_LIMIT],
+    pub size: [u8; NODE_LIMIT],
 }
 
 // The class of each byte value: 1 a label byte, 2 `(`, 3 `)`, 4 `,`, 5 `;`, 6 a quote, 7 a blank, 0 any other.
@@ -555,17 +555,32 @@ pub fn comes_before(edition: Edition, a: &[u8], b: &[u8]) -> bool
     }
 }
 
-// A byte as a number, and the low byte of a number.
+// A byte as a number.
 pub fn wide(b: u8) -> usize
     ensures { λ r. ⌜ r ≡ b ⌝ }
 {
     b as usize
 }
 
+// A place as it is kept in an array, as a number.
+pub fn wide_place(n: u16) -> usize
+    ensures { λ r. ⌜ r ≡ n ⌝ }
+{
+    n as usize
+}
+
+// The low byte of a number.
 pub fn narrow(n: usize) -> u8
     ensures { λ r. ⌜ r ≡ n % 256 ⌝ }
 {
     (n % 256) as u8
+}
+
+// The low two bytes of a number.
+pub fn narrow_place(n: usize) -> u16
+    ensures { λ r. ⌜ r ≡ n % 65536 ⌝ }
+{
+    (n % 65536) as u16
 }
 
 // The smaller of two numbers.
@@ -666,20 +681,34 @@ pub fn entry(xs: &[usize], i: usize) -> usize
     if i < xs.len() { xs[i] } else { 0 }
 }
 
+// An entry of an array of bytes, 0 past its end.
+pub fn byte_entry(xs: &[u8], i: usize) -> usize
+    ensures { λ r. ⌜ r ≡ getD (now (xs .entry)) i 0 ⌝ }
+{
+    if i < xs.len() { wide(xs[i]) } else { 0 }
+}
+
+// An entry of an array of places, 0 past its end.
+pub fn place_entry(xs: &[u16], i: usize) -> usize
+    ensures { λ r. ⌜ r ≡ getD (now (xs .entry)) i 0 ⌝ }
+{
+    if i < xs.len() { wide_place(xs[i]) } else { 0 }
+}
+
 // A leaf's label as the part of the caller's text that holds it, by the arrays' starts and sizes; nothing for an inner node,
 // whose size is 0, and nothing where the part would run past the end.
-pub fn leaf_label<'a>(text: &'a [u8], start: &[usize], size: &[usize], u: usize) -> &'a [u8]
+pub fn leaf_label<'a>(text: &'a [u8], start: &[u16], size: &[u8], u: usize) -> &'a [u8]
     ensures { λ r. ⌜ now r ≡ leafLabel (now (text .entry)) (now (start .entry)) (now (size .entry)) u ⌝ }
 {
-    part(text, entry(start, u), entry(size, u))
+    part(text, place_entry(start, u), byte_entry(size, u))
 }
 
 // Whether one of the first `count` parts that starts and sizes name stands for the same label as the token, as an edition reads them.
 pub fn is_among(
     edition: Edition,
     text: &[u8],
-    start: &[usize],
-    size: &[usize],
+    start: &[u16],
+    size: &[u8],
     count: usize,
     token: &[u8],
 ) -> bool
@@ -728,8 +757,8 @@ pub fn first_marks() -> [u8; SLOTS]
 pub fn is_met(
     edition: Edition,
     text: &[u8],
-    start: &[usize],
-    size: &[usize],
+    start: &[u16],
+    size: &[u8],
     count: usize,
     token: &[u8],
     seen: &[u8],
@@ -769,8 +798,8 @@ pub fn stored(edition: Edition, token: &[u8]) -> StoredLabel
 pub fn stored_leaf(
     edition: Edition,
     text: &[u8],
-    start: &[usize],
-    size: &[usize],
+    start: &[u16],
+    size: &[u8],
     u: usize,
 ) -> StoredLabel
     ensures { λ r. ⌜ r ≡ storedOf (spelling (leafLabel (inEdition edition (now (text .entry))) (now (start .entry)) (now (size .entry)) u)) ⌝ }

@@ -16,10 +16,13 @@ use Rattle.trees.specs.declared.TreeArrays.{TreeArrays}
 use Rattle.trees.specs.Label.{Label, isIn, distinct}
 use Rattle.trees.specs.Token.{Token, spelling}
 use Rattle.trees.specs.Tree.{Tree, decoded, Valid}
+use Rattle.trees.specs.declared.Edition.{Edition}
+use Rattle.trees.specs.Edition.{folded, keyed, ValidIn}
 use Rattle.trees.specs.Text.{textOf}
 use Rattle.trees.specs.Arrays.{arraysOf, nodesOf}
 use Rattle.trees.proofs.Bools.{bool-cases}
 use Rattle.trees.proofs.TokenLaws.{valid-decoded}
+use Rattle.trees.proofs.EditionLaws.{valid-folded, arrays-folded}
 use Rattle.trees.proofs.DecodedLaws.{decoded-nodes, decoded-left}
 use Rattle.lists.specs.declared.LabelPlaces.{LabelPlaces}
 use Rattle.lists.specs.ReadList.{joined, placesOf}
@@ -219,7 +222,7 @@ unfolding arraysOf
 nodes-is t tree d = ap (λ (q : TreeArrays). q .nodes) d
 
 -- the arrays of a tree that was read, with leaf numbers by rank, for the tree that it stands for
-pub ranked-read : (t : Tree) → Valid t → (tree : TreeArrays) → tree ≡ arraysOf t → (C : List Label) (leaf : List ℕ) → Numbered (decoded t) C leaf
+ranked-read : (t : Tree) → Valid t → (tree : TreeArrays) → tree ≡ arraysOf t → (C : List Label) (leaf : List ℕ) → Numbered (decoded t) C leaf
     → RankedTree (decoded t) C (tree .left) (tree .nodes) leaf
 ranked-read t v tree d C leaf n =
     record {
@@ -228,6 +231,10 @@ ranked-read t v tree d C leaf n =
       size = nodes-is t tree d ∙ sym (decoded-nodes t);
       numbered = n;
     }
+
+pub ranked-in : (e : Edition) (t : Tree) → ValidIn e t → (tree : TreeArrays) → tree ≡ arraysOf t → (C : List Label) (leaf : List ℕ)
+    → Numbered (keyed e t) C leaf → RankedTree (keyed e t) C (tree .left) (tree .nodes) leaf
+ranked-in e t v tree d = ranked-read (folded e t) (valid-folded e t v) tree (d ∙ sym (arrays-folded e t))
 
 module _ (s t : Tree) (xs : List Token) (first second list : List ℕ) (one two : TreeArrays) (places : LabelPlaces)
     (g : Given s t xs first second list one two places) where

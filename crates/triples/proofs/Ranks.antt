@@ -2,7 +2,6 @@
 use Prim.Native.Nat.{ℕ, zero, suc, _+_, _-_, _<_}
 use mathlib.Core.Path.{_≡_, refl, sym, _∙_, ap, ap₂, subst}
 use mathlib.Core.Bool.{Bool, true, false, cond}
-use mathlib.Core.Logic.{_⊎_, inl, inr}
 use mathlib.Core.List.{List, [], _∷_, _++_, append-assoc, append-nil, map}
 use native.Mathlib.Omega.{arith}
 use lib.ListN.{length, getD, length-append, length-map, replicate, List·getD-append}
@@ -49,6 +48,11 @@ module _ (xs : List Token) (k : ℕ) (h : k < length xs) where
   pub label-at : labelIn (joined xs) (placesOf xs .start) (placesOf xs .size) k ≡ getD (map spelling xs) k []
   unfolding labelIn
   label-at = rw (start-at, size-at) (ap spelling (part-own xs [] 0 k refl h) ∙ sym (map-at spelling xs k [] [] h))
+
+  -- the part of the list's text
+  pub part-at : spelling (partOf (getD (placesOf xs .start) k 0) (getD (placesOf xs .size) k 0) (joined xs)) ≡ getD (map spelling xs) k []
+  unfolding labelIn
+  part-at = label-at
 
 -- the place of a label is where its number's token starts
 place-at : (xs : List Token) (p k : ℕ) → distinct (map spelling xs) ≡ true → k < length xs

@@ -1,5 +1,5 @@
--- The first three labels that clash, by their ranks. Scope paper, row 8 of "Why a job is turned down": "Number 8 names the first such
--- three, sorted, compared label by label".
+-- The first three labels with different closer pairs ("that clash"), by their ranks. 01, row 8 of "Why a job is turned down": "Number 8
+-- names the first such three, sorted, compared label by label".
 use Prim.Native.Nat.{ℕ, suc, _<_, _≤_}
 use mathlib.Core.Path.{_≡_}
 use mathlib.Core.Bool.{cond}
@@ -13,12 +13,12 @@ use Rattle.agreement.specs.Answer as Answer
 use Rattle.leaves.specs.Numbered.{Numbered}
 use Rattle.triples.specs.declared.Three.{Three}
 
--- how many labels stand before x in the list
+-- how many labels are before x in the list
 unfoldable pub rankOf : List Label → Label → ℕ
 rankOf [] x = 0
 rankOf (y ∷ ys) x = cond (sameLabel x y) 0 (suc (rankOf ys x))
 
--- the ranks of three labels; where there are none, three times how many labels there are
+-- the ranks of three labels; if there are none, three times the number of labels
 unfoldable pub clashRanks : List Label → Option Answer.Three → Three
 unfolding rankOf
 clashRanks xs none = record { first = length xs; second = length xs; third = length xs }

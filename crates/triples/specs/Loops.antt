@@ -27,7 +27,7 @@ use Rattle.triples.specs.declared.Agreement.{Agreement}
 use Rattle.triples.specs.declared.Three.{Three}
 use Rattle.triples.specs.declared.Agreement.the-variants.{Agreed, Disagree, Refused}
 
--- the label that token k of a list's text stands for
+-- the label that token k of a list's text decodes to
 unfoldable pub labelIn : List ℕ → List ℕ → List ℕ → ℕ → Label
 labelIn text start size k = spelling (partOf (getD start k 0) (getD size k 0) text)
 
@@ -51,7 +51,7 @@ abbrev pub LeavesFound : List ℕ → TreeArrays → (ℕ → Label) → ℕ →
 LeavesFound text tree f n leaf =
     (k : ℕ) → k < n → getD leaf k 0 ≡ foundLeaf text (tree .left) (tree .start) (tree .size) (f k) (tree .nodes)
 
--- the first of the n labels from k on whose leaf number in either tree is that of no node
+-- the first of the n labels from k on whose leaf number in one of the trees is that of no node
 unfoldable pub lackFrom : List ℕ → ℕ → List ℕ → ℕ → List ℕ → ℕ → ℕ → Agreement
 lackFrom leaf1 nodes1 leaf2 nodes2 start zero k = Agreed
 lackFrom leaf1 nodes1 leaf2 nodes2 start (suc n) k =
@@ -90,13 +90,13 @@ unfoldable pub clashAt : Tree → Tree → List Label → ℕ → ℕ → ℕ �
 unfolding clashing
 clashAt s t xs i j k = clashing s t (getD xs i []) (getD xs j []) (getD xs k [])
 
--- the rows of rank i tell which later ranks clash
+-- the rows of rank i determine which later ranks clash
 abbrev pub Tells : (ℕ → ℕ → Bool) → ℕ → ℕ → List ℕ → List ℕ → Type 0
 Tells clash i count row1 row2 =
     (j k : ℕ) → i < j → j < k → k < count
     → clash j k ≡ apartOf (getD row1 j 0) (getD row1 k 0) (getD row2 j 0) (getD row2 k 0)
 
--- the first rank past j, past i, and of all, that begins or ends a clash; the number of labels where there is none
+-- the first rank past j, past i, and of all, that begins or ends a clash; the number of labels if there is none
 unfoldable pub thirdOf : (ℕ → ℕ → Bool) → ℕ → ℕ → ℕ
 unfolding leafFrom
 thirdOf clash count j = leafFrom (clash j) (count - (j + 1)) (j + 1)
@@ -109,7 +109,7 @@ unfoldable pub firstOf : (ℕ → ℕ → ℕ → Bool) → ℕ → ℕ
 unfolding leafFrom secondOf
 firstOf clash count = leafFrom (λ i. ltb (secondOf (clash i) count i) count) (count - 0) 0
 
--- the verdict on three ranks: the places of their labels, where there are three
+-- the verdict on three ranks: the places of their labels, if there are three
 unfoldable pub toldOf : List ℕ → List ℕ → ℕ → Three → Agreement
 toldOf order start count r =
     cond (ltb (r .first) count)
@@ -117,7 +117,7 @@ toldOf order start count r =
     (getD start (getD order (r .third) 0) 0))
     Agreed
 
--- the refusal that a reader's answer carries; an answer that carries none does not come here, and is refused too
+-- The refusal in a reader's answer. An answer without one does not occur here, and is refused too.
 unfoldable pub unreadBody : Body → Agreement
 unreadBody body = Refused (record { reason = EndsTooSoon; body = body; place = 0 })
 
@@ -131,7 +131,7 @@ unfolding unreadBody
 listRefusal (Lists.Labels n) = unreadBody K
 listRefusal (Lists.Refused r) = Refused r
 
--- two trees and a list of tokens as the readers hand them over
+-- two trees and a list of tokens as the readers return them
 pub record Given (s t : Tree) (xs : List Token) (first second list : List ℕ) (one two : TreeArrays) (places : LabelPlaces) : Type 0 where
   pub valid1 : Valid s
   pub valid2 : Valid t

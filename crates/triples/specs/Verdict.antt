@@ -1,4 +1,4 @@
--- The verdict on two tree texts and a list of labels. Scope paper, "Agreement" and rows 1 to 8 of "Why a job is turned down".
+-- The verdict on two tree texts and a list of labels. 01, "Agreement" and rows 1 to 8 of "Why a job is turned down".
 use Prim.Native.Nat.{ℕ}
 use mathlib.Core.Path.{_≡_}
 use mathlib.Core.List.{List, [], _∷_, map}
@@ -7,6 +7,8 @@ use Rattle.trees.specs.declared.Body.the-variants.{S, T, K}
 use Rattle.trees.specs.Refusals.{numberOf, letterOf}
 use Rattle.trees.specs.Token.{Token, spelling}
 use Rattle.trees.specs.Tree.{Tree, decoded}
+use Rattle.trees.specs.declared.Edition.{Edition}
+use Rattle.trees.specs.Edition.{inEdition}
 use Rattle.trees.specs.Reading.{Reading, good, refused}
 use Rattle.newick.specs.ReadTree.{readTree}
 use Rattle.lists.specs.ReadList.{readList}
@@ -15,14 +17,14 @@ use Rattle.agreement.specs.Places.{placeOfNumber, placeOfLabel}
 use Rattle.triples.specs.declared.Agreement.{Agreement}
 use Rattle.triples.specs.declared.Agreement.the-variants.{Agreed, Disagree, Refused}
 
--- the trees agree on the list exactly if the answer that has to hold it is a set; places are those of the list's tokens
+-- the trees agree on the list exactly if the answer with the list required is a set; places are those of the list's tokens
 unfoldable pub verdictOf : List Token → Answer → Agreement
 verdictOf xs (firstLacks n) = Refused (record { reason = FirstLacks; body = K; place = placeOfNumber xs n })
 verdictOf xs (secondLacks n) = Refused (record { reason = SecondLacks; body = K; place = placeOfNumber xs n })
 verdictOf xs (disagree a b c) = Disagree (placeOfLabel xs 0 a) (placeOfLabel xs 0 b) (placeOfLabel xs 0 c)
 verdictOf xs (largest X) = Agreed
 
--- trees and list as they are read, the answer by the labels that their tokens stand for
+-- trees and list are of tokens, the answer is about their decoded labels
 unfoldable pub verdictOnList : Tree → Tree → Reading (List Token) → Agreement
 unfolding verdictOf
 verdictOnList s t (good xs) = verdictOf xs (answer (decoded s) (decoded t) (map spelling xs))
@@ -43,6 +45,10 @@ unfoldable pub verdict : List ℕ → List ℕ → List ℕ → Agreement
 unfolding verdictOn
 verdict first second list = verdictOn (readTree first) (readTree second) (readList list)
 
+-- by an edition, which reads the bytes of all three
+abbrev pub verdictIn : Edition → List ℕ → List ℕ → List ℕ → Agreement
+verdictIn e first second list = verdict (inEdition e first) (inEdition e second) (inEdition e list)
+
 -- all three bodies were read
 pub record AllRead (one two : Reading Tree) (three : Reading (List Token)) : Type 0 where
   pub first : Tree
@@ -52,8 +58,8 @@ pub record AllRead (one two : Reading Tree) (three : Reading (List Token)) : Typ
   pub read2 : two ≡ good second
   pub read3 : three ≡ good labels
 
--- an answer in the scope paper's terms: that the trees agree, or a row of "Why a job is turned down" with its number, the letter's
--- byte, the place and, for number 8, the places of its three labels in K
+-- An answer in 01's terms: that the trees agree, or a row of "Why a job is turned down" with its number, the letter's byte, the place and,
+-- for number 8, the places of its three labels in K.
 pub data Told : Type 0 where
   agrees : Told
   row : ℕ → ℕ → ℕ → List ℕ → Told

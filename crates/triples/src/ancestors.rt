@@ -8,16 +8,16 @@ ghost use lib.ListN.{getD};
 ghost use Rattle.triples.specs.Loops.{LowAt, spanFrom, LcaRow};
 
 // The number of the first node below node u.
-fn low_at(left: &[usize; 159], low: &[usize; 159], u: usize) -> usize
+fn low_at(left: &[u8; 159], low: &[usize; 159], u: usize) -> usize
     requires { ⌜ u < 159 ⌝ }
     ensures { λ r. ⌜ r ≡ cond (ltb (getD (now (left .entry)) u 0) u) (getD (now (low .entry)) (getD (now (left .entry)) u 0) 0) u ⌝ }
 {
-    let child = left[u];
+    let child = trees::wide(left[u]);
     if child < u { low[child] } else { u }
 }
 
 // The number of the first node below each node.
-pub(crate) fn lows(left: &[usize; 159], nodes: usize) -> [usize; 159]
+pub(crate) fn lows(left: &[u8; 159], nodes: usize) -> [usize; 159]
     requires { ⌜ nodes ≤ 159 ⌝ }
     ensures { λ r. ⌜ ((u : ℕ) → u < nodes → LowAt (now (left .entry)) r u) ⌝ }
 {

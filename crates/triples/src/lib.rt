@@ -39,7 +39,7 @@ pub enum Agreement {
     Refused(Refusal),
 }
 
-// Three labels by their ranks in label order.
+// Three labels by three numbers: `first_clash` returns their ranks in label order, and `mast` keeps their places in a list.
 pub struct Three {
     pub first: usize,
     pub second: usize,
@@ -50,8 +50,8 @@ pub struct Three {
 fn before(
     edition: Edition,
     list: &[u8],
-    start: &[usize; 80],
-    size: &[usize; 80],
+    start: &[u16; 80],
+    size: &[u8; 80],
     j: usize,
     k: usize,
 ) -> usize
@@ -59,14 +59,10 @@ fn before(
     ensures { λ r. ⌜ r ≡ cond (labelLess (labelIn (inEdition edition (now (list .entry))) (now (start .entry)) (now (size .entry)) j)
         (labelIn (inEdition edition (now (list .entry))) (now (start .entry)) (now (size .entry)) k)) 1 0 ⌝ }
 {
-    let from1 = start[j];
-    let count1 = size[j];
-    let from2 = start[k];
-    let count2 = size[k];
     if trees::comes_before(
         edition,
-        trees::part(list, from1, count1),
-        trees::part(list, from2, count2),
+        trees::leaf_label(list, start, size, j),
+        trees::leaf_label(list, start, size, k),
     ) {
         1
     } else {
@@ -78,8 +74,8 @@ fn before(
 fn rank(
     edition: Edition,
     list: &[u8],
-    start: &[usize; 80],
-    size: &[usize; 80],
+    start: &[u16; 80],
+    size: &[u8; 80],
     count: usize,
     k: usize,
 ) -> usize
@@ -135,9 +131,7 @@ fn leaf_numbers(
     let mut leaf = [0usize; 80];
     let mut k: usize = 0;
     while k < count {
-        let from = list_start[k];
-        let bytes = list_size[k];
-        let token = trees::part(list, from, bytes);
+        let token = trees::leaf_label(list, &list_start, &list_size, k);
         let u = leaves::find_leaf(edition, text, &left, &start, &size, nodes, token);
         leaf[k] = u;
         k += 1;
@@ -162,7 +156,7 @@ fn lacking(
     nodes1: usize,
     leaf2: &[usize; 80],
     nodes2: usize,
-    start: &[usize; 80],
+    start: &[u16; 80],
     count: usize,
 ) -> Agreement
     requires { ⌜ count ≤ 80 ⌝ }
@@ -171,10 +165,10 @@ fn lacking(
     let mut k: usize = 0;
     while k < count {
         if nodes1 <= leaf1[k] {
-            return lacks(Reason::FirstLacks, start[k]);
+            return lacks(Reason::FirstLacks, trees::place_entry(start, k));
         }
         if nodes2 <= leaf2[k] {
-            return lacks(Reason::SecondLacks, start[k]);
+            return lacks(Reason::SecondLacks, trees::place_entry(start, k));
         }
         k += 1;
     }
@@ -185,10 +179,10 @@ fn lacking(
 // times the count where the trees agree on them all. A tree is given by its arrays' left children and how many nodes it has, the
 // labels by the numbers of their leaves in label order. What arrays of no tree give is left free but for `Ranks`.
 pub fn first_clash(
-    left1: &[usize; 159],
+    left1: &[u8; 159],
     nodes1: usize,
     leaf1: &[usize; 80],
-    left2: &[usize; 159],
+    left2: &[u8; 159],
     nodes2: usize,
     leaf2: &[usize; 80],
     count: usize,
@@ -242,7 +236,7 @@ fn ranked(leaf: &[usize; 80], order: &[usize; 80], count: usize) -> [usize; 80]
 }
 
 // The verdict on three ranks: the places of their labels, or that there are none.
-fn told(three: Three, order: &[usize; 80], start: &[usize; 80], count: usize) -> Agreement
+fn told(three: Three, order: &[usize; 80], start: &[u16; 80], count: usize) -> Agreement
     requires { ⌜ (count ≤ 80) × ((i : ℕ) → getD (now order) i 0 < 80) × Ranks count three ⌝ }
     ensures { λ r. ⌜ r ≡ toldOf (now (order .entry)) (now (start .entry)) count three ⌝ }
 {
@@ -252,10 +246,11 @@ fn told(three: Three, order: &[usize; 80], start: &[usize; 80], count: usize) ->
     if count <= i {
         return Agreement::Agreed;
     }
-    let a = order[i];
-    let b = order[j];
-    let c = order[k];
-    Agreement::Disagree(start[a], start[b], start[c])
+    Agreement::Disagree(
+        trees::place_entry(start, order[i]),
+        trees::place_entry(start, order[j]),
+        trees::place_entry(start, order[k]),
+    )
 }
 
 // The test itself: both trees hold every label of the list, and have the same closer pair of each three.

@@ -17,7 +17,7 @@ fn run_job(text: &[u8]) {
     io::write_all(1, job::written(out, answer));
 }
 
-// The next case of the stream; false where there is none.
+// The next case of the stream; false if there is none.
 fn run_case() -> bool {
     let mut head = [0u8; 2];
     let got = io::read_full(0, &mut head);

@@ -66,7 +66,7 @@ module _ (e : Edition) (a : TreeArrays) (text : List ℕ) (t : Tree) (stands : t
   pub short-kept : length out < length (normalTextIn e t) → outputAfter e (treeOf a text) out ≡ out
   short-kept h = sym (short h .1)
 
--- the same in the scope paper's terms
+-- the same in 01's terms
 module _ (e : Edition) (a : TreeArrays) (text : List ℕ) (t : Tree) (stands : treeOf a text ≡ oneTree t) (out : List ℕ) where
   pub bytes-told : length (normalTextIn e t) ≤ length out → toldBy (writeAnswer e (treeOf a text) (length out)) ≡ bytes (length (normalTextIn e t))
   unfolding toldBy

@@ -1,5 +1,5 @@
--- What the writer promises, in the papers' words, of the definitions that the contract of `write_tree` cites, for each edition of request
--- paper C-15 at once; each proof is a name cited. Assumes nothing.
+-- What the writer promises, in the papers' words and for both editions at once (C-15), about the definitions that the contract of
+-- `write_tree` cites. Each proof cites one name. Assumes nothing.
 use Prim.Native.Nat.{ℕ, _≤_, _<_}
 use mathlib.Core.Path.{_≡_, refl}
 use mathlib.Core.List.{List}
@@ -19,14 +19,14 @@ use Rattle.writer.specs.Write.{standingText, writeAnswer, outputAfter, L
 use Rattle.writer.proofs.AnswerLaws.{bytes-told, nine-told, written-text, written-rest, short-kept, lacking-text}
 use Rattle.writer.proofs.AnswerLaws.{empty-told, none-told, tree-text, text-again, text-alike, edition-texts, one-standing, one-text}
 
--- each answer is a count, a row of the table, or no row of it
+-- Each answer is a number of bytes, a row of 01's table, or no row of it.
 pub answers-told : (n : ℕ) (r : Refusal)
     → (toldBy (Written n) ≡ bytes n) × (toldBy (Refused r) ≡ row (numberOf (r .reason)) (letterOf (r .body)) (r .place))
     × (toldBy NoTree ≡ noRow)
 unfolding toldBy
 answers-told n r = (refl, refl, refl)
 
--- arrays that stand for tree t over the text: its normal text by the edition is written
+-- If arrays represent tree t over the text, its normal text under the edition is written.
 module _ (e : Edition) (a : TreeArrays) (text : List ℕ) (t : Tree) (stands : treeOf a text ≡ oneTree t) (out : List ℕ) where
   -- "On success the output holds the normal text and its further bytes are unchanged"
   pub count-when-it-fits : length (normalTextIn e t) ≤ length out
@@ -41,7 +41,7 @@ module _ (e : Edition) (a : TreeArrays) (text : List ℕ) (t : Tree) (stands : t
       → drop (length (normalTextIn e t)) (outputAfter e (treeOf a text) out) ≡ drop (length (normalTextIn e t)) out
   rest-when-it-fits = written-rest e a text t stands out
 
-  -- "On refusal no set and no count is returned, and an output keeps every byte": row 9, O 0
+  -- "On refusal no set and no count is returned, and an output keeps every byte": number 9, O 0.
   pub nine-when-too-short : length out < length (normalTextIn e t) → toldBy (writeAnswer e (treeOf a text) (length out)) ≡ row 9 79 0
   nine-when-too-short = nine-told e a text t stands out
 
@@ -56,33 +56,34 @@ only-a-real-lack = lacking-text
 pub empty-text : (e : Edition) (out : List ℕ) → (toldBy (writeAnswer e noLeaf (length out)) ≡ bytes 0) × (outputAfter e noLeaf out ≡ out)
 empty-text = empty-told
 
--- arrays that stand for no tree write nothing
+-- For arrays that represent no tree, nothing is written.
 pub no-tree : (e : Edition) (out : List ℕ) → (toldBy (writeAnswer e noTree (length out)) ≡ noRow) × (outputAfter e noTree out ≡ out)
 no-tree = none-told
 
--- the arrays of a valid tree over its text are written as its normal text
+-- The arrays of a valid tree over its text are written as its normal text.
 pub valid-tree-written : (e : Edition) (t : Tree) → ValidIn e t → standingText e (treeOf (arraysOf t) (textOf t)) ≡ some (normalTextIn e t)
 valid-tree-written = tree-text
 
--- "reading it gives the tree again": what was read from a normal text is written as the same bytes
+-- "reading it gives the tree again": the tree read from a normal text is written as the same bytes.
 pub normal-text-again : (e : Edition) (t : Tree) → ValidIn e t
     → standingText e (treeOf (arraysOf (relabel rewritten (normalIn e t))) (normalTextIn e t)) ≡ some (normalTextIn e t)
 normal-text-again = text-again
 
--- "Equal trees have equal normal texts under edition 2 up to spelling": trees that the edition reads as equal are written as texts that it
--- reads as equal
+-- "Equal trees have equal normal texts under edition 2 up to spelling": trees that are equal under the edition are written as texts that
+-- are equal under it.
 pub equal-trees-written-alike : (e : Edition) (s t : Tree) → ValidIn e s → Same (keyed e s) (keyed e t)
     → Option·map (inEdition e) (standingText e (oneTree s)) ≡ Option·map (inEdition e) (standingText e (oneTree t))
 equal-trees-written-alike = text-alike
 
--- the order of children goes by the edition, and "Labels are printed as the first tree spells them"
+-- The edition decides the order of children. "Labels are printed as the first tree spells them".
 pub edition-examples : EditionTexts
 edition-examples = edition-texts
 
--- "Old records must still be judged by the first edition": it writes the normal text of what the tokens stand for
+-- "Old records must still be judged by the first edition": it writes the normal text of the decoded tree.
 pub first-edition : (t : Tree) → standingText One (oneTree t) ≡ some (normalText (decoded t))
 first-edition = one-standing
 
--- "In exchanged files a bare `a_b` and a quoted `'a b'` are one": by edition 1, trees that stand for equal ones are written as the same bytes
+-- "In exchanged files a bare `a_b` and a quoted `'a b'` are one": under edition 1, trees that decode to equal ones are written as the same
+-- bytes.
 pub first-edition-alike : (s t : Tree) → Valid s → Same (decoded s) (decoded t) → standingText One (oneTree s) ≡ standingText One (oneTree t)
 first-edition-alike = one-text

@@ -362,15 +362,16 @@ module _ (e : Edition) (a : TreeArrays) (text : List ℕ) (n : ℕ) (fits : n �
       let l = lt-ltb u 159 (omega arith) in
       (rw (q, l) (append-nil (nodeText e a text u)), rw (q, l) (omega arith))
 
-  pub writing-start : (u : ℕ) → u < n → length (leaves (below a text u)) ≤ 80
-      → Writing e a text n (nodeText e a text u) before before (set (replicate 320 0) 0 u) 1 0
-  writing-start u h few =
+  -- v is node u as the code stores it
+  pub writing-start : (u : ℕ) → u < n → length (leaves (below a text u)) ≤ 80 → (v : ℕ) → v ≡ u
+      → Writing e a text n (nodeText e a text u) before before (set (replicate 320 0) 0 v) 1 0
+  writing-start u h few v ev =
       let z : length {A = ℕ} (replicate 320 0) ≡ 320 = length-replicate {A = ℕ} 320 0 in
-      let q = getD-set-same (replicate 320 0) 0 u 0 (omega (arith, z)) in
-      let t = one-thing u h (set (replicate 320 0) 0 u) q few in
+      let q = getD-set-same (replicate 320 0) 0 v 0 (omega (arith, z)) ∙ ev in
+      let t = one-thing u h (set (replicate 320 0) 0 v) q few in
       record {
-        long = length-set (replicate 320 0) 0 u ∙ z;
-        things = things-more n (replicate 320 0) 0 1 u (omega arith) (omega (arith, z)) (λ k. h) (λ i l k. absurd (omega arith));
+        long = length-set (replicate 320 0) 0 v ∙ z;
+        things = things-more n (replicate 320 0) 0 1 v (omega arith) (omega (arith, z)) (λ k. omega (arith, ev, h)) (λ i l k. absurd (omega arith));
         few = t .1;
         rest = rw (t .0) (omega arith);
         stores = rw (t .0) refl;
@@ -400,9 +401,9 @@ module _ (e : Edition) (a : TreeArrays) (text : List ℕ) (n : ℕ) (fits : n �
     pub has-room : d + 4 ≤ length stack
     has-room = room
 
-    pub own-fits : length whole ≤ length before
+    top-fits : length whole ≤ length before
         → at + length (ownText text (a .start) (a .size) first (getD stack d 0)) ≤ length out
-    own-fits h =
+    top-fits h =
         omega (
           arith,
           w .rest,
@@ -431,20 +432,32 @@ module _ (e : Edition) (a : TreeArrays) (text : List ℕ) (n : ℕ) (fits : n �
           kept = el ∙ w .kept;
         }
 
-    -- as the code has it: the output, the stack and the two numbers afterwards
-    module _ (o st : List ℕ) (dd i : ℕ) (est : st ≡ stackAfter (a .left) (a .right) first (getD stack d 0) stack d)
-        (edd : dd ≡ depthAfter first (getD stack d 0) d) where
-      pub writing-next : i ≡ at + length (ownText text (a .start) (a .size) first (getD stack d 0))
-          → o ≡ sets out at (ownText text (a .start) (a .size) first (getD stack d 0)) → length o ≡ length out
-          → Writing e a text n whole before o st dd i
-      writing-next ei eo el =
-          subst (λ (q : List ℕ). Writing e a text n whole before o q dd i) (sym est)
-          (subst
-          (λ (q : ℕ). Writing e a text n whole before o (stackAfter (a .left) (a .right) first (getD stack d 0) stack d) q i)
-          (sym edd) (next o i ei eo el))
+    -- as the code has it: the thing, then the output, the stack and the two numbers afterwards
+    module _ (k : ℕ) (ek : k ≡ getD stack d 0) where
+      own-is : ownText text (a .start) (a .size) first k ≡ ownText text (a .start) (a .size) first (getD stack d 0)
+      own-is = ap (ownText text (a .start) (a .size) first) ek
 
-      pub fewer-steps : stackSteps a text st dd < stackSteps a text stack depth
-      fewer-steps = rw (est, edd) (omega (arith, falls))
+      pub own-fits : length whole ≤ length before → at + length (ownText text (a .start) (a .size) first k) ≤ length out
+      own-fits h = omega (arith, ap length own-is, top-fits h)
+
+      module _ (o st : List ℕ) (dd i : ℕ) (est : st ≡ stackAfter (a .left) (a .right) first k stack d) (edd : dd ≡ depthAfter first k d) where
+        stack-is : st ≡ stackAfter (a .left) (a .right) first (getD stack d 0) stack d
+        stack-is = est ∙ ap (λ (q : ℕ). stackAfter (a .left) (a .right) first q stack d) ek
+
+        depth-is : dd ≡ depthAfter first (getD stack d 0) d
+        depth-is = edd ∙ ap (λ (q : ℕ). depthAfter first q d) ek
+
+        pub writing-next : i ≡ at + length (ownText text (a .start) (a .size) first k)
+            → o ≡ sets out at (ownText text (a .start) (a .size) first k) → length o ≡ length out → Writing e a text n whole before o st dd i
+        writing-next ei eo el =
+            subst (λ (q : List ℕ). Writing e a text n whole before o q dd i) (sym stack-is)
+            (subst
+            (λ (q : ℕ). Writing e a text n whole before o (stackAfter (a .left) (a .right) first (getD stack d 0) stack d) q i)
+            (sym depth-is)
+            (next o i (ei ∙ ap (λ (x : List ℕ). at + length x) own-is) (eo ∙ ap (sets out at) own-is) el))
+
+        pub fewer-steps : stackSteps a text st dd < stackSteps a text stack depth
+        fewer-steps = rw (stack-is, depth-is) (omega (arith, falls))
 
   pub writing-end : (whole out stack : List ℕ) (at : ℕ) → Writing e a text n whole before out stack 0 at
       → (at ≡ 0 + length whole) × (out ≡ sets before 0 whole)

@@ -96,6 +96,10 @@ shown-length x =
       length-replicate {A = ℕ} (tokenLimit - length (tokenOf x)) 0,
     )
 
+pub shown-few : (x : Label) (y : ShownLabel) → y ≡ shownOf x → y .len ≤ tokenLimit
+unfolding shownOf
+shown-few x y e = rw e (omega arith)
+
 module _ (text s z : List ℕ) (u : ℕ) (x : StoredLabel) (ex : x ≡ storedOf (leafSpelling (inEdition One text) s z u)) (y : ShownLabel)
     (ey : y ≡ shownOf (storedBytes x)) where
   kept-as : x ≡ storedOf (leafSpelling text s z u)

@@ -23,11 +23,11 @@ unfoldable pub pass : (List ℕ → ℕ → ℕ) → List ℕ → ℕ → List �
 pass f t zero = t
 pass f t (suc n) = set (pass f t n) n (f (pass f t n) n)
 
--- the label that leaf u's part of the text stands for
+-- the label that leaf u's part of the text decodes to
 abbrev pub leafSpelling : (text s z : List ℕ) → ℕ → Label
 leafSpelling text s z u = spelling (leafLabel text s z u)
 
--- what leaf u writes: that label's written form, of the text as it stands
+-- what leaf u writes: that label's written form, as the text spells it
 unfoldable pub leafToken : (text s z : List ℕ) → ℕ → Token
 leafToken text s z u = shownBytes (shownOf (storedBytes (storedOf (leafSpelling text s z u))))
 
@@ -36,7 +36,7 @@ unfoldable pub weightAt : (text l s z : List ℕ) → ℕ → ℕ
 unfolding leafToken
 weightAt text l s z u = cond (eqb (getD l u 0) u) (length (leafToken text s z u)) 0
 
--- more than 80 leaves weigh, each three bytes more than it writes
+-- one more than 80 leaves can weigh, if each weighs three bytes more than it writes
 abbrev pub weightCap : ℕ
 weightCap = leafLimit * (tokenLimit + 3) + 1
 
@@ -50,7 +50,8 @@ unfoldable pub rootSum : List ℕ → List ℕ → List ℕ → ℕ → ℕ → 
 unfolding pass sumAt
 rootSum l r w plus cap n = getD (pass (sumAt l r w plus cap) (replicate 159 0) n) (n - 1) 0
 
--- t names for a node the leaf with the smallest label below it: that of i is less than that of j. The text is the one that an edition reads
+-- t names for a node the leaf with the smallest label below it; the label of i is less than that of j. The text is the one that an edition
+-- reads.
 unfoldable pub goesFirst : List ℕ → List ℕ → List ℕ → List ℕ → ℕ → ℕ → Bool
 goesFirst text s z t i j = labelLess (leafSpelling text s z (getD t i 0)) (leafSpelling text s z (getD t j 0))
 
@@ -61,17 +62,17 @@ leastAt text l r s z t u =
     cond (eqb (getD l u 0) u) u
     (cond (goesFirst text s z t (getD l u 0) (getD r u 0)) (getD t (getD l u 0) 0) (getD t (getD r u 0) 0))
 
--- the child of node u that is written first, u itself where it is a leaf
+-- the child of node u that is written first; u itself if it is a leaf
 unfoldable pub firstAt : List ℕ → List ℕ → List ℕ → List ℕ → List ℕ → List ℕ → ℕ → ℕ
 unfolding goesFirst
 firstAt text l r s z t u =
     cond (eqb (getD l u 0) u) u (cond (goesFirst text s z t (getD l u 0) (getD r u 0)) (getD l u 0) (getD r u 0))
 
--- the tree below node u, its labels as they stand in the text
+-- the tree below node u, with tokens for labels
 unfoldable pub below : TreeArrays → List ℕ → ℕ → Tree
 below a text u = treeAt (suc u) a text u
 
--- how a tree of tokens is written, each in its label's one form, its children as they stand
+-- how a tree of tokens is written, each in its label's one form, children in their order
 abbrev pub shownText : Tree → List ℕ
 shownText t = written (relabel rewritten t)
 

@@ -1,4 +1,4 @@
--- What writing a tree answers and what the output then holds. Scope paper, "Why a job is turned down".
+-- The answer of writing a tree, and what the output then holds. 01, "Why a job is turned down".
 use Prim.Native.Nat.{ℕ, _<_}
 use mathlib.Core.Path.{_≡_}
 use mathlib.Core.Bool.{cond}
@@ -19,8 +19,8 @@ use Rattle.trees.specs.Words.{bytesOf}
 use Rattle.writer.specs.declared.WriteAnswer.{WriteAnswer}
 use Rattle.writer.specs.declared.WriteAnswer.the-variants.{Written, Refused, NoTree}
 
--- "The empty set of leaves has a text of no bytes"; a tree has its normal text by an edition: the order of children is the edition's, and
--- "Labels are printed as the first tree spells them" (request paper, C-15)
+-- "The empty set of leaves has a text of no bytes". A tree has its normal text under an edition: the edition decides the order of children,
+-- and "Labels are printed as the first tree spells them" (C-15).
 unfoldable pub standingText : Edition → Standing → Option (List ℕ)
 unfolding normalTextIn
 standingText e noLeaf = some []
@@ -52,8 +52,8 @@ unfoldable pub outputAfter : Edition → Standing → List ℕ → List ℕ
 unfolding standingText textOutput
 outputAfter e s out = textOutput (standingText e s) out
 
--- an answer in the scope paper's terms: so many bytes; a row of "Why a job is turned down" with its number, the letter's byte and the
--- place; or that the arrays stand for no tree, for which the paper has no row, since it speaks of texts alone
+-- An answer in 01's terms: so many bytes, or a row of "Why a job is turned down" with its number, the letter's byte and the place. Arrays
+-- that represent no tree have no row there, since 01 speaks of texts alone.
 pub data Told : Type 0 where
   bytes : ℕ → Told
   row : ℕ → ℕ → ℕ → Told
@@ -72,8 +72,8 @@ pub record Lack (o : Option (List ℕ)) (n : ℕ) (r : Refusal) : Type 0 where
   pub longer : n < length text
   pub told : r ≡ outputTooShort
 
--- C-15's own, of the tree `(a,B);`: by edition 1 a capital comes before any small letter, by edition 2 `a` before `B`; both stay as they are
--- spelled
+-- C-15, for the tree `(a,B);`. Under edition 1 a capital comes before any small letter, under edition 2 `a` comes before `B`; both keep
+-- their spelling.
 pub record EditionTexts : Type 0 where
   pub by-first : standingText One (oneTree (node (leaf (bytesOf "a")) (leaf (bytesOf "B")))) ≡ some (bytesOf "(B,a);")
   pub by-second : standingText Two (oneTree (node (leaf (bytesOf "a")) (leaf (bytesOf "B")))) ≡ some (bytesOf "(a,B);")

@@ -5,11 +5,17 @@ use trees::Body;
 use trees::Edition;
 use trees::LABEL_LIMIT;
 use trees::LEAF_LIMIT;
+use trees::NODE_LIMIT;
 use trees::Reason;
 use trees::Refusal;
 use trees::TOKEN_LIMIT;
 use trees::TreeArrays;
-use trees::entry;
+use trees::byte_entry;
+use trees::narrow;
+use trees::narrow_place;
+use trees::place_entry;
+use trees::wide;
+use trees::wide_place;
 ghost use Prim.Native.Nat.{ℕ, _+_, _-_, _<_, _≤_, min};
 ghost use mathlib.Core.Path.{_≡_};
 ghost use mathlib.Core.Bool.{true, cond};
@@ -30,24 +36,32 @@ pub enum WriteAnswer {
     NoTree,
 }
 
-// One of two numbers.
-fn pick(first: bool, a: usize, b: usize) -> usize
+// An entry of an array of bytes as a byte, 0 past its end.
+fn byte_at(xs: &[u8], i: usize) -> u8
+    ensures { λ r. ⌜ r ≡ getD (now (xs .entry)) i 0 ⌝ }
+{
+    if i < xs.len() { xs[i] } else { 0 }
+}
+
+// One of two bytes.
+fn pick(first: bool, a: u8, b: u8) -> u8
     ensures { λ r. ⌜ r ≡ cond first a b ⌝ }
 {
     if first { a } else { b }
 }
 
 // The sum, at most `cap`; nothing overflows on the way.
-fn capped(a: usize, b: usize, cap: usize) -> usize
+fn capped(a: usize, b: usize, cap: u16) -> u16
     ensures { λ r. ⌜ r ≡ min cap (a + b) ⌝ }
 {
-    if cap <= a {
+    let most = wide_place(cap);
+    if most <= a {
         return cap;
     }
-    if cap - a <= b {
+    if most - a <= b {
         return cap;
     }
-    a + b
+    narrow_place(a + b)
 }
 
 // Whether node u is a leaf whose label lies in the text and is not too long, or has two children with smaller
@@ -55,20 +69,20 @@ fn capped(a: usize, b: usize, cap: usize) -> usize
 fn good_node(
     text: &[u8],
     nodes: usize,
-    left: &[usize],
-    right: &[usize],
-    start: &[usize],
-    size: &[usize],
+    left: &[u8],
+    right: &[u8],
+    start: &[u16],
+    size: &[u8],
     u: usize,
 ) -> bool
     ensures { λ r.
         ⌜ r ≡ goodNode (arraysFrom nodes (now (left .entry)) (now (right .entry)) (now (start .entry)) (now (size .entry)))
         (now (text .entry)) u ⌝ }
 {
-    let l = entry(left, u);
+    let l = byte_entry(left, u);
     if l == u {
-        let n = entry(size, u);
-        let s = entry(start, u);
+        let n = byte_entry(size, u);
+        let s = place_entry(start, u);
         if text.len() < n {
             return false;
         }
@@ -77,7 +91,7 @@ fn good_node(
         }
         return trees::spelled_size(trees::part(text, s, n)) <= LABEL_LIMIT;
     }
-    let r = entry(right, u);
+    let r = byte_entry(right, u);
     if l < u { r < u } else { false }
 }
 
@@ -85,10 +99,10 @@ fn good_node(
 fn good_nodes(
     text: &[u8],
     nodes: usize,
-    left: &[usize],
-    right: &[usize],
-    start: &[usize],
-    size: &[usize],
+    left: &[u8],
+    right: &[u8],
+    start: &[u16],
+    size: &[u8],
 ) -> bool
     ensures { λ r.
         ⌜ r ≡ goodNodes (arraysFrom nodes (now (left .entry)) (now (right .entry)) (now (start .entry)) (now (size .entry)))
@@ -106,35 +120,35 @@ fn good_nodes(
 
 // What the leaves below node u weigh together, from the sums of its children; a leaf weighs its entry and `plus`.
 fn sum_at(
-    left: &[usize],
-    right: &[usize],
-    weight: &[usize],
+    left: &[u8],
+    right: &[u8],
+    weight: &[u8],
     plus: usize,
-    cap: usize,
-    sums: &[usize],
+    cap: u16,
+    sums: &[u16],
     u: usize,
-) -> usize
+) -> u16
     ensures { λ r.
         ⌜ r ≡ sumAt (now (left .entry)) (now (right .entry)) (now (weight .entry)) plus cap (now (sums .entry)) u ⌝ }
 {
-    let l = entry(left, u);
+    let l = byte_entry(left, u);
     if l == u {
-        return capped(entry(weight, u), plus, cap);
+        return capped(byte_entry(weight, u), plus, cap);
     }
-    let r = entry(right, u);
-    capped(entry(sums, l), entry(sums, r), cap)
+    let r = byte_entry(right, u);
+    capped(place_entry(sums, l), place_entry(sums, r), cap)
 }
 
 // What the leaves below each node weigh together, children before parents. Arrays that share subtrees can stand for
 // more leaves than a number can count: hence the cap.
 fn sum_pass(
-    left: &[usize],
-    right: &[usize],
-    weight: &[usize],
+    left: &[u8],
+    right: &[u8],
+    weight: &[u8],
     plus: usize,
-    cap: usize,
+    cap: u16,
     nodes: usize,
-    sums: &mut [usize],
+    sums: &mut [u16],
 )
     requires { ⌜ nodes ≤ length (now sums) ⌝ }
     ensures { λ _.
@@ -149,29 +163,22 @@ fn sum_pass(
 }
 
 // What all leaves below the last node weigh together.
-fn root_sum(
-    left: &[usize],
-    right: &[usize],
-    weight: &[usize],
-    plus: usize,
-    cap: usize,
-    nodes: usize,
-) -> usize
+fn root_sum(left: &[u8], right: &[u8], weight: &[u8], plus: usize, cap: u16, nodes: usize) -> usize
     requires { ⌜ (0 < nodes) × (nodes ≤ 159) ⌝ }
     ensures { λ r. ⌜ r ≡ rootSum (now (left .entry)) (now (right .entry)) (now (weight .entry)) plus cap nodes ⌝ }
 {
-    let mut sums = [0usize; 159];
+    let mut sums = [0u16; 159];
     sum_pass(left, right, weight, plus, cap, nodes, &mut sums);
-    entry(&sums, nodes - 1)
+    place_entry(&sums, nodes - 1)
 }
 
 // How many bytes node u writes if it is a leaf; what is written is the label as the text spells it, so by edition 1.
-fn weight_at(text: &[u8], left: &[usize], start: &[usize], size: &[usize], u: usize) -> usize
+fn weight_at(text: &[u8], left: &[u8], start: &[u16], size: &[u8], u: usize) -> u8
     ensures { λ r. ⌜ r ≡ weightAt (now (text .entry)) (now (left .entry)) (now (start .entry)) (now (size .entry)) u ⌝ }
 {
-    if entry(left, u) == u {
+    if byte_entry(left, u) == u {
         let label = trees::shown(trees::stored_leaf(Edition::One, text, start, size, u));
-        return label.len;
+        return narrow(label.len);
     }
     0
 }
@@ -179,11 +186,11 @@ fn weight_at(text: &[u8], left: &[usize], start: &[usize], size: &[usize], u: us
 // How many bytes each leaf writes.
 fn weight_pass(
     text: &[u8],
-    left: &[usize],
-    start: &[usize],
-    size: &[usize],
+    left: &[u8],
+    start: &[u16],
+    size: &[u8],
     nodes: usize,
-    weight: &mut [usize],
+    weight: &mut [u8],
 )
     requires { ⌜ nodes ≤ length (now weight) ⌝ }
     ensures { λ _.
@@ -198,17 +205,17 @@ fn weight_pass(
 }
 
 // More than the leaves of a tree can weigh, each three bytes more than it writes.
-const WEIGHT_CAP: usize = LEAF_LIMIT * (TOKEN_LIMIT + 3) + 1;
+const WEIGHT_CAP: u16 = (LEAF_LIMIT * (TOKEN_LIMIT + 3) + 1) as u16;
 
 // How many bytes the text of the last node's tree has, whatever the edition. A leaf counts three bytes more than it writes, for `(`, `,`
 // and `)`: two too many in all, with `;`.
 fn text_size(
     text: &[u8],
     nodes: usize,
-    left: &[usize],
-    right: &[usize],
-    start: &[usize],
-    size: &[usize],
+    left: &[u8],
+    right: &[u8],
+    start: &[u16],
+    size: &[u8],
 ) -> usize
     requires { ⌜ (0 < nodes) × (nodes ≤ 159) ⌝ }
     requires { ⌜ goodNodes (arraysFrom nodes (now left) (now right) (now start) (now size)) (now text) nodes ≡ true ⌝ }
@@ -219,7 +226,7 @@ fn text_size(
         → r ≡ length (normalTextIn e (below (arraysFrom nodes (now (left .entry)) (now (right .entry)) (now (start .entry)) (now (size .entry)))
         (now (text .entry)) (nodes - 1)))) ⌝ }
 {
-    let mut weight = [0usize; 159];
+    let mut weight = [0u8; 159];
     weight_pass(text, left, start, size, nodes, &mut weight);
     root_sum(left, right, &weight, 3, WEIGHT_CAP, nodes) - 2
 }
@@ -228,17 +235,17 @@ fn text_size(
 fn goes_first(
     edition: Edition,
     text: &[u8],
-    start: &[usize],
-    size: &[usize],
-    least: &[usize],
-    i: usize,
-    j: usize,
+    start: &[u16],
+    size: &[u8],
+    least: &[u8],
+    i: u8,
+    j: u8,
 ) -> bool
     ensures { λ r.
         ⌜ r ≡ goesFirst (inEdition edition (now (text .entry))) (now (start .entry)) (now (size .entry)) (now (least .entry)) i j ⌝ }
 {
-    let x = entry(least, i);
-    let y = entry(least, j);
+    let x = byte_entry(least, wide(i));
+    let y = byte_entry(least, wide(j));
     let a = trees::leaf_label(text, start, size, x);
     let b = trees::leaf_label(text, start, size, y);
     trees::comes_before(edition, a, b)
@@ -248,36 +255,36 @@ fn goes_first(
 fn least_at(
     edition: Edition,
     text: &[u8],
-    left: &[usize],
-    right: &[usize],
-    start: &[usize],
-    size: &[usize],
-    least: &[usize],
+    left: &[u8],
+    right: &[u8],
+    start: &[u16],
+    size: &[u8],
+    least: &[u8],
     u: usize,
-) -> usize
+) -> u8
     ensures { λ r.
         ⌜ r ≡ leastAt (inEdition edition (now (text .entry))) (now (left .entry)) (now (right .entry)) (now (start .entry)) (now (size .entry))
         (now (least .entry)) u ⌝ }
 {
-    let l = entry(left, u);
-    if l == u {
-        return u;
+    let l = byte_at(left, u);
+    if wide(l) == u {
+        return l;
     }
-    let r = entry(right, u);
+    let r = byte_at(right, u);
     let first = goes_first(edition, text, start, size, least, l, r);
-    pick(first, entry(least, l), entry(least, r))
+    pick(first, byte_at(least, wide(l)), byte_at(least, wide(r)))
 }
 
 // The leaf with the smallest label below each node.
 fn least_pass(
     edition: Edition,
     text: &[u8],
-    left: &[usize],
-    right: &[usize],
-    start: &[usize],
-    size: &[usize],
+    left: &[u8],
+    right: &[u8],
+    start: &[u16],
+    size: &[u8],
     nodes: usize,
-    least: &mut [usize],
+    least: &mut [u8],
 )
     requires { ⌜ nodes ≤ length (now least) ⌝ }
     ensures { λ _.
@@ -296,22 +303,22 @@ fn least_pass(
 fn first_at(
     edition: Edition,
     text: &[u8],
-    left: &[usize],
-    right: &[usize],
-    start: &[usize],
-    size: &[usize],
-    least: &[usize],
+    left: &[u8],
+    right: &[u8],
+    start: &[u16],
+    size: &[u8],
+    least: &[u8],
     u: usize,
-) -> usize
+) -> u8
     ensures { λ r.
         ⌜ r ≡ firstAt (inEdition edition (now (text .entry))) (now (left .entry)) (now (right .entry)) (now (start .entry)) (now (size .entry))
         (now (least .entry)) u ⌝ }
 {
-    let l = entry(left, u);
-    if l == u {
-        return u;
+    let l = byte_at(left, u);
+    if wide(l) == u {
+        return l;
     }
-    let r = entry(right, u);
+    let r = byte_at(right, u);
     let first = goes_first(edition, text, start, size, least, l, r);
     pick(first, l, r)
 }
@@ -320,13 +327,13 @@ fn first_at(
 fn first_pass(
     edition: Edition,
     text: &[u8],
-    left: &[usize],
-    right: &[usize],
-    start: &[usize],
-    size: &[usize],
-    least: &[usize],
+    left: &[u8],
+    right: &[u8],
+    start: &[u16],
+    size: &[u8],
+    least: &[u8],
     nodes: usize,
-    first: &mut [usize],
+    first: &mut [u8],
 )
     requires { ⌜ nodes ≤ length (now first) ⌝ }
     ensures { λ _.
@@ -356,23 +363,23 @@ fn put_bytes(x: &[u8], out: &mut [u8], at: usize) -> usize
 }
 
 // What stands on the stack of things to write: a node by its number, or one of these.
-const COMMA: usize = 159;
+const COMMA: u8 = 159;
 
-const CLOSE: usize = 160;
+const CLOSE: u8 = 160;
 
 // The byte of a thing to write that is no node.
 fn mark(k: usize) -> u8
     ensures { λ r. ⌜ r ≡ markOf k ⌝ }
 {
-    if k == COMMA { b',' } else { b')' }
+    if k == wide(COMMA) { b',' } else { b')' }
 }
 
 // Stores what thing k writes itself: its byte, a leaf's label, an inner node's `(`. Says where the next byte goes.
 fn put_own(
     text: &[u8],
-    start: &[usize],
-    size: &[usize],
-    first: &[usize],
+    start: &[u16],
+    size: &[u8],
+    first: &[u8],
     k: usize,
     out: &mut [u8],
     at: usize,
@@ -384,11 +391,11 @@ fn put_own(
         ⌜ now (out .exit) ≡ sets (now (out .entry)) at
         (ownText (now (text .entry)) (now (start .entry)) (now (size .entry)) (now (first .entry)) k) ⌝ }
 {
-    if COMMA <= k {
+    if NODE_LIMIT <= k {
         out[at] = mark(k);
         return at + 1;
     }
-    if entry(first, k) == k {
+    if byte_entry(first, k) == k {
         let label = trees::shown(trees::stored_leaf(Edition::One, text, start, size, k));
         let bytes = label.bytes;
         return put_bytes(trees::first_bytes(&bytes, label.len), out, at);
@@ -398,28 +405,21 @@ fn put_own(
 }
 
 // Puts what is to be written after an inner node's `(` onto the stack, the first last, and says how much is there then.
-fn push(
-    left: &[usize],
-    right: &[usize],
-    first: &[usize],
-    k: usize,
-    stack: &mut [usize],
-    depth: usize,
-) -> usize
+fn push(left: &[u8], right: &[u8], first: &[u8], k: usize, stack: &mut [u8], depth: usize) -> usize
     requires { ⌜ depth + 4 ≤ length (now stack) ⌝ }
     ensures depth { λ r. ⌜ r ≡ depthAfter (now (first .entry)) k depth ⌝ }
     ensures stored { λ _.
         ⌜ now (stack .exit) ≡ stackAfter (now (left .entry)) (now (right .entry)) (now (first .entry)) k (now (stack .entry)) depth ⌝ }
 {
-    if COMMA <= k {
+    if NODE_LIMIT <= k {
         return depth;
     }
-    let f = entry(first, k);
-    if f == k {
+    let f = byte_at(first, k);
+    if wide(f) == k {
         return depth;
     }
-    let l = entry(left, k);
-    let r = entry(right, k);
+    let l = byte_at(left, k);
+    let r = byte_at(right, k);
     let other = pick(f == l, r, l);
     stack[depth] = CLOSE;
     stack[depth + 1] = other;
@@ -435,11 +435,11 @@ fn put_tree(
     edition: Edition,
     text: &[u8],
     nodes: usize,
-    left: &[usize],
-    right: &[usize],
-    start: &[usize],
-    size: &[usize],
-    first: &[usize],
+    left: &[u8],
+    right: &[u8],
+    start: &[u16],
+    size: &[u8],
+    first: &[u8],
     out: &mut [u8],
 ) -> usize
     requires { ⌜ (0 < nodes) × (nodes ≤ 159) ⌝ }
@@ -455,13 +455,13 @@ fn put_tree(
         (nodeText edition (arraysFrom nodes (now (left .entry)) (now (right .entry)) (now (start .entry)) (now (size .entry)))
         (now (text .entry)) (nodes - 1)) ⌝ }
 {
-    let mut stack = [0usize; 320];
-    stack[0] = nodes - 1;
+    let mut stack = [0u8; 320];
+    stack[0] = narrow(nodes - 1);
     let mut depth: usize = 1;
     let mut at: usize = 0;
     while 0 < depth {
         depth -= 1;
-        let k = stack[depth];
+        let k = wide(stack[depth]);
         at = put_own(text, start, size, first, k, out, at);
         depth = push(left, right, first, k, &mut stack, depth);
     }
@@ -473,10 +473,10 @@ fn write_nodes(
     edition: Edition,
     text: &[u8],
     nodes: usize,
-    left: &[usize],
-    right: &[usize],
-    start: &[usize],
-    size: &[usize],
+    left: &[u8],
+    right: &[u8],
+    start: &[u16],
+    size: &[u8],
     out: &mut [u8],
 ) -> WriteAnswer
     requires { ⌜ (0 < nodes) × (nodes ≤ 159) ⌝ }
@@ -492,7 +492,7 @@ fn write_nodes(
         (now (text .entry)))
         (now (out .entry)) ⌝ }
 {
-    let none = [0usize; 159];
+    let none = [0u8; 159];
     if 80 < root_sum(left, right, &none, 1, 81, nodes) {
         return WriteAnswer::NoTree;
     }
@@ -504,9 +504,9 @@ fn write_nodes(
             place: 0,
         });
     }
-    let mut least = [0usize; 159];
+    let mut least = [0u8; 159];
     least_pass(edition, text, left, right, start, size, nodes, &mut least);
-    let mut first = [0usize; 159];
+    let mut first = [0u8; 159];
     first_pass(
         edition,
         text,

@@ -27,7 +27,7 @@ fn joined(xs: &[Vec<u8>]) -> Vec<u8> {
     xs.join(&b","[..])
 }
 
-/// The examples of the scope paper's table and the traps of a close reading.
+/// The examples of 01's table and the traps of a close reading.
 fn tree_texts() -> Vec<Vec<u8>> {
     let full = "a".repeat(LABEL);
     let over = "a".repeat(LABEL + 1);

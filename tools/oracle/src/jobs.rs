@@ -21,7 +21,7 @@ pub fn bytes(x: &str) -> Vec<u8> {
     x.as_bytes().to_vec()
 }
 
-/// The scope paper's trees to try and the examples of its table.
+/// 01's trees to try and the examples of its table.
 fn paper_jobs() -> Vec<Vec<u8>> {
     let rows = [
         ("((a,b),(c,d));", "((a,c),(b,d));", "a"),

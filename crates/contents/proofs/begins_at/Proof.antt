@@ -5,7 +5,7 @@ use mathlib.Core.Path.{_≡_, refl, sym, _∙_}
 use native.Mathlib.Omega.{arith}
 use lib.ListN.{length, drop}
 use Rattle.contents.specs.Contents.{begins}
-use Rattle.contents.proofs.OptionalLaws.{begins-same, begins-other, begins-past, begins-done}
+use Rattle.contents.proofs.BeginsLaws.{begins-same, begins-other, begins-past, begins-done}
 use Rattle.contents.proofs.begins_at.Statement.{statement}
 use Rattle.contents.proofs.begins_at.Tie as tie
 

@@ -1,130 +1,91 @@
 -- `job::answer_laid` meets its contract: the parts of the job that its contents name, with the claim or without. Assumes nothing.
-use Rattle.job.proofs.AnswerLaws.{laid-inside, bodies-base, job-solved, job-judged}
-use Rattle.contents.specs.Contents.{claimSize}
+use Rattle.job.proofs.AnswerLaws.{first-ends, list-ends, claim-ends, begin-is, bodies-base, job-solved, job-judged}
 use Rattle.job.specs.declared.Begin.{Begin}
 use Rattle.job.specs.Answered.{answered, answerTo, jobOutput}
 use Rattle.job.specs.Printed.{JobSolution}
 use mathlib.Core.Path.{_∙_, ap, ap₂}
 use native.Mathlib.Omega.{arith}
-use Prim.Native.Nat.{_+_}
-use lib.ListN.{length, drop, length-take}
+use Prim.Native.Nat.{ℕ}
+use lib.ListN.{length}
 use borrow.Author.Needs.{needs}
 use Rattle.job.proofs.answer_laid.Statement.{statement}
 use Rattle.job.proofs.answer_laid.Tie as tie
 
-add-second-at : tie.Need-add-second-at
-add-second-at c =
-    let start = c .before .before .before in
-    omega (arith, laid-inside (start .args .job .now) (start .args .at) (start .args .table) (start .pre .1))
-
-add-list-at : tie.Need-add-list-at
-add-list-at c =
-    let start = c .before .before .before .before in
-    omega (arith, laid-inside (start .args .job .now) (start .args .at) (start .args .table) (start .pre .1))
-
-add-end : tie.Need-add-end
-add-end c =
-    let start = c .before .before .before .before .before in
-    omega (arith, laid-inside (start .args .job .now) (start .args .at) (start .args .table) (start .pre .1))
-
-part-first-end : tie.Need-part-first-end
-part-first-end c =
-    let start = c .before .before .before .before .before .before in
-    omega (arith, laid-inside (start .args .job .now) (start .args .at) (start .args .table) (start .pre .1))
-
-part-second-end : tie.Need-part-second-end
-part-second-end c =
-    let start = c .before .before .before .before .before .before .before in
-    omega (arith, laid-inside (start .args .job .now) (start .args .at) (start .args .table) (start .pre .1))
-
-part-list-end : tie.Need-part-list-end
-part-list-end c =
-    let start = c .before .before .before .before .before .before .before .before in
-    omega (arith, laid-inside (start .args .job .now) (start .args .at) (start .args .table) (start .pre .1))
-
-add-answer-claim : tie.Need-add-answer-claim
-add-answer-claim c =
-    let start = c .before .before .before .before .before .before .before .before .before .before .before .before in
-    omega (arith, laid-inside (start .args .job .now) (start .args .at) (start .args .table) (start .pre .1), ap claimSize (c .before .claim .given .1))
-
-part-answer-claim-end : tie.Need-part-answer-claim-end
-part-answer-claim-end c =
-    let start = c .before .before .before .before .before .before .before .before .before .before .before .before in
-    omega (arith, laid-inside (start .args .job .now) (start .args .at) (start .args .table) (start .pre .1), ap claimSize (c .before .claim .given .1))
-
 answer-bodies-requires : tie.Need-answer-bodies-requires
 answer-bodies-requires c κs =
-    let start = c .before .before .before .before .before .before .before .before .before .before .before .before in
-    let a = start .args in
-    let laid = laid-inside (a .job .now) (a .at) (a .table) (start .pre .1) in (
-      omega (arith, laid, start .pre .0, length-take (a .table .required) (drop (a .at + a .table .first + a .table .second) (a .job .now))),
-      omega (arith, laid, start .pre .0, length-take (a .table .first) (drop (a .at) (a .job .now))),
+    let third = c .before .before .before in
+    let first = third .before .before in
+    let place = first .before .before in
+    let start = place .before .before .before .before .before .before in
+    let a = start .args in (
+      omega (arith, list-ends (a .job .now) (a .table) (start .pre .1), place .place-of2 .ensures, ap (length {A = ℕ}) (third .bytes-of3 .ensures), start .pre .0),
+      omega (arith, first-ends (a .job .now) (a .table) (start .pre .1), place .before .place-of .ensures, ap (length {A = ℕ}) (first .bytes-of .ensures), start .pre .0),
     )
 
 answer-claim-requires : tie.Need-answer-claim-requires
 answer-claim-requires c κs =
-    let start = c .before .before .before .before .before .before .before .before .before .before .before .before .before .before in
-    let a = start .args in
-    let g = c .before .before .before .claim .given in
-    let laid = laid-inside (a .job .now) (a .at) (a .table) (start .pre .1) in
-    let end = a .at + a .table .first + a .table .second + a .table .required in (
+    let third = c .before .before .before .before in
+    let first = third .before .before in
+    let place = first .before .before in
+    let start = place .before .before .before .before .before .before in
+    let a = start .args in (
       (
-        omega (arith, laid, start .pre .0, length-take (a .table .required) (drop (a .at + a .table .first + a .table .second) (a .job .now))),
-        omega (arith, laid, start .pre .0, length-take (a .table .first) (drop (a .at) (a .job .now))),
+        omega (arith, list-ends (a .job .now) (a .table) (start .pre .1), place .place-of2 .ensures, ap (length {A = ℕ}) (third .bytes-of3 .ensures), start .pre .0),
+        omega (arith, first-ends (a .job .now) (a .table) (start .pre .1), place .before .place-of .ensures, ap (length {A = ℕ}) (first .bytes-of .ensures), start .pre .0),
       ),
-      omega (arith, laid, start .pre .0, ap claimSize (g .1), length-take (g .0 .0) (drop end (a .job .now))),
+      omega (arith, claim-ends (a .job .now) (a .table) (start .pre .1), first .before .place-of3 .ensures, ap (length {A = ℕ}) (c .before .bytes-of4 .ensures), start .pre .0),
     )
 
 returns : tie.Need-returns
 unfolding answerTo
 returns c =
-    let start = c .before .before .before .before .before .before .before .before .before .before .before .before .before .before .before in
+    let found = c .before .before .answer-bodies .ensures in
+    let third = c .before .before .before .before .before .before in
+    let place = third .before .before .before in
+    let read = place .before .before .before in
+    let start = read .before .before .before .before in
     let a = start .args in
-    let job = a .job .now in
-    let out = a .out .now in
-    let e = job-solved job (a .at) (a .table) (start .pre .1) (start .pre .0) _
-    (c .before .before .before .before .before .before .before .before .before .edition-of .ensures) (c .before .before .before .before .enum-told .given .1) in (
-      c .before .before .answer-bodies .ensures .0 ∙ ap₂ (λ (at : Begin) (x : JobSolution). answered at (length out) x) (bodies-base job (a .at) (a .table) (start .pre .1)) e,
-      c .before .before .answer-bodies .ensures .1 ∙ ap (λ (x : JobSolution). jobOutput x out) e,
+    let e = job-solved (a .job .now) (a .table) (start .pre .1) (start .pre .0) _ (read .edition-of .ensures) _ _ _ (third .before .before .bytes-of .ensures)
+    (third .before .bytes-of2 .ensures) (third .bytes-of3 .ensures) (c .before .before .before .before .enum-told .given .1) in
+    let at = begin-is (place .before .before .place-of .ensures) (place .before .place-of2 .ensures) (place .place-of3 .ensures)
+    ∙ bodies-base (a .job .now) (a .table) (start .pre .1) in (
+      found .0 ∙ ap₂ (λ (b : Begin) (x : JobSolution). answered b (length (a .out .now)) x) at e,
+      found .1 ∙ ap (λ (x : JobSolution). jobOutput x (a .out .now)) e,
     )
 
 returns-2 : tie.Need-returns-2
 unfolding answerTo
 returns-2 c =
-    let start = c .before .before .before .before .before .before .before .before .before .before .before .before .before .before .before .before .before in
+    let found = c .before .before .answer-claim .ensures in
+    let told = c .before .before .before .before .before in
+    let third = told .before .before in
+    let place = third .before .before .before in
+    let read = place .before .before .before in
+    let start = read .before .before .before .before in
     let a = start .args in
-    let job = a .job .now in
-    let out = a .out .now in
-    let e = job-judged job (a .at) (a .table) (start .pre .1) (start .pre .0) _
-    (c .before .before .before .before .before .before .before .before .before .before .before .edition-of .ensures) _ (c .before .before .before .before .before .before .claim .given .1) in (
-      c .before .before .answer-claim .ensures .0 ∙ ap₂ (λ (at : Begin) (x : JobSolution). answered at (length out) x) (bodies-base job (a .at) (a .table) (start .pre .1)) e,
-      c .before .before .answer-claim .ensures .1 ∙ ap (λ (x : JobSolution). jobOutput x out) e,
+    let e = job-judged (a .job .now) (a .table) (start .pre .1) (start .pre .0) _ (read .edition-of .ensures) _ _ _ (third .before .before .bytes-of .ensures)
+    (third .before .bytes-of2 .ensures) (third .bytes-of3 .ensures) _ _ (told .enum-told2 .given .1) _ (c .before .before .before .before .bytes-of4 .ensures) in
+    let at = begin-is (place .before .before .place-of .ensures) (place .before .place-of2 .ensures) (place .place-of3 .ensures)
+    ∙ bodies-base (a .job .now) (a .table) (start .pre .1) in (
+      found .0 ∙ ap₂ (λ (b : Begin) (x : JobSolution). answered b (length (a .out .now)) x) at e,
+      found .1 ∙ ap (λ (x : JobSolution). jobOutput x (a .out .now)) e,
     )
 
 pub answer-laid-spec : {M : Type 1} → statement M
 answer-laid-spec =
     tie.close
     (tie.spec
-    add-second-at
-    add-list-at
-    add-end
     (λ c κs. search needs)
-    (λ c. search needs)
-    (λ c. search needs)
-    part-first-end
-    (λ c. search needs)
-    (λ c. search needs)
-    part-second-end
-    (λ c. search needs)
-    (λ c. search needs)
-    part-list-end
+    (λ c κs. search needs)
+    (λ c κs. search needs)
+    (λ c κs. search needs)
+    (λ c κs. search needs)
+    (λ c κs. search needs)
+    (λ c κs. search needs)
     (λ c. search needs)
     answer-bodies-requires
     (λ c. search needs)
-    add-answer-claim
-    (λ c. search needs)
-    (λ c. search needs)
-    part-answer-claim-end
+    (λ c κs. search needs)
     answer-claim-requires
     (λ c. search needs)
     returns

@@ -7,16 +7,16 @@ use Rattle.trees.proofs.FoldLaws.{fold-part}
 use Rattle.leaves.proofs.has_label.Statement.{statement}
 use Rattle.leaves.proofs.has_label.Tie as tie
 
-mul-child : tie.Need-mul-child
-mul-child c = search needs
+element-copy-out-wide : tie.Need-element-copy-out-wide
+element-copy-out-wide c = search needs
 
-element-copy-out-child : tie.Need-element-copy-out-child
-element-copy-out-child c = search needs
+wide-requires : tie.Need-wide-requires
+wide-requires c κs = search needs
 
 returns : tie.Need-returns
 unfolding labelled
 returns c =
-    simp (ne-eqb _ _ (c .if1 .taken))
+    rw (← c .before .wide .ensures) (simp (ne-eqb _ _ (c .if1 .taken)))
 
 leaf-label-requires : tie.Need-leaf-label-requires
 leaf-label-requires c κs = search needs
@@ -27,15 +27,22 @@ same-label-requires c κs = search needs
 returns-2 : tie.Need-returns-2
 unfolding labelled
 returns-2 c =
-    let a = c .before .before .before .before .before .before .before .before .args in
-    rw (c .same-label .ensures, c .before .leaf-label .ensures, fold-part (a .edition) (getD (a .start .now) (a .u) 0) (getD (a .size .now) (a .u) 0) (a .text .now)) (simp (eq-eqb _ _ (c .before .before .before .before .if1 .left)))
+    let l = c .before .before .before .before in
+    let a = l .before .before .before .before .before .args in
+    rw (
+      ← l .before .wide .ensures,
+      c .same-label .ensures,
+      c .before .leaf-label .ensures,
+      fold-part (a .edition) (getD (a .start .now) (a .u) 0) (getD (a .size .now) (a .u) 0) (a .text .now),
+    )
+    (simp (eq-eqb _ _ (l .if1 .left)))
 
 pub has-label-spec : {M : Type 1} → statement M
 has-label-spec =
     tie.close
     (tie.spec
-    mul-child
-    element-copy-out-child
+    element-copy-out-wide
+    wide-requires
     returns
     leaf-label-requires
     same-label-requires

@@ -10,7 +10,7 @@ use Rattle.lists.proofs.at_end.Tie as tie
 keep-requires : tie.Need-keep-requires
 keep-requires c κs =
     let s = c .before .before .before .before in
-    (rw (s .stage .given .1) at (s .before .before .before .pre .0), s .before .before .before .pre .1)
+    ((rw (s .stage .given .1) at (s .before .before .before .pre .0)) .0, s .before .before .before .pre .1)
 
 returns : tie.Need-returns
 returns c =
@@ -21,7 +21,7 @@ returns c =
 add-t19 : tie.Need-add-t19
 add-t19 c =
     let s = c .before .before .before .before .before .before in
-    omega (arith, rw (s .stage .given .1) at (s .before .before .before .pre .0))
+    omega (arith, (rw (s .stage .given .1) at (s .before .before .before .pre .0)) .0)
 
 returns-2 : tie.Need-returns-2
 unfolding endAt

@@ -13,7 +13,7 @@ use Rattle.trees.proofs.SlotLaws.{marked-start}
 use Rattle.lists.specs.ReadList.{listLimit}
 use Rattle.lists.specs.ListMachine.{endAt}
 use Rattle.lists.proofs.EditionLists.{list-answer-in}
-use Rattle.lists.proofs.ReaderLoop.{Running, running-start, running-next, running-stop, running-end}
+use Rattle.lists.proofs.ReaderLoop.{Running, running-start, running-next, running-stop, room-end, running-end}
 use Rattle.lists.proofs.read_list.Statement.{statement}
 use Rattle.lists.proofs.read_list.Tie as tie
 
@@ -62,8 +62,11 @@ loop-again c =
 
 at-end-requires : tie.Need-at-end-requires Inv-loop μ-loop
 at-end-requires c κs =
-    let v = c .before .before .before .before .loop .inv in
-    (v .0 .room, v .1)
+    let l = c .before .before .before .before in
+    let v = l .loop .inv in
+    let g = l .before .before .before .before .args in
+    let same = fold-size (g .edition) (g .text .now) in
+    (rw (← same) (room-end _ _ _ _ _ _ (v .0) (rw same (c .before .before .before .loop-test .left))), v .1)
 
 returns-2 : tie.Need-returns-2 Inv-loop μ-loop
 returns-2 c =

@@ -8,13 +8,12 @@ use Rattle.lists.proofs.step.Tie as tie
 bare-requires : tie.Need-bare-requires
 bare-requires c κs =
     let s = c .before .before .before .before in
-    (rw (s .stage2 .given .1) at (s .before .before .before .pre .0), s .before .before .before .pre .1)
+    ((rw (s .stage2 .given .1) at (s .before .before .before .pre .0)) .0, s .before .before .before .pre .1)
 
 quoted-requires : tie.Need-quoted-requires
 quoted-requires c κs =
     let s = c .before .before .before .before in
-    let h = rw (s .stage3 .given .1) at (s .before .before .before .pre .0) in
-    (h .0, (h .1, s .before .before .before .pre .1))
+    ((rw (s .stage3 .given .1) at (s .before .before .before .pre .0)) .0, s .before .before .before .pre .1)
 
 returns : tie.Need-returns
 unfolding stepOf

@@ -56,4 +56,4 @@ pub on-due-spec : {M : Type 1} → statement M
 on-due-spec =
     tie.close
     (tie.spec (λ c. search needs) (λ c. search needs) (λ c. search needs) (λ c. search needs) (λ c. search needs) (λ c. search needs)
-    (λ c. search needs) returns returns-2 returns-3 returns-4 returns-5)
+    returns returns-2 returns-3 returns-4 returns-5)

@@ -14,7 +14,7 @@ returns c =
 on-after-requires : tie.Need-on-after-requires
 on-after-requires c κs =
     let p = c .before .before .before .before .before .before .before .before .before .before .before .before .before .pre in
-    leaf-ready _ _ _ _ _ _ _ (c .before .before .before .before .before .before .on-leaf .ensures .0 []) (c .before .before .before .before .moved .given .1) (p .0) (p .1 .0)
+    leaf-ready _ _ _ _ _ _ _ (c .before .before .before .before .before .before .on-leaf .ensures .0 []) (c .before .before .before .before .moved .given .1) (p .0) (p .1 .0 .one-more)
 
 returns-2 : tie.Need-returns-2
 returns-2 c =

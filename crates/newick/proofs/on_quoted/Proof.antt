@@ -53,7 +53,7 @@ returns-5 c = (λ k. rest _ _ _ _ _ _ _ (c .match .keys4), c .before .before .pr
 on-leaf-requires : tie.Need-on-leaf-requires
 on-leaf-requires c κs =
     let p = c .before .before .before .before .before .before .before .before .before .pre in
-    (p .0, (p .1 .0 .0, p .1 .1))
+    (p .0, (p .1 .0, p .1 .1))
 
 pub on-quoted-spec : {M : Type 1} → statement M
 on-quoted-spec =

@@ -37,7 +37,7 @@ on-quoted-requires : tie.Need-on-quoted-requires
 on-quoted-requires c κs =
     let p = c .before .before .before .before .before .before .before .before .before .before .before .pre .1 in
     let h = ready-as _ (c .before .before .before .before .before .before .mode2 .given .1) (p .0) in
-    (h .0, ((h .1, h .2), p .1))
+    (h .0, (h .1, p .1))
 
 enum-known-mode-3 : tie.Need-enum-known-mode-3
 enum-known-mode-3 c = search needs

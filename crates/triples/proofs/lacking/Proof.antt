@@ -1,13 +1,21 @@
 -- The invariant: the search from here on finds what the whole search finds. Assumes nothing.
-use Prim.Native.Nat.{_≤_, _-_}
-use mathlib.Core.Path.{_≡_, refl, sym, _∙_}
+use Prim.Native.Nat.{ℕ, _≤_, _-_}
+use mathlib.Core.Path.{_≡_, refl, ap, sym, _∙_}
 use native.Mathlib.Omega.{arith}
 use borrow.Author.Needs.{needs}
 use native.Mathlib.Nat.{sub-zero}
+use Rattle.trees.specs.declared.Reason.{Reason}
+use Rattle.trees.specs.declared.Reason.the-variants.{FirstLacks, SecondLacks}
+use Rattle.trees.specs.declared.Body.the-variants.{K}
+use Rattle.triples.specs.declared.Agreement.{Agreement}
+use Rattle.triples.specs.declared.Agreement.the-variants.{Refused}
 use Rattle.triples.specs.Loops.{lackFrom}
 use Rattle.triples.proofs.LoopLaws.{lack-one, lack-two, lack-next, lack-end}
 use Rattle.triples.proofs.lacking.Statement.{statement}
 use Rattle.triples.proofs.lacking.Tie as tie
+
+abbrev lackedAt : Reason → ℕ → Agreement
+lackedAt reason place = Refused (record { reason = reason; body = K; place = place })
 
 abbrev Inv-loop : tie.InvT-loop
 Inv-loop leaf1 nodes1 leaf2 nodes2 start count k₀ k =
@@ -21,66 +29,19 @@ loop-holds : tie.Need-loop-holds Inv-loop μ-loop
 loop-holds c =
     (omega arith, rw sub-zero refl)
 
-mul-if1 : tie.Need-mul-if1 Inv-loop μ-loop
-mul-if1 c =
-    omega arith
-
-element-copy-out-if1 : tie.Need-element-copy-out-if1 Inv-loop μ-loop
-element-copy-out-if1 c =
-    omega arith
-
-mul-lacks : tie.Need-mul-lacks Inv-loop μ-loop
-mul-lacks c =
-    omega arith
-
-element-copy-out-lacks : tie.Need-element-copy-out-lacks Inv-loop μ-loop
-element-copy-out-lacks c =
-    omega arith
-
-lacks-requires : tie.Need-lacks-requires Inv-loop μ-loop
-lacks-requires c κs =
-    search needs
-
 returns : tie.Need-returns Inv-loop μ-loop
 returns c =
-    let c4 = c .before .before .before .before in
-    let c5 = c4 .before in
-    c .lacks .ensures ∙ sym (lack-one _ _ _ _ _ _ _ (c4 .loop-test .taken) (c .before .before .if1 .taken)) ∙ c5 .loop .inv .1
-
-mul-if2 : tie.Need-mul-if2 Inv-loop μ-loop
-mul-if2 c =
-    omega arith
-
-element-copy-out-if2 : tie.Need-element-copy-out-if2 Inv-loop μ-loop
-element-copy-out-if2 c =
-    omega arith
-
-mul-lacks-2 : tie.Need-mul-lacks-2 Inv-loop μ-loop
-mul-lacks-2 c =
-    omega arith
-
-element-copy-out-lacks-2 : tie.Need-element-copy-out-lacks-2 Inv-loop μ-loop
-element-copy-out-lacks-2 c =
-    omega arith
-
-lacks-requires-2 : tie.Need-lacks-requires-2 Inv-loop μ-loop
-lacks-requires-2 c κs =
-    search needs
+    let p = c .before .before .before in
+    let l = p .before .before in
+    c .lacks .ensures ∙ ap (lackedAt FirstLacks) (c .before .place-entry .ensures)
+    ∙ sym (lack-one _ _ _ _ _ _ _ (l .loop-test .taken) (p .if1 .taken)) ∙ l .before .loop .inv .1
 
 returns-2 : tie.Need-returns-2 Inv-loop μ-loop
 returns-2 c =
-    let c6 = c .before .before .before .before .before .before in
-    let c7 = c6 .before in
-    c .lacks2 .ensures ∙ sym (lack-two _ _ _ _ _ _ _ (c6 .loop-test .taken) (omega arith) (c .before .before .if2 .taken))
-    ∙ c7 .loop .inv .1
-
-add-k : tie.Need-add-k Inv-loop μ-loop
-add-k c =
-    omega arith
-
-loop-less : tie.Need-loop-less Inv-loop μ-loop
-loop-less c =
-    omega arith
+    let p = c .before .before .before in
+    let l = p .before .before .before .before in
+    c .lacks2 .ensures ∙ ap (lackedAt SecondLacks) (c .before .place-entry2 .ensures)
+    ∙ sym (lack-two _ _ _ _ _ _ _ (l .loop-test .taken) (omega arith) (p .if2 .taken)) ∙ l .before .loop .inv .1
 
 loop-again : tie.Need-loop-again Inv-loop μ-loop
 loop-again c =
@@ -95,23 +56,6 @@ returns-3 c =
 pub lacking-spec : {M : Type 1} → statement M
 lacking-spec =
     tie.close
-    (tie.spec
-    Inv-loop
-    μ-loop
-    loop-holds
-    mul-if1
-    element-copy-out-if1
-    mul-lacks
-    element-copy-out-lacks
-    lacks-requires
-    returns
-    mul-if2
-    element-copy-out-if2
-    mul-lacks-2
-    element-copy-out-lacks-2
-    lacks-requires-2
-    returns-2
-    add-k
-    loop-less
-    loop-again
-    returns-3)
+    (tie.spec Inv-loop μ-loop loop-holds (λ c. omega arith) (λ c. omega arith) (λ c κs. search needs) (λ c κs. search needs) returns
+    (λ c. omega arith) (λ c. omega arith) (λ c κs. search needs) (λ c κs. search needs) returns-2 (λ c. omega arith) (λ c. omega arith)
+    loop-again returns-3)

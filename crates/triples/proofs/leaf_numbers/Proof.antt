@@ -26,60 +26,19 @@ loop-holds : tie.Need-loop-holds Inv-loop μ-loop
 loop-holds c =
     (omega arith, simp length-replicate, λ v h. absurd (omega arith))
 
-mul-from : tie.Need-mul-from Inv-loop μ-loop
-mul-from c =
-    omega arith
-
-array-read-from : tie.Need-array-read-from Inv-loop μ-loop
-array-read-from c =
-    omega arith
-
-mul-bytes : tie.Need-mul-bytes Inv-loop μ-loop
-mul-bytes c =
-    omega arith
-
-array-read-bytes : tie.Need-array-read-bytes Inv-loop μ-loop
-array-read-bytes c =
-    omega arith
-
-part-requires : tie.Need-part-requires Inv-loop μ-loop
-part-requires c κs =
-    search needs
-
-find-leaf-requires : tie.Need-find-leaf-requires Inv-loop μ-loop
-find-leaf-requires c κs =
-    search needs
-
-mul-leaf : tie.Need-mul-leaf Inv-loop μ-loop
-mul-leaf c =
-    omega arith
-
-array-write-leaf : tie.Need-array-write-leaf Inv-loop μ-loop
-array-write-leaf c =
-    omega arith
-
-add-k : tie.Need-add-k Inv-loop μ-loop
-add-k c =
-    omega arith
-
-loop-less : tie.Need-loop-less Inv-loop μ-loop
-loop-less c =
-    omega arith
-
 loop-again : tie.Need-loop-again Inv-loop μ-loop
 unfolding labelIn
 loop-again c =
     let c4 = c .before .before .before .before in
-    let c6 = c4 .before .before in
-    let c14 = c6 .before .before .before .before .before .before .before .before in
-    let l = c6 .loop .inv .1 in
-    let a = c14 .args in (
+    let c8 = c4 .before .before .before .before in
+    let l = c8 .loop .inv .1 in
+    let a = c8 .before .before .before .before .before .before .before .before .args in (
       omega arith,
       simp length-set l,
       store-next (λ i x. x ≡ foundLeaf (inEdition (a .edition) (a .text .now)) (a .tree .left) (a .tree .start) (a .tree .size)
-          (labelIn (inEdition (a .edition) (a .list .now)) (a .places .start) (a .places .size) i) (a .tree .nodes)) (c6 .loop .leaf) (c6 .loop .k) _ (omega
-          (arith, l)) (c6 .loop .inv .2) (c .find-leaf .ensures ∙ ap (λ (p : Token). foundLeaf (inEdition (a .edition) (a .text .now)) (a .tree .left)
-          (a .tree .start) (a .tree .size) (spelling p) (a .tree .nodes)) (ap (inEdition (a .edition)) (c4 .part .ensures) ∙ sym (fold-part (a .edition) _ _ (a .list .now)))),
+          (labelIn (inEdition (a .edition) (a .list .now)) (a .places .start) (a .places .size) i) (a .tree .nodes)) (c8 .loop .leaf) (c8 .loop .k) _ (omega
+          (arith, l)) (c8 .loop .inv .2) (c .find-leaf .ensures ∙ ap (λ (p : Token). foundLeaf (inEdition (a .edition) (a .text .now)) (a .tree .left)
+          (a .tree .start) (a .tree .size) (spelling p) (a .tree .nodes)) (ap (inEdition (a .edition)) (c4 .leaf-label .ensures) ∙ sym (fold-part (a .edition) _ _ (a .list .now)))),
     )
 
 returns : tie.Need-returns Inv-loop μ-loop
@@ -89,19 +48,5 @@ returns c =
 pub leaf-numbers-spec : {M : Type 1} → statement M
 leaf-numbers-spec =
     tie.close
-    (tie.spec
-    Inv-loop
-    μ-loop
-    loop-holds
-    mul-from
-    array-read-from
-    mul-bytes
-    array-read-bytes
-    part-requires
-    find-leaf-requires
-    mul-leaf
-    array-write-leaf
-    add-k
-    loop-less
-    loop-again
-    returns)
+    (tie.spec Inv-loop μ-loop loop-holds (λ c. search needs) (λ c. search needs) (λ c κs. search needs) (λ c κs. search needs)
+    (λ c. omega arith) (λ c. omega arith) (λ c. omega arith) (λ c. omega arith) loop-again returns)

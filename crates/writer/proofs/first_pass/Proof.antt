@@ -27,10 +27,6 @@ first-at-requires : tie.Need-first-at-requires Inv-loop μ-loop
 first-at-requires c κs =
     search needs
 
-mul-first : tie.Need-mul-first Inv-loop μ-loop
-mul-first c =
-    omega arith
-
 slice-write-first : tie.Need-slice-write-first Inv-loop μ-loop
 slice-write-first c =
     omega arith
@@ -70,7 +66,6 @@ first-pass-spec =
     μ-loop
     loop-holds
     first-at-requires
-    mul-first
     slice-write-first
     add-u
     loop-less

@@ -10,22 +10,22 @@ use Rattle.writer.proofs.good_node.Tie as tie
 abbrev arrays : tie.Start → TreeArrays
 arrays s = arraysFrom (s .args .nodes) (s .args .left .now) (s .args .right .now) (s .args .start .now) (s .args .size .now)
 
-entry-requires : tie.Need-entry-requires
-entry-requires c κs = search needs
+byte-entry-requires : tie.Need-byte-entry-requires
+byte-entry-requires c κs = search needs
 
-entry-requires-2 : tie.Need-entry-requires-2
-entry-requires-2 c κs = search needs
+byte-entry-requires-2 : tie.Need-byte-entry-requires-2
+byte-entry-requires-2 c κs = search needs
 
-entry-requires-3 : tie.Need-entry-requires-3
-entry-requires-3 c κs = search needs
+place-entry-requires : tie.Need-place-entry-requires
+place-entry-requires c κs = search needs
 
 returns : tie.Need-returns
 returns c =
-    let p = c .before .entry3 in
-    let n = c .before .before .entry2 in
+    let p = c .before .place-entry in
+    let n = c .before .before .byte-entry2 in
     let l = c .before .before .before .before in
     let s = l .before .before .before .before .before .before in
-    past-end (arrays s) (s .args .text .now) (s .args .u) (l .entry .result) (l .entry .ensures) (p .result) (n .result) (p .ensures)
+    past-end (arrays s) (s .args .text .now) (s .args .u) (l .byte-entry .result) (l .byte-entry .ensures) (p .result) (n .result) (p .ensures)
     (n .ensures) (c .before .before .before .if1 .taken) (omega (arith, c .if2 .taken))
 
 sub-if3 : tie.Need-sub-if3
@@ -33,11 +33,11 @@ sub-if3 c = search needs
 
 returns-2 : tie.Need-returns-2
 returns-2 c =
-    let p = c .before .before .entry3 in
-    let n = c .before .before .before .entry2 in
+    let p = c .before .before .place-entry in
+    let n = c .before .before .before .byte-entry2 in
     let l = c .before .before .before .before .before in
     let s = l .before .before .before .before .before .before in
-    past-end (arrays s) (s .args .text .now) (s .args .u) (l .entry .result) (l .entry .ensures) (p .result) (n .result) (p .ensures)
+    past-end (arrays s) (s .args .text .now) (s .args .u) (l .byte-entry .result) (l .byte-entry .ensures) (p .result) (n .result) (p .ensures)
     (n .ensures) (c .before .before .before .before .if1 .taken) (omega (arith, c .if3 .taken, c .before .if2 .left))
 
 part-requires : tie.Need-part-requires
@@ -49,45 +49,45 @@ spelled-size-requires c κs = search needs
 returns-3 : tie.Need-returns-3
 returns-3 c =
     let t = c .before .before in
-    let p = t .before .before .entry3 in
-    let n = t .before .before .before .entry2 in
+    let p = t .before .before .place-entry in
+    let n = t .before .before .before .byte-entry2 in
     let l = t .before .before .before .before .before in
     let s = l .before .before .before .before .before .before in
-    label-test (arrays s) (s .args .text .now) (s .args .u) (l .entry .result) (l .entry .ensures) (p .result) (n .result) (p .ensures)
+    label-test (arrays s) (s .args .text .now) (s .args .u) (l .byte-entry .result) (l .byte-entry .ensures) (p .result) (n .result) (p .ensures)
     (n .ensures) (t .before .before .before .before .if1 .taken) (omega (arith, t .if3 .left, t .before .if2 .left)) _
     (c .before .part .ensures) (c .spelled-size .result) (c .spelled-size .ensures)
 
-entry-requires-4 : tie.Need-entry-requires-4
-entry-requires-4 c κs = search needs
+byte-entry-requires-3 : tie.Need-byte-entry-requires-3
+byte-entry-requires-3 c κs = search needs
 
 returns-4 : tie.Need-returns-4
 returns-4 c =
     let l = c .before .before .before in
     let s = l .before .before .before .before .before .before in
-    let r = c .before .entry4 in
-    children-test (arrays s) (s .args .text .now) (s .args .u) (l .entry .result) (l .entry .ensures) (r .result) (r .ensures)
+    let r = c .before .byte-entry3 in
+    children-test (arrays s) (s .args .text .now) (s .args .u) (l .byte-entry .result) (l .byte-entry .ensures) (r .result) (r .ensures)
     (c .before .before .if1 .left) (c .if4 .taken)
 
 returns-5 : tie.Need-returns-5
 returns-5 c =
     let l = c .before .before .before in
     let s = l .before .before .before .before .before .before in
-    children-late (arrays s) (s .args .text .now) (s .args .u) (l .entry .result) (l .entry .ensures) (c .before .before .if1 .left)
+    children-late (arrays s) (s .args .text .now) (s .args .u) (l .byte-entry .result) (l .byte-entry .ensures) (c .before .before .if1 .left)
     (c .if4 .left)
 
 pub good-node-spec : {M : Type 1} → statement M
 good-node-spec =
     tie.close
     (tie.spec
-    entry-requires
-    entry-requires-2
-    entry-requires-3
+    byte-entry-requires
+    byte-entry-requires-2
+    place-entry-requires
     returns
     sub-if3
     returns-2
     part-requires
     spelled-size-requires
     returns-3
-    entry-requires-4
+    byte-entry-requires-3
     returns-4
     returns-5)

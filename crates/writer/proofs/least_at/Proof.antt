@@ -1,55 +1,75 @@
 -- `writer::least_at` meets its contract. Assumes nothing.
-use mathlib.Core.Path.{sym, _∙_}
+use Prim.Native.Nat.{ℕ}
+use mathlib.Core.Path.{_≡_, sym, _∙_, ap}
+use lib.ListN.{getD}
 use Rattle.trees.specs.Edition.{inEdition}
 use Rattle.writer.proofs.StepLaws.{least-leaf, least-node}
 use borrow.Author.Needs.{needs}
 use Rattle.writer.proofs.least_at.Statement.{statement}
 use Rattle.writer.proofs.least_at.Tie as tie
 
-entry-requires : tie.Need-entry-requires
-entry-requires c κs = search needs
+byte-at-requires : tie.Need-byte-at-requires
+byte-at-requires c κs = search needs
+
+wide-requires : tie.Need-wide-requires
+wide-requires c κs = search needs
 
 returns : tie.Need-returns
 returns c =
-    let a = c .before .before .before .before .before .before .before .before .args in
-    least-leaf (inEdition (a .edition) (a .text .now)) (a .left .now) (a .right .now) (a .start .now) (a .size .now) (a .least .now) (a .u)
-    (sym (c .before .entry .ensures) ∙ c .if1 .taken)
+    let l = c .before .before in
+    let a = l .before .before .before .before .before .before .before .args in
+    let e = sym (c .before .wide .ensures) ∙ c .if1 .taken in
+    e ∙ least-leaf (inEdition (a .edition) (a .text .now)) (a .left .now) (a .right .now) (a .start .now) (a .size .now) (a .least .now) (a .u)
+    (sym (l .byte-at .ensures) ∙ e)
 
-entry-requires-2 : tie.Need-entry-requires-2
-entry-requires-2 c κs = search needs
+byte-at-requires-2 : tie.Need-byte-at-requires-2
+byte-at-requires-2 c κs = search needs
 
 goes-first-requires : tie.Need-goes-first-requires
 goes-first-requires c κs = search needs
 
-entry-requires-3 : tie.Need-entry-requires-3
-entry-requires-3 c κs = search needs
+wide-requires-2 : tie.Need-wide-requires-2
+wide-requires-2 c κs = search needs
 
-entry-requires-4 : tie.Need-entry-requires-4
-entry-requires-4 c κs = search needs
+byte-at-requires-3 : tie.Need-byte-at-requires-3
+byte-at-requires-3 c κs = search needs
+
+wide-requires-3 : tie.Need-wide-requires-3
+wide-requires-3 c κs = search needs
+
+byte-at-requires-4 : tie.Need-byte-at-requires-4
+byte-at-requires-4 c κs = search needs
 
 pick-requires : tie.Need-pick-requires
 pick-requires c κs = search needs
 
 returns-2 : tie.Need-returns-2
 returns-2 c =
-    let a = c .before .before .before .before .before .before .before .before .before .before .before .before .before .args in
-    let l = c .before .before .before .before .before .before .entry in
-    let r = c .before .before .before .before .entry2 in
-    let f = c .before .before .before .goes-first in
-    least-node (inEdition (a .edition) (a .text .now)) (a .left .now) (a .right .now) (a .start .now) (a .size .now) (a .least .now) (a .u) (l .result) (r .result)
-    (l .ensures) (r .ensures) (c .before .before .before .before .before .if1 .left) (f .result) (f .ensures)
-    (c .before .before .entry3 .result) (c .before .entry4 .result)
-    (c .before .before .entry3 .ensures) (c .before .entry4 .ensures) (c .pick .result) (c .pick .ensures)
+    let y = c .before in
+    let x = y .before .before in
+    let f = x .before .before in
+    let r = f .before in
+    let w = r .before .before in
+    let l = w .before in
+    let a = l .before .before .before .before .before .before .before .args in
+    least-node (inEdition (a .edition) (a .text .now)) (a .left .now) (a .right .now) (a .start .now) (a .size .now) (a .least .now) (a .u)
+    (l .byte-at .result) (r .byte-at2 .result) (l .byte-at .ensures) (r .byte-at2 .ensures)
+    (λ (e : l .byte-at .result ≡ a .u). r .before .if1 .left (w .wide .ensures ∙ e)) (f .goes-first .result) (f .goes-first .ensures)
+    (x .byte-at3 .result) (y .byte-at4 .result) (x .byte-at3 .ensures ∙ ap (λ (k : ℕ). getD (a .least .now) k 0) (x .before .wide2 .ensures))
+    (y .byte-at4 .ensures ∙ ap (λ (k : ℕ). getD (a .least .now) k 0) (y .before .wide3 .ensures)) (c .pick .result) (c .pick .ensures)
 
 pub least-at-spec : {M : Type 1} → statement M
 least-at-spec =
     tie.close
     (tie.spec
-    entry-requires
+    byte-at-requires
+    wide-requires
     returns
-    entry-requires-2
+    byte-at-requires-2
     goes-first-requires
-    entry-requires-3
-    entry-requires-4
+    wide-requires-2
+    byte-at-requires-3
+    wide-requires-3
+    byte-at-requires-4
     pick-requires
     returns-2)

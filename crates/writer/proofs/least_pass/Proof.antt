@@ -27,10 +27,6 @@ least-at-requires : tie.Need-least-at-requires Inv-loop μ-loop
 least-at-requires c κs =
     search needs
 
-mul-least : tie.Need-mul-least Inv-loop μ-loop
-mul-least c =
-    omega arith
-
 slice-write-least : tie.Need-slice-write-least Inv-loop μ-loop
 slice-write-least c =
     omega arith
@@ -72,7 +68,6 @@ least-pass-spec =
     μ-loop
     loop-holds
     least-at-requires
-    mul-least
     slice-write-least
     add-u
     loop-less

@@ -1,19 +1,25 @@
 -- `writer::mark` meets its contract, by the test. Assumes nothing.
-use mathlib.Core.Path.{refl}
+use mathlib.Core.Path.{_≡_, refl, sym, _∙_}
+use borrow.Author.Needs.{needs}
 use borrow.Author.Tests.{eq-eqb, ne-eqb}
 use Rattle.writer.specs.Passes.{markOf}
 use Rattle.writer.proofs.mark.Statement.{statement}
 use Rattle.writer.proofs.mark.Tie as tie
 
+wide-requires : tie.Need-wide-requires
+wide-requires c κs = search needs
+
 returns : tie.Need-returns
 unfolding markOf
 returns c =
-    rw (eq-eqb _ _ (c .if1 .taken)) refl
+    let k = c .before .before .args .k in
+    rw (eq-eqb k 159 (c .if1 .taken ∙ c .before .wide .ensures)) refl
 
 returns-2 : tie.Need-returns-2
 unfolding markOf
 returns-2 c =
-    rw (ne-eqb _ _ (c .if1 .left)) refl
+    let k = c .before .before .args .k in
+    rw (ne-eqb k 159 (λ (e : k ≡ 159). c .if1 .left (e ∙ sym (c .before .wide .ensures)))) refl
 
 pub mark-spec : {M : Type 1} → statement M
-mark-spec = tie.close (tie.spec returns returns-2)
+mark-spec = tie.close (tie.spec wide-requires returns returns-2)

@@ -1,5 +1,5 @@
 -- `writer::push` meets its contract: a mark or a leaf leaves the stack as it is, an inner node puts four things on it. Assumes nothing.
-use mathlib.Core.Path.{sym, _∙_}
+use mathlib.Core.Path.{_≡_, sym, _∙_}
 use native.Mathlib.Omega.{arith}
 use lib.ListN.{length-set}
 use Rattle.writer.proofs.StackLaws.{stays-mark, stays-leaf, grows}
@@ -12,36 +12,33 @@ returns c =
     let a = c .before .before .before .before .before .args in
     stays-mark (a .left .now) (a .right .now) (a .first .now) (a .k) (a .stack .now) (a .depth) (c .if1 .taken)
 
-entry-requires : tie.Need-entry-requires
-entry-requires c κs = search needs
+byte-at-requires : tie.Need-byte-at-requires
+byte-at-requires c κs = search needs
+
+wide-requires : tie.Need-wide-requires
+wide-requires c κs = search needs
 
 returns-2 : tie.Need-returns-2
 returns-2 c =
-    let c7 = c .before .before .before .before .before .before .before in
-    let a = c7 .args in
+    let f = c .before .before in
+    let a = f .before .before .before .before .before .before .args in
     stays-leaf (a .left .now) (a .right .now) (a .first .now) (a .k) (a .stack .now) (a .depth) (omega arith)
-    (sym (c .before .entry .ensures) ∙ c .if2 .taken)
+    (sym (f .byte-at .ensures) ∙ sym (c .before .wide .ensures) ∙ c .if2 .taken)
 
-entry-requires-2 : tie.Need-entry-requires-2
-entry-requires-2 c κs = search needs
+byte-at-requires-2 : tie.Need-byte-at-requires-2
+byte-at-requires-2 c κs = search needs
 
-entry-requires-3 : tie.Need-entry-requires-3
-entry-requires-3 c κs = search needs
+byte-at-requires-3 : tie.Need-byte-at-requires-3
+byte-at-requires-3 c κs = search needs
 
 pick-requires : tie.Need-pick-requires
 pick-requires c κs = search needs
-
-mul-stack : tie.Need-mul-stack
-mul-stack c = search needs
 
 slice-write-stack : tie.Need-slice-write-stack
 slice-write-stack c = search needs
 
 add-stack : tie.Need-add-stack
 add-stack c = search needs
-
-mul-stack-2 : tie.Need-mul-stack-2
-mul-stack-2 c = search needs
 
 slice-write-stack-2 : tie.Need-slice-write-stack-2
 slice-write-stack-2 c =
@@ -50,18 +47,12 @@ slice-write-stack-2 c =
 add-stack-2 : tie.Need-add-stack-2
 add-stack-2 c = search needs
 
-mul-stack-3 : tie.Need-mul-stack-3
-mul-stack-3 c = search needs
-
 slice-write-stack-3 : tie.Need-slice-write-stack-3
 slice-write-stack-3 c =
     simp length-set (omega arith)
 
 add-stack-3 : tie.Need-add-stack-3
 add-stack-3 c = search needs
-
-mul-stack-4 : tie.Need-mul-stack-4
-mul-stack-4 c = search needs
 
 slice-write-stack-4 : tie.Need-slice-write-stack-4
 slice-write-stack-4 c =
@@ -75,33 +66,32 @@ same-length c = search needs
 
 returns-3 : tie.Need-returns-3
 returns-3 c =
-    let c3 = c .before .before .before in
-    let c4 = c3 .before in
-    let c10 = c4 .before .before .before .before .before .before in
-    let a = c10 .args in
-    grows (a .left .now) (a .right .now) (a .first .now) (a .k) (a .stack .now) (a .depth) (c4 .entry .result) (c .before .before .entry2 .result)
-    (c .before .entry3 .result) (c .pick .result) (c4 .entry .ensures) (c .before .before .entry2 .ensures) (c .before .entry3 .ensures) (c .pick .ensures) (omega arith) (c3 .if2 .left)
+    let r = c .before in
+    let l = r .before in
+    let w = l .before .before in
+    let f = w .before in
+    let a = f .before .before .before .before .before .before .args in
+    grows (a .left .now) (a .right .now) (a .first .now) (a .k) (a .stack .now) (a .depth) (f .byte-at .result) (l .byte-at2 .result)
+    (r .byte-at3 .result) (c .pick .result) (f .byte-at .ensures) (l .byte-at2 .ensures) (r .byte-at3 .ensures) (c .pick .ensures) (omega arith)
+    (λ (e : f .byte-at .result ≡ a .k). l .before .if2 .left (w .wide .ensures ∙ e))
 
 pub push-spec : {M : Type 1} → statement M
 push-spec =
     tie.close
     (tie.spec
     returns
-    entry-requires
+    byte-at-requires
+    wide-requires
     returns-2
-    entry-requires-2
-    entry-requires-3
+    byte-at-requires-2
+    byte-at-requires-3
     pick-requires
-    mul-stack
     slice-write-stack
     add-stack
-    mul-stack-2
     slice-write-stack-2
     add-stack-2
-    mul-stack-3
     slice-write-stack-3
     add-stack-3
-    mul-stack-4
     slice-write-stack-4
     add-result
     same-length

@@ -41,8 +41,8 @@ returns c =
       ap (λ (b : ℕ). sets (a .out .now) (a .at) (b ∷ [])) (c .mark .ensures) ∙ ap (sets (a .out .now) (a .at)) (sym e),
     )
 
-entry-requires : tie.Need-entry-requires
-entry-requires c κs = search needs
+byte-entry-requires : tie.Need-byte-entry-requires
+byte-entry-requires c κs = search needs
 
 stored-leaf-requires : tie.Need-stored-leaf-requires
 stored-leaf-requires c κs = search needs
@@ -66,7 +66,7 @@ leaf-own c =
     token-bytes (a .text .now) (a .start .now) (a .size .now) (a .k) (k .before .stored-leaf .result) (k .before .stored-leaf .ensures)
     (k .shown .result) (k .shown .ensures) _ (c .first-bytes .ensures)
     ∙ sym (own-label (a .text .now) (a .start .now) (a .size .now) (a .first .now) (a .k) (omega (arith, i .before .before .if1 .left))
-    (sym (i .before .entry .ensures) ∙ i .if2 .taken))
+    (sym (i .before .byte-entry .ensures) ∙ i .if2 .taken))
 
 put-bytes-requires : tie.Need-put-bytes-requires
 put-bytes-requires c κs = omega (arith, ap length (leaf-own (c .before)))
@@ -90,7 +90,7 @@ slice-write-out-2 c =
     omega (
       arith,
       ap length (own-open (a .text .now) (a .start .now) (a .size .now) (a .first .now) (a .k) (omega arith)
-          (λ (e : getD (a .first .now) (a .k) 0 ≡ a .k). c .if2 .left (c .before .entry .ensures ∙ e))),
+          (λ (e : getD (a .first .now) (a .k) 0 ≡ a .k). c .if2 .left (c .before .byte-entry .ensures ∙ e))),
     )
 
 add-result-2 : tie.Need-add-result-2
@@ -104,7 +104,7 @@ returns-3 c =
     let c8 = c .before .before .before .before .before .before .before .before in
     let a = c8 .args in
     let e = own-open (a .text .now) (a .start .now) (a .size .now) (a .first .now) (a .k) (omega arith)
-    (λ (e : getD (a .first .now) (a .k) 0 ≡ a .k). c .if2 .left (c .before .entry .ensures ∙ e)) in
+    (λ (e : getD (a .first .now) (a .k) 0 ≡ a .k). c .if2 .left (c .before .byte-entry .ensures ∙ e)) in
     (ap (λ (x : List ℕ). a .at + length x) (sym e), ap (sets (a .out .now) (a .at)) (sym e))
 
 pub put-own-spec : {M : Type 1} → statement M
@@ -116,7 +116,7 @@ put-own-spec =
     add-result
     same-length
     returns
-    entry-requires
+    byte-entry-requires
     stored-leaf-requires
     shown-requires
     slice-aggregate-first-bytes

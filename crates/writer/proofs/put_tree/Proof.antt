@@ -2,8 +2,10 @@
 -- the number of steps that are left. The loop never reads the edition, so the invariant is for each that orders the children so. Assumes
 -- nothing.
 use Prim.Native.Nat.{ℕ, _-_}
-use mathlib.Core.Path.{_≡_, sym, subst}
+use mathlib.Core.Path.{_≡_, sym, _∙_, subst}
 use native.Mathlib.Omega.{arith}
+use borrow.Author.Needs.{needs}
+use Rattle.trees.proofs.EntryLaws.{fits-byte}
 use Rattle.trees.specs.declared.Edition.{Edition}
 use Rattle.trees.specs.declared.TreeArrays.{TreeArrays}
 use Rattle.writer.specs.Passes.{arraysFrom, nodeText, stackSteps, Children}
@@ -24,9 +26,13 @@ abbrev μ-loop : tie.MeasureT-loop
 abbrev arrays : tie.Start Inv-loop μ-loop → TreeArrays
 arrays b = arraysFrom (b .args .nodes) (b .args .left .now) (b .args .right .now) (b .args .start .now) (b .args .size .now)
 
-sub-stack : tie.Need-sub-stack Inv-loop μ-loop
-sub-stack c =
+sub-narrow : tie.Need-sub-narrow Inv-loop μ-loop
+sub-narrow c =
     omega arith
+
+narrow-requires : tie.Need-narrow-requires Inv-loop μ-loop
+narrow-requires c κs =
+    search needs
 
 array-write-stack : tie.Need-array-write-stack Inv-loop μ-loop
 array-write-stack c =
@@ -34,42 +40,44 @@ array-write-stack c =
 
 loop-holds : tie.Need-loop-holds Inv-loop μ-loop
 loop-holds c =
-    let b = c .before .before .before .before .before .before .before in
+    let b = c .before .before .before .before .before .before .before .before in
     let a = b .args in
-    λ e children. writing-start e (arrays b) (a .text .now) (a .nodes) (b .pre .0 .1) (a .out .now) (a .nodes - 1) (omega arith) (b .pre .1 .1 .0)
+    λ e children.
+    writing-start e (arrays b) (a .text .now) (a .nodes) (b .pre .0 .1) (a .out .now) (a .nodes - 1) (omega arith) (b .pre .1 .1 .0)
+    (c .narrow .result) (c .narrow .ensures ∙ fits-byte (a .nodes - 1) (omega arith))
 
 sub-depth : tie.Need-sub-depth Inv-loop μ-loop
 sub-depth c =
     omega arith
 
-mul-k : tie.Need-mul-k Inv-loop μ-loop
-mul-k c =
-    let b = c .before .before .before .before .before .before .before .before .before in
+array-read-wide : tie.Need-array-read-wide Inv-loop μ-loop
+array-read-wide c =
+    let b = c .before .before .before .before .before .before .before .before .before .before in
     omega (arith, depth-few (c .before .loop .inv (b .args .edition) (b .pre .1 .0)))
 
-array-read-k : tie.Need-array-read-k Inv-loop μ-loop
-array-read-k c =
-    let b = c .before .before .before .before .before .before .before .before .before in
-    omega (arith, depth-few (c .before .loop .inv (b .args .edition) (b .pre .1 .0)))
+wide-requires : tie.Need-wide-requires Inv-loop μ-loop
+wide-requires c κs =
+    search needs
 
 put-own-requires : tie.Need-put-own-requires Inv-loop μ-loop
 put-own-requires c κs =
-    let l = c .before .before .loop in
-    let b = c .before .before .before .before .before .before .before .before .before .before in
+    let k = c .before .wide in
+    let l = c .before .before .before .loop in
+    let b = c .before .before .before .before .before .before .before .before .before .before .before .before in
     let a = b .args in
     own-fits (a .edition) (arrays b) (a .text .now) (a .nodes) (b .pre .0 .1) (a .out .now) (a .first .now) (b .pre .1 .0)
-    _ _ _ _ _ (l .depth - 1) (omega arith) (l .inv (a .edition) (b .pre .1 .0)) (b .pre .1 .1 .1)
+    _ _ _ _ _ (l .depth - 1) (omega arith) (l .inv (a .edition) (b .pre .1 .0)) (k .result) (k .ensures) (b .pre .1 .1 .1)
 
 slice-aggregate-push : tie.Need-slice-aggregate-push Inv-loop μ-loop
 slice-aggregate-push c =
-    let p = c .before .before .before .before .before .before in
-    let b = p .before .before .before .before .before .before .before .before in
+    let p = c .before .before .before .before .before .before .before in
+    let b = p .before .before .before .before .before .before .before .before .before in
     sym (p .loop .inv (b .args .edition) (b .pre .1 .0) .long)
 
 push-requires : tie.Need-push-requires Inv-loop μ-loop
 push-requires c κs =
-    let p = c .before .before .before .before .before .before in
-    let b = p .before .before .before .before .before .before .before .before in
+    let p = c .before .before .before .before .before .before .before in
+    let b = p .before .before .before .before .before .before .before .before .before in
     let a = b .args in
     has-room (a .edition) (arrays b) (a .text .now) (a .nodes) (b .pre .0 .1) (a .out .now) (a .first .now) (b .pre .1 .0)
     _ _ _ _ _ (p .loop .depth - 1) (omega arith) (p .loop .inv (a .edition) (b .pre .1 .0))
@@ -77,33 +85,35 @@ push-requires c κs =
 loop-less : tie.Need-loop-less Inv-loop μ-loop
 loop-less c =
     let p = c .before .before .before .before .before in
-    let l = p .before .before .before .loop in
-    let b = p .before .before .before .before .before .before .before .before .before .before .before in
+    let k = p .before .before .wide in
+    let l = p .before .before .before .before .loop in
+    let b = p .before .before .before .before .before .before .before .before .before .before .before .before .before in
     let a = b .args in
     fewer-steps (a .edition) (arrays b) (a .text .now) (a .nodes) (b .pre .0 .1) (a .out .now) (a .first .now) (b .pre .1 .0)
-    _ _ _ _ _ (l .depth - 1) (omega arith) (l .inv (a .edition) (b .pre .1 .0))
+    _ _ _ _ _ (l .depth - 1) (omega arith) (l .inv (a .edition) (b .pre .1 .0)) (k .result) (k .ensures)
     (p .put-own .last .1 .1 .1 .1 .1 .0) _ _ (p .put-own .result) (c .before .push .ensures .1) (c .before .push .ensures .0)
 
 loop-again : tie.Need-loop-again Inv-loop μ-loop
 loop-again c =
     let p = c .before .before .before .before .before in
-    let l = p .before .before .before .loop in
-    let b = p .before .before .before .before .before .before .before .before .before .before .before in
+    let k = p .before .before .wide in
+    let l = p .before .before .before .before .loop in
+    let b = p .before .before .before .before .before .before .before .before .before .before .before .before .before in
     let a = b .args in
     λ e children.
     writing-next e (arrays b) (a .text .now) (a .nodes) (b .pre .0 .1) (a .out .now) (a .first .now) children
-    _ _ _ _ _ (l .depth - 1) (omega arith) (l .inv e children)
+    _ _ _ _ _ (l .depth - 1) (omega arith) (l .inv e children) (k .result) (k .ensures)
     (p .put-own .last .1 .1 .1 .1 .1 .0) _ _ (p .put-own .result) (c .before .push .ensures .1) (c .before .push .ensures .0)
     (p .put-own .ensures .0) (p .put-own .ensures .1) (p .put-own .kept .1 .1 .1 .1 .1 .0)
 
 same-length : tie.Need-same-length Inv-loop μ-loop
 same-length c =
-    let b = c .before .before .before .before .before .before .before .before .before in
+    let b = c .before .before .before .before .before .before .before .before .before .before in
     c .before .loop .inv (b .args .edition) (b .pre .1 .0) .kept
 
 returns : tie.Need-returns Inv-loop μ-loop
 returns c =
-    let b = c .before .before .before .before .before .before .before .before .before in
+    let b = c .before .before .before .before .before .before .before .before .before .before in
     let a = b .args in
     let l = c .before .loop in
     let z : l .depth ≡ 0 = omega arith in
@@ -118,12 +128,13 @@ put-tree-spec =
     (tie.spec
     Inv-loop
     μ-loop
-    sub-stack
+    sub-narrow
+    narrow-requires
     array-write-stack
     loop-holds
     sub-depth
-    mul-k
-    array-read-k
+    array-read-wide
+    wide-requires
     put-own-requires
     slice-aggregate-push
     push-requires

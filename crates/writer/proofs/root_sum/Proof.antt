@@ -14,19 +14,19 @@ slice-aggregate-sum-pass c = search needs
 sum-pass-requires : tie.Need-sum-pass-requires
 sum-pass-requires c κs = search needs
 
-slice-aggregate-entry : tie.Need-slice-aggregate-entry
-slice-aggregate-entry c = search needs
+slice-aggregate-place-entry : tie.Need-slice-aggregate-place-entry
+slice-aggregate-place-entry c = search needs
 
-sub-entry : tie.Need-sub-entry
-sub-entry c = search needs
+sub-place-entry : tie.Need-sub-place-entry
+sub-place-entry c = search needs
 
-entry-requires : tie.Need-entry-requires
-entry-requires c κs = search needs
+place-entry-requires : tie.Need-place-entry-requires
+place-entry-requires c κs = search needs
 
 returns : tie.Need-returns
 unfolding rootSum
 returns c =
-    c .entry .ensures
+    c .place-entry .ensures
     ∙ ap (λ (s : List ℕ). getD s (c .before .before .before .before .before .before .before .before .args .nodes - 1) 0)
     (c .before .before .before .sum-pass .ensures)
 
@@ -36,7 +36,7 @@ root-sum-spec =
     (tie.spec
     slice-aggregate-sum-pass
     sum-pass-requires
-    slice-aggregate-entry
-    sub-entry
-    entry-requires
+    slice-aggregate-place-entry
+    sub-place-entry
+    place-entry-requires
     returns)

@@ -26,10 +26,6 @@ weight-at-requires : tie.Need-weight-at-requires Inv-loop μ-loop
 weight-at-requires c κs =
     search needs
 
-mul-weight : tie.Need-mul-weight Inv-loop μ-loop
-mul-weight c =
-    omega arith
-
 slice-write-weight : tie.Need-slice-write-weight Inv-loop μ-loop
 slice-write-weight c =
     omega arith
@@ -68,7 +64,6 @@ weight-pass-spec =
     μ-loop
     loop-holds
     weight-at-requires
-    mul-weight
     slice-write-weight
     add-u
     loop-less

@@ -1,7 +1,6 @@
 -- `contents::decimal::number_at` meets its contract: no digit, too many, a leading zero, or a number. Assumes nothing.
-use Rattle.contents.proofs.RunLaws.{number-none, number-long, number-zero, number-one, number-more, number-told, first-at, run-inside}
+use Rattle.contents.proofs.RunLaws.{number-none, number-long, number-zero, number-one, number-more, run-inside}
 use native.Mathlib.Omega.{arith}
-use mathlib.Core.Path.{_∙_, sym}
 use mathlib.Core.Logic.{⊎-elim}
 use lib.ListN.{drop, length-drop}
 use borrow.Author.Needs.{needs}
@@ -14,12 +13,12 @@ digit-count-requires c κs = search needs
 returns : tie.Need-returns
 returns c =
     let a = c .before .before .before .args in
-    (number-none (drop (a .at) (a .job .now)) (c .before .digit-count .result) (c .before .digit-count .ensures) (c .if1 .taken), tt)
+    number-none (a .job .now) (a .at) _ (c .before .digit-count .ensures) (c .if1 .taken)
 
 returns-2 : tie.Need-returns-2
 returns-2 c =
     let a = c .before .before .before .before .args in
-    (number-long (drop (a .at) (a .job .now)) (c .before .before .digit-count .result) (c .before .before .digit-count .ensures) (c .if2 .taken), tt)
+    number-long (a .job .now) (a .at) _ (c .before .before .digit-count .ensures) (c .if2 .taken)
 
 shared-slice-read-if4 : tie.Need-shared-slice-read-if4
 shared-slice-read-if4 c =
@@ -32,7 +31,7 @@ returns-3 c =
     let s2 = s1 .before .before .before in
     let s3 = s2 .before .before in
     let a = s3 .args in
-    (number-zero (drop (a .at) (a .job .now)) (s2 .digit-count .result) (s2 .digit-count .ensures) (omega arith) (omega arith) (s1 .if3 .taken) (first-at (a .job .now) (a .at) ∙ c .if4 .taken), tt)
+    number-zero (a .job .now) (a .at) _ (s2 .digit-count .ensures) (omega arith) (omega arith) (s1 .if3 .taken) (c .if4 .taken)
 
 value-of-requires : tie.Need-value-of-requires
 value-of-requires c κs =
@@ -47,16 +46,10 @@ add-t9 c =
 returns-4 : tie.Need-returns-4
 returns-4 c =
     let a = c .before .before .before .before .before .before .args in
-    let text = drop (a .at) (a .job .now) in
-    let n = c .before .before .before .before .digit-count .result in
     let e = c .before .before .before .before .digit-count .ensures in
-    let v = c .value-of in (
-      number-told (a .job .now) (a .at) n (v .result)
-          (⊎-elim (λ w. number-more text n e (omega arith) (omega arith) (w .0 .taken) (λ z. w .2 .left (sym (first-at (a .job .now) (a .at)) ∙ z)))
-          (λ w. number-one text n e (w .left)) (c .before .if3 .came))
-          (v .ensures .0),
-      (v .ensures .1, omega (arith, e, run-inside text, length-drop (a .at) (a .job .now), c .before .before .before .if1 .left)),
-    )
+    let v = c .value-of in
+    ⊎-elim (λ w. number-more (a .job .now) (a .at) _ e _ (v .ensures) (omega arith) (omega arith) (w .0 .taken) (w .2 .left))
+    (λ w. number-one (a .job .now) (a .at) _ e _ (v .ensures) (w .left)) (c .before .if3 .came)
 
 pub number-at-spec : {M : Type 1} → statement M
 number-at-spec =

@@ -70,7 +70,7 @@ returns : tie.Need-returns Inv-loop μ-loop
 returns c =
     let a = c .before .before .before .args in
     let l = c .before .loop in
-    (sym (value-end (a .job .now) (a .at) (a .n) (l .v) (l .i) (omega arith)) ∙ l .inv .2, omega (arith, bound-small (l .i) (omega arith)))
+    sym (value-end (a .job .now) (a .at) (a .n) (l .v) (l .i) (omega arith)) ∙ l .inv .2
 
 pub value-of-spec : {M : Type 1} → statement M
 value-of-spec =

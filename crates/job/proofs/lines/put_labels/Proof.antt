@@ -27,33 +27,14 @@ loop-holds : tie.Need-loop-holds Inv-loop μ-loop
 loop-holds c =
     (omega arith, omega arith, first-none _ _ _ _ _)
 
-mul-label-in : tie.Need-mul-label-in Inv-loop μ-loop
-mul-label-in c =
-    omega arith
-
-element-copy-out-label-in : tie.Need-element-copy-out-label-in Inv-loop μ-loop
-element-copy-out-label-in c =
-    omega arith
-
-mul-label-in-2 : tie.Need-mul-label-in-2 Inv-loop μ-loop
-mul-label-in-2 c =
-    omega arith
-
-element-copy-out-label-in-2 : tie.Need-element-copy-out-label-in-2 Inv-loop μ-loop
-element-copy-out-label-in-2 c =
-    omega arith
-
-label-in-requires : tie.Need-label-in-requires Inv-loop μ-loop
-label-in-requires c κs =
-    search needs
-
 put-item-requires : tie.Need-put-item-requires Inv-loop μ-loop
 put-item-requires c κs =
-    let s1 = c .before .before .before .before .before in
+    let s0 = c .before in
+    let s1 = s0 .before .before .before .before .before .before in
     let s2 = s1 .before .before .before in
     omega (
       arith,
-      ap (length {A = ℕ}) (c .before .label-in .ensures),
+      ap (length {A = ℕ}) (rw (s0 .before .before .before .place-entry .ensures, s0 .before .byte-entry .ensures) at (s0 .label-in .ensures)),
       form-short (s2 .args .text .now)
           (getD (s2 .args .start .now) (s1 .loop .i) 0) (getD (s2 .args .size .now) (s1 .loop .i) 0),
       s1 .loop .inv .2 .whole,
@@ -61,27 +42,18 @@ put-item-requires c κs =
       s2 .pre,
     )
 
-add-i : tie.Need-add-i Inv-loop μ-loop
-add-i c =
-    omega arith
-
-loop-less : tie.Need-loop-less Inv-loop μ-loop
-loop-less c =
-    omega arith
-
 loop-again : tie.Need-loop-again Inv-loop μ-loop
 loop-again c =
     let s1 = c .before .before in
     let s2 = s1 .before .before in
-    let s3 = s2 .before .before .before .before in
-    let s4 = s3 .before .before .before in
-    let s = s4 in
-    let a = s .args in
+    let s3 = s2 .before .before .before .before .before .before in
+    let a = s3 .before .before .before .args in
     let l = s3 .loop in
     let i = l .i in
     let x = tokenOf (labelIn (a .text .now) (getD (a .start .now) i 0) (getD (a .size .now) i 0)) in
-    let p = put-as _ (item i x) (ap (item i) (s2 .label-in .ensures)) (s1 .put-item .ensures) in (
-      omega arith,
+    let shown = rw (s2 .before .before .before .place-entry .ensures, s2 .before .byte-entry .ensures) at (s2 .label-in .ensures) in
+    let p = put-as _ (item i x) (ap (item i) shown) (s1 .put-item .ensures) in (
+      omega (arith, s2 .before .before .before .before .before .loop-test .taken),
       omega (arith, p .ends, item-grows i x (a .at) (l .next) (form-short (a .text .now) (getD (a .start .now) i 0) (getD (a .size .now) i 0)) (l .inv .1)),
       put-label (a .text .now) (a .start .now) (a .size .now) i (l .inv .2) p,
     )
@@ -98,18 +70,5 @@ returns c =
 pub put-labels-spec : {M : Type 1} → statement M
 put-labels-spec =
     tie.close
-    (tie.spec
-    Inv-loop
-    μ-loop
-    loop-holds
-    mul-label-in
-    element-copy-out-label-in
-    mul-label-in-2
-    element-copy-out-label-in-2
-    label-in-requires
-    put-item-requires
-    add-i
-    loop-less
-    loop-again
-    same-length
-    returns)
+    (tie.spec Inv-loop μ-loop loop-holds (λ c κs. search needs) (λ c κs. search needs) (λ c κs. search needs) put-item-requires
+    (λ c. omega arith) (λ c. omega arith) loop-again same-length returns)

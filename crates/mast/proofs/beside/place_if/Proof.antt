@@ -7,7 +7,7 @@ use Rattle.mast.proofs.beside.place_if.Tie as tie
 
 returns : tie.Need-returns
 returns c =
-    rw (lt-ltb _ _ (c .before .before .before .if1 .taken)) (c .entry .ensures)
+    rw (lt-ltb _ _ (c .before .before .before .if1 .taken)) (c .place-entry .ensures)
 
 returns-2 : tie.Need-returns-2
 returns-2 c =

@@ -14,20 +14,15 @@ use Rattle.mast.proofs.bodies.lacks.Tie as tie
 returns : tie.Need-returns
 returns c =
     λ s t xs h.
-    let g = c .before .before .before .before .before .before .before .args in
-    let p = ap spelling (ap (inEdition (g .edition)) (c .before .before .part .ensures) ∙ sym (fold-part (g .edition) _ _ (g .list .now))) ∙ list-part (h .own-list) (g .n) (omega (arith, h .below, h .own-list .count-is)) in
-    let held = c .before .holds-label .ensures (folded (g .edition) s) (h .own) ∙ ap (holds (keyed (g .edition) s)) p in
-    rw (c .lacking .ensures) (lack-answered (g .edition) s t xs _ _ _ _ (g .n) h (g .body) (c .before .holds-label .result) held)
+    let g = c .before .before .before .before .before .before .before .before .before .before .before .args in
+    let token = c .before .before .before .before .leaf-label .ensures in
+    let p = ap spelling (ap (inEdition (g .edition)) token ∙ sym (fold-part (g .edition) _ _ (g .list .now))) ∙ list-part (h .own-list) (g .n) (omega (arith, h .below, h .own-list .count-is)) in
+    let has = c .before .before .before .holds-label in
+    let held = has .ensures (folded (g .edition) s) (h .own) ∙ ap (holds (keyed (g .edition) s)) p in
+    rw (c .before .before .lacking .ensures, c .place-entry .ensures) (lack-answered (g .edition) s t xs _ _ _ _ (g .n) h (g .body) (has .result) held)
 
 pub lacks-spec : {M : Type 1} → statement M
 lacks-spec =
     tie.close
-    (tie.spec
-    (λ c. search needs)
-    (λ c. search needs)
-    (λ c. search needs)
-    (λ c. search needs)
-    (λ c κs. search needs)
-    (λ c κs. search needs)
-    (λ c κs. search needs)
-    returns)
+    (tie.spec (λ c. search needs) (λ c. search needs) (λ c κs. search needs) (λ c κs. search needs) (λ c κs. search needs)
+    (λ c. search needs) (λ c κs. search needs) returns)

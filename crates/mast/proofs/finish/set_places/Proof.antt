@@ -35,10 +35,6 @@ element-copy-out-add-place-2 : tie.Need-element-copy-out-add-place-2 Inv-loop μ
 element-copy-out-add-place-2 c =
     c .before .before .before .before .pre .1 (c .before .before .before .loop .r) (omega arith)
 
-mul-add-place-2 : tie.Need-mul-add-place-2 Inv-loop μ-loop
-mul-add-place-2 c =
-    omega (arith, c .before .before .before .before .before .pre .1 (c .before .before .before .before .loop .r) (omega arith))
-
 element-copy-out-add-place-3 : tie.Need-element-copy-out-add-place-3 Inv-loop μ-loop
 element-copy-out-add-place-3 c =
     c .before .before .before .before .before .pre .1 (c .before .before .before .before .loop .r) (omega arith)
@@ -61,5 +57,5 @@ pub set-places-spec : {M : Type 1} → statement M
 set-places-spec =
     tie.close
     (tie.spec Inv-loop μ-loop loop-holds (λ c. omega arith) (λ c. omega arith) (λ c. omega arith) mul-add-place
-    element-copy-out-add-place-2 mul-add-place-2 element-copy-out-add-place-3 (λ c κs. omega arith) (λ c. omega arith)
+    element-copy-out-add-place-2 element-copy-out-add-place-3 (λ c κs. omega arith) (λ c. omega arith)
     (λ c. omega arith) loop-again returns)

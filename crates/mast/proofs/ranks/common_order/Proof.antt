@@ -25,47 +25,18 @@ loop-holds : tie.Need-loop-holds Inv-loop μ-loop
 loop-holds c =
     (omega arith, omega arith, λ s t o vt b p. collected-start (decoded s) (decoded t) _ _ (own-nodes o) refl)
 
-sub-u : tie.Need-sub-u Inv-loop μ-loop
-sub-u c =
-    omega arith
-
-mul-leaf-partner : tie.Need-mul-leaf-partner Inv-loop μ-loop
-mul-leaf-partner c =
-    omega arith
-
-array-read-leaf-partner : tie.Need-array-read-leaf-partner Inv-loop μ-loop
-array-read-leaf-partner c =
-    omega arith
-
-mul-leaf-partner-2 : tie.Need-mul-leaf-partner-2 Inv-loop μ-loop
-mul-leaf-partner-2 c =
-    omega arith
-
-element-copy-out-leaf-partner : tie.Need-element-copy-out-leaf-partner Inv-loop μ-loop
-element-copy-out-leaf-partner c =
-    omega arith
-
-leaf-partner-requires : tie.Need-leaf-partner-requires Inv-loop μ-loop
-leaf-partner-requires c κs = search needs
-
-add-common-requires : tie.Need-add-common-requires Inv-loop μ-loop
-add-common-requires c κs =
-    omega arith
-
-loop-less : tie.Need-loop-less Inv-loop μ-loop
-loop-less c =
-    omega arith
-
 loop-again : tie.Need-loop-again Inv-loop μ-loop
 loop-again c =
-    let i = c .before .before .before .before .before .before .before .loop .inv in
-    let u-is : c .before .before .before .before .before .before .before .loop .u ≡ c .before .before .before .before .before .before .before .loop .u - 1 + 1 = omega arith in
-    let low : c .before .before .before .before .before .before .before .loop .u - 1 < c .before .before .before .before .before .before .before .before .before .before .before .before .before .args .tree1 .nodes = omega (arith, i .1, c .before .before .before .before .before .before .loop-test .taken) in (
+    let l = c .before .before .before .before .before .before .before .before in
+    let i = l .loop .inv in
+    let u-is : l .loop .u ≡ l .loop .u - 1 + 1 = omega arith in
+    let low : l .loop .u - 1 < l .before .before .before .before .before .before .args .tree1 .nodes = omega (arith, i .1, c .before .before .before .before .before .before .before .loop-test .taken) in
+    let partner = rw (c .before .before .before .before .before .before .wide .ensures) at (c .before .before .before .before .leaf-partner .ensures) in (
       c .add-common .ensures .0,
       omega (arith, i .1),
       λ s t o vt b p.
-          c .add-common .ensures .1 s t _ _ o vt b low (node-partner (own-left o) (own-nodes o) (decoded t) _ p _ _ low (c .before .before .before .before .leaf-partner .ensures))
-          (subst (λ (n : ℕ). Collected (decoded s) (decoded t) n (c .before .before .before .before .before .before .before .loop .order1) (c .before .before .before .before .before .before .before .loop .m)) u-is (i .2 s t o vt b p)),
+          c .add-common .ensures .1 s t _ _ o vt b low (node-partner (own-left o) (own-nodes o) (decoded t) _ p _ _ low partner)
+          (subst (λ (n : ℕ). Collected (decoded s) (decoded t) n (l .loop .order1) (l .loop .m)) u-is (i .2 s t o vt b p)),
     )
 
 returns : tie.Need-returns Inv-loop μ-loop
@@ -79,17 +50,5 @@ returns c =
 pub common-order-spec : {M : Type 1} → statement M
 common-order-spec =
     tie.close
-    (tie.spec
-    Inv-loop
-    μ-loop
-    loop-holds
-    sub-u
-    mul-leaf-partner
-    array-read-leaf-partner
-    mul-leaf-partner-2
-    element-copy-out-leaf-partner
-    leaf-partner-requires
-    add-common-requires
-    loop-less
-    loop-again
-    returns)
+    (tie.spec Inv-loop μ-loop loop-holds (λ c. omega arith) (λ c. omega arith) (λ c κs. search needs) (λ c. omega arith)
+    (λ c. omega arith) (λ c κs. search needs) (λ c κs. omega arith) (λ c. omega arith) loop-again returns)

@@ -36,17 +36,18 @@ loop-holds c =
 
 rank-in-requires : tie.Need-rank-in-requires Inv-loop μ-loop
 rank-in-requires c κs =
-    c .before .before .before .before .before .before .before .before .before .before .before .before .before .pre .0
+    c .before .before .before .before .before .before .before .before .before .before .before .before .before .before .before .pre .0
 
 returns : tie.Need-returns Inv-loop μ-loop
 returns c = (
   omega arith,
   λ s C K o l i e n.
-      let g = c .before .before .before .before .before .before .before .before .before .before .before .before .before .before .before .args in
-      let h : c .before .before .before .before .before .before .before .loop .k < c .before .before .before .before .before .before .before .before .before .before .before .before .before .before .before .args .places .count = c .before .before .before .before .before .if1 .taken in
-      let x = ap spelling (ap (inEdition (g .edition)) (c .before .before .part .ensures) ∙ sym (fold-part (g .edition) _ _ (g .list .now))) ∙ list-part l (c .before .before .before .before .before .before .before .loop .k) h in
+      let k = c .before .before .before .before .before .before .before .before .before in
+      let g = k .before .before .before .before .before .before .before .before .args in
+      let h : k .loop .k < g .places .count = c .before .before .before .before .before .before .before .if1 .taken in
+      let x = ap spelling (ap (inEdition (g .edition)) (c .before .before .leaf-label .ensures) ∙ sym (fold-part (g .edition) _ _ (g .list .now))) ∙ list-part l (k .loop .k) h in
       record {
-        marks = c .before .before .before .before .before .before .before .loop .inv .1 s _ _ C K o l i e n;
+        marks = k .loop .inv .1 s _ _ C K o l i e n;
         stopped = λ q.
             let f = c .before .rank-in .ensures .1 s _ _ C o e n in
             subst (λ (y : Label). isIn y C ≡ false) x (f .missing (omega (arith, c .if2 .taken)));
@@ -55,19 +56,22 @@ returns c = (
 
 element-write-number : tie.Need-element-write-number Inv-loop μ-loop
 element-write-number c =
-    omega (arith, c .before .before .rank-in .ensures .0, c .before .if2 .left, c .before .before .before .before .before .before .before .before .before .before .before .before .before .before .before .before .pre .0)
+    omega (arith, c .before .before .rank-in .ensures .0, c .before .if2 .left, c .before .before .before .before .before .before .before .before .before .before .before .before .before .before .before .before .before .before .pre .0)
 
 loop-again : tie.Need-loop-again Inv-loop μ-loop
 loop-again c = (
   omega arith,
   λ s left nodes C K o l i e n.
-      let g = c .before .before .before .before .before .before .before .before .before .before .before .before .before .before .before .before .args in
-      let h : c .before .before .before .before .before .before .before .before .loop .k < c .before .before .before .before .before .before .before .before .before .before .before .before .before .before .before .before .args .places .count = c .before .before .before .before .before .before .if1 .taken in
-      let x = ap spelling (ap (inEdition (g .edition)) (c .before .before .before .part .ensures) ∙ sym (fold-part (g .edition) _ _ (g .list .now))) ∙ list-part l (c .before .before .before .before .before .before .before .before .loop .k) h in
-      let low : c .before .before .rank-in .result < length C = omega (arith, c .before .before .rank-in .ensures .0, c .before .if2 .left) in
-      let f = c .before .before .rank-in .ensures .1 s left nodes C o e n in
-      marks-next (c .before .before .before .before .before .before .before .before .loop .k) C (map spelling K) (c .before .before .before .before .before .before .before .before .loop .number) (c .before .before .rank-in .result) _ i (l .different) (omega (arith, c .before .before .before .before .before .before .before .before .before .before .before .before .before .before .before .before .pre .0))
-      (omega (arith, l .count-is, length-map K spelling)) (omega (arith, c .before .before .before .before .before .before .before .before .before .before .before .before .before .before .before .before .pre .1)) low (f .at low ∙ x) (c .narrow .ensures) (c .before .before .before .before .before .before .before .before .loop .inv .1 s left nodes C K o l i e n),
+      let k = c .before .before .before .before .before .before .before .before .before .before in
+      let g = k .before .before .before .before .before .before .before .before .args in
+      let h : k .loop .k < g .places .count = c .before .before .before .before .before .before .before .before .if1 .taken in
+      let x = ap spelling (ap (inEdition (g .edition)) (c .before .before .before .leaf-label .ensures) ∙ sym (fold-part (g .edition) _ _ (g .list .now))) ∙ list-part l (k .loop .k) h in
+      let r = c .before .before .rank-in in
+      let low : r .result < length C = omega (arith, r .ensures .0, c .before .if2 .left) in
+      let f = r .ensures .1 s left nodes C o e n in
+      marks-next (k .loop .k) C (map spelling K) (k .loop .number) (r .result) _ i (l .different) (omega (arith, k .before .before .before .before .before .before .before .before .pre .0))
+      (omega (arith, l .count-is, length-map K spelling)) (omega (arith, k .before .before .before .before .before .before .before .before .pre .1)) low (f .at low ∙ x) (c .narrow .ensures)
+      (k .loop .inv .1 s left nodes C K o l i e n),
 )
 
 returns-2 : tie.Need-returns-2 Inv-loop μ-loop
@@ -79,6 +83,5 @@ returns-2 c = (
 pub mark-required-spec : {M : Type 1} → statement M
 mark-required-spec =
     tie.close
-    (tie.spec Inv-loop μ-loop loop-holds (λ c. omega arith) (λ c. omega arith) (λ c. omega arith) (λ c. omega arith)
-    (λ c κs. search needs) rank-in-requires returns (λ c. omega arith) (λ c κs. search needs) element-write-number
-    (λ c. omega arith) (λ c. omega arith) loop-again returns-2)
+    (tie.spec Inv-loop μ-loop loop-holds (λ c. search needs) (λ c. search needs) (λ c κs. search needs) rank-in-requires returns
+    (λ c. omega arith) (λ c κs. search needs) element-write-number (λ c. omega arith) (λ c. omega arith) loop-again returns-2)

@@ -1,15 +1,15 @@
 -- `required::place_at` meets its contract. Assumes nothing.
-use mathlib.Core.Path.{refl}
+use mathlib.Core.Path.{refl, _∙_}
 use borrow.Author.Needs.{needs}
 use Rattle.mast.proofs.required.place_at.Statement.{statement}
 use Rattle.mast.proofs.required.place_at.Tie as tie
 
 returns : tie.Need-returns
 returns c =
-    rw (c .before .wide .ensures) refl
+    c .wide-place .ensures ∙ rw (c .before .before .wide .ensures) refl
 
 pub place-at-spec : {M : Type 1} → statement M
 place-at-spec =
     tie.close
     (tie.spec (λ c. search needs) (λ c. search needs) (λ c. search needs) (λ c κs. search needs) (λ c. search needs)
-    (λ c. search needs) (λ c. search needs) returns)
+    (λ c. search needs) (λ c. search needs) (λ c κs. search needs) returns)

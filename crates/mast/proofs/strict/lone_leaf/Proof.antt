@@ -28,9 +28,9 @@ returns c = (
   λ s t left-is nodes-is v p.
       record {
         found = λ h.
-            lone-found left-is nodes-is v p _ (c .before .before .before .before .before .loop .inv .1 s t left-is nodes-is v p) (omega (arith, c .before .before .before .before .loop-test .taken))
-            (sym (c .before .is-lone .ensures) ∙ c .if1 .taken);
-        missing = λ h. absurd (omega (arith, nodes-is, c .before .before .before .before .loop-test .taken));
+            lone-found left-is nodes-is v p _ (c .before .before .before .before .before .before .loop .inv .1 s t left-is nodes-is v p) (omega (arith, c .before .before .before .before .before .loop-test .taken))
+            (sym (rw (c .before .before .before .wide .ensures) at (c .before .is-lone .ensures)) ∙ c .if1 .taken);
+        missing = λ h. absurd (omega (arith, nodes-is, c .before .before .before .before .before .loop-test .taken));
       },
 )
 
@@ -38,8 +38,8 @@ loop-again : tie.Need-loop-again Inv-loop μ-loop
 loop-again c = (
   omega arith,
   λ s t left-is nodes-is v p.
-      lone-next left-is nodes-is v p _ (c .before .before .before .before .before .loop .inv .1 s t left-is nodes-is v p) (omega (arith, c .before .before .before .before .loop-test .taken))
-      (sym (c .before .is-lone .ensures) ∙ c .if1 .left),
+      lone-next left-is nodes-is v p _ (c .before .before .before .before .before .before .loop .inv .1 s t left-is nodes-is v p) (omega (arith, c .before .before .before .before .before .loop-test .taken))
+      (sym (rw (c .before .before .before .wide .ensures) at (c .before .is-lone .ensures)) ∙ c .if1 .left),
 )
 
 returns-2 : tie.Need-returns-2 Inv-loop μ-loop
@@ -55,17 +55,5 @@ returns-2 c = (
 pub lone-leaf-spec : {M : Type 1} → statement M
 lone-leaf-spec =
     tie.close
-    (tie.spec
-    Inv-loop
-    μ-loop
-    loop-holds
-    (λ c. omega arith)
-    (λ c. omega arith)
-    (λ c. omega arith)
-    (λ c. omega arith)
-    (λ c κs. search needs)
-    returns
-    (λ c. omega arith)
-    (λ c. omega arith)
-    loop-again
-    returns-2)
+    (tie.spec Inv-loop μ-loop loop-holds (λ c. omega arith) (λ c κs. search needs) (λ c. omega arith) (λ c. omega arith)
+    (λ c κs. search needs) returns (λ c. omega arith) (λ c. omega arith) loop-again returns-2)

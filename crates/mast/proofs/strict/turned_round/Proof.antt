@@ -28,10 +28,10 @@ loop-again : tie.Need-loop-again Inv-loop μ-loop
 loop-again c = (
   omega arith,
   λ s t left-is nodes-is v p.
-      let i = c .before .before .before .before .before .before .loop .inv .1 s t left-is nodes-is v p in
-      let h = c .before .before .before .before .before .loop-test .taken in
-      subst (Turned s t (c .before .before .before .before .before .before .loop .u + 1)) (sym (c .put-at .ensures (i .size)))
-      (turned-next v (rw (← nodes-is) h) (node-partner left-is nodes-is t _ p _ _ h (c .before .leaf-partner .ensures)) i),
+      let i = c .before .before .before .before .before .before .before .loop .inv .1 s t left-is nodes-is v p in
+      let h = c .before .before .before .before .before .before .loop-test .taken in
+      subst (Turned s t (c .before .before .before .before .before .before .before .loop .u + 1)) (sym (c .put-at .ensures (i .size)))
+      (turned-next v (rw (← nodes-is) h) (node-partner left-is nodes-is t _ p _ _ h (rw (c .before .before .before .wide .ensures) at (c .before .leaf-partner .ensures))) i),
 )
 
 returns : tie.Need-returns Inv-loop μ-loop
@@ -42,17 +42,5 @@ returns c =
 pub turned-round-spec : {M : Type 1} → statement M
 turned-round-spec =
     tie.close
-    (tie.spec
-    Inv-loop
-    μ-loop
-    loop-holds
-    (λ c. omega arith)
-    (λ c. omega arith)
-    (λ c. omega arith)
-    (λ c. omega arith)
-    (λ c κs. search needs)
-    (λ c κs. search needs)
-    (λ c. omega arith)
-    (λ c. omega arith)
-    loop-again
-    returns)
+    (tie.spec Inv-loop μ-loop loop-holds (λ c. omega arith) (λ c κs. search needs) (λ c. omega arith) (λ c. omega arith)
+    (λ c κs. search needs) (λ c κs. search needs) (λ c. omega arith) (λ c. omega arith) loop-again returns)

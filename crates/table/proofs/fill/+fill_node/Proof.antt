@@ -47,13 +47,13 @@ module _ (t : ℕ) where
   fill-leaf-requires : fill-node-lts.Need-fill-leaf-requires claims (fill-node-at t) fill-node.Post
   fill-leaf-requires c κs =
       let p = c .before .before .before .before .pre .1 in
-      (p .0 .1, (omega (arith, p .0 .0 .few, p .1 .0), p .0 .0 .ranked _ (p .1 .0), p .1 .1))
+      (p .0 .1 .few, (omega (arith, p .0 .0 .few, p .1 .0), p .0 .0 .ranked _ (p .1 .0), p .1 .1))
 
   returns : fill-node-lts.Need-returns claims (fill-node-at t) fill-node.Post
   returns c =
       let p = c .before .before .before .before .before .pre .1 in
-      leaf-made _ _ _ _ _ _ (p .1 .0) _ _ _ _ (sym (c .before .before .before .before .column .ensures) ∙ c .before .before .before .if1 .taken)
-      (c .fill-leaf .ensures)
+      leaf-made _ _ _ _ _ _ (p .1 .0) _ _ _ _ (p .0 .1 .few) (sym (c .before .before .before .before .column .ensures) ∙ c .before .before .before .if1 .taken)
+      (p .0 .0 .ranked _ (p .1 .0)) (c .fill-leaf .ensures)
 
   returns-2 : fill-node-lts.Need-returns-2 claims (fill-node-at t) fill-node.Post
   returns-2 c =

@@ -1,56 +1,76 @@
 -- `fill::fill_leaf` meets its contract. Assumes nothing.
-use Prim.Native.Nat.{_-_, _<_, _≤_}
-use mathlib.Core.Path.{_≡_}
+use Prim.Native.Nat.{ℕ, _-_, _<_, _≤_}
+use mathlib.Core.Path.{_≡_, sym, _∙_, ap₂}
+use mathlib.Core.List.{List}
 use native.Mathlib.Omega.{arith}
 use borrow.Author.Needs.{needs}
-use Rattle.table.specs.Table.{nodesAt, LeafRow}
-use Rattle.table.proofs.RowLaws.{leaf-row-none, leaf-row-next}
+use Rattle.table.specs.Table.{valueOf, valueAt, columnAt, nodesAt, weightPlace, spanAt, SpanRow}
+use Rattle.table.proofs.RowLaws.{span-before, span-row-none, span-row-next}
 use Rattle.table.proofs.fill.fill_leaf.Statement.{statement}
 use Rattle.table.proofs.fill.fill_leaf.Tie as tie
 
 abbrev Inv-loop : tie.InvT-loop
-Inv-loop first second high₀ low₀ u row rank nodes start v₀ high low v =
-    (v ≤ nodesAt second) × LeafRow v second rank row high₀ low₀ high low
+Inv-loop first second high₀ low₀ u row rank weight at nodes clear start v₀ high low v =
+    (v ≤ clear) × SpanRow v second rank row high₀ low₀ high low
 
 abbrev μ-loop : tie.MeasureT-loop
-μ-loop first second high₀ low₀ u row rank nodes start v₀ high low v = nodes - v
+μ-loop first second high₀ low₀ u row rank weight at nodes clear start v₀ high low v = clear - v
 
-loop-holds : tie.Need-loop-holds Inv-loop μ-loop
-loop-holds c = (omega arith, leaf-row-none _ _ _ _ _)
+-- it adds to what the first loop made of any areas with that weight
+abbrev Inv-loop2 : tie.InvT-loop2
+Inv-loop2 first second high₀ low₀ u row rank weight at nodes clear start v₀ high low v =
+    (clear ≤ v) × (v ≤ nodes)
+    × ((h l : List ℕ) → valueOf weight ≡ valueAt h l (weightPlace rank) → SpanRow clear second rank row h l high₀ low₀
+    → SpanRow v second rank row h l high low)
 
-leaf-cell-requires : tie.Need-leaf-cell-requires Inv-loop μ-loop
-leaf-cell-requires c κs =
-    let s = c .before .before .before .before .before .before .before .pre in
-    let h : c .before .before .before .loop .v < nodesAt (c .before .before .before .before .before .before .before .args .second .now) = omega (arith, c .before .before .loop-test .taken, c .before .before .before .before .wide .ensures) in (
-      (omega (arith, c .before .before .before .before .before .before .column .ensures, s .1 .1), omega arith, omega (arith, h, s .0 .few)),
-      (s .0 .left-low _ h, s .0 .right-low _ h),
-    )
+abbrev μ-loop2 : tie.MeasureT-loop2
+μ-loop2 first second high₀ low₀ u row rank weight at nodes clear start v₀ high low v = nodes - v
 
-element-write-high : tie.Need-element-write-high Inv-loop μ-loop
-element-write-high c = omega (arith, c .before .before .before .before .before .before .before .before .pre .0 .few, c .before .before .before .before .before .wide .ensures)
-
-element-write-low : tie.Need-element-write-low Inv-loop μ-loop
-element-write-low c = omega (arith, c .before .before .before .before .before .before .before .before .pre .0 .few, c .before .before .before .before .before .wide .ensures)
-
-loop-again : tie.Need-loop-again Inv-loop μ-loop
+loop-again : tie.Need-loop-again Inv-loop μ-loop Inv-loop2 μ-loop2
 loop-again c =
-    let l = c .before .before .before .before in
-    let start = l .before .before .before .before in
-    let h : l .loop .v < nodesAt (start .args .second .now) = omega (arith, c .before .before .before .loop-test .taken, l .before .wide .ensures) in (
-      omega (arith, h),
-      leaf-row-next _ _ (l .loop .v) _ _ _ _ (l .loop .high) (l .loop .low) (start .pre .0) (start .pre .1 .2) h _ (c .leaf-cell .ensures)
-          (l .loop .inv .1),
+    let l = c .before in
+    let k = l .before in
+    let start = k .before .before .before .before .before .before .before .before in
+    let h : l .loop .v < columnAt (start .args .second .now) 5 (k .before .before .before .before .before .before .before .column .result) = omega (arith, c .loop-test .taken, k .least .ensures, k .before .before .before .column2 .ensures) in (
+      omega (arith, c .loop-test .taken),
+      span-row-next _ _ (l .loop .v) 0 0 _ _ (l .loop .high) (l .loop .low) (start .pre .1 .2) (omega (arith, c .loop-test .taken, k .least .ensures, k .before .wide .ensures, start .pre .0)) _
+          (sym (span-before _ _ _ _ h)) (l .loop .inv .1),
     )
 
-returns : tie.Need-returns Inv-loop μ-loop
+loop2-holds : tie.Need-loop2-holds Inv-loop μ-loop Inv-loop2 μ-loop2
+loop2-holds c =
+    let l = c .before in
+    let e : l .before .least .result ≡ l .loop .v = omega (arith, c .loop-test .left, l .loop .inv .0) in
+    (c .loop-test .left, omega (arith, l .loop .inv .0, l .before .least .ensures), λ high low w r. rw e at r)
+
+loop2-again : tie.Need-loop2-again Inv-loop μ-loop Inv-loop2 μ-loop2
+loop2-again c =
+    let l = c .before .before in
+    let k = l .before .before .before in
+    let start = k .before .before .before .before .before .before .before .before in (
+      omega (arith, l .loop2 .inv .0),
+      omega (arith, c .before .loop2-test .taken),
+      λ high low w r.
+          span-row-next _ _ (l .loop2 .v) _ _ high low (l .loop2 .high) (l .loop2 .low) (start .pre .1 .2) (omega (arith, c .before .loop2-test .taken, k .before .wide .ensures, start .pre .0)) _
+          (c .span-cell .ensures ∙ ap₂ (λ (m at : ℕ). spanAt (start .args .second .now) m at (l .loop2 .v)) w (k .before .before .before .column2 .ensures))
+          (l .loop2 .inv .2 high low w r),
+    )
+
+returns : tie.Need-returns Inv-loop μ-loop Inv-loop2 μ-loop2
 returns c =
-    let i = c .before .loop .inv in
-    let e : c .before .loop .v ≡ nodesAt (c .before .before .before .before .before .args .second .now) = omega (arith, c .loop-test .left, c .before .before .wide .ensures, i .0) in
-    rw (e, c .before .before .before .before .column .ensures) at (i .1)
+    let i = c .before .loop2 .inv in
+    let l = c .before .before .before in
+    let k = l .before in
+    let e : c .before .loop2 .v ≡ nodesAt (k .before .before .before .before .before .before .before .before .args .second .now) = omega (arith, c .loop2-test .left, k .before .wide .ensures, i .1) in
+    let d : l .loop .v ≡ k .least .result = omega (arith, l .loop .inv .0, c .before .before .loop-test .left) in
+    rw (e, k .before .before .before .before .before .before .before .column .ensures) at (i .2 _ _ (k .before .before .before .before .cell .ensures) (rw d at (l .loop .inv .1)))
 
 pub fill-leaf-spec : {M : Type 1} → statement M
 fill-leaf-spec =
     tie.close
-    (tie.spec Inv-loop μ-loop (λ c κs. omega arith) (λ c. omega arith) (λ c κs. search needs) (λ c. omega arith) loop-holds leaf-cell-requires
-    (λ c. omega arith) (λ c. omega arith) element-write-high (λ c. omega arith) (λ c. omega arith) element-write-low
-    (λ c. omega arith) (λ c. omega arith) loop-again returns)
+    (tie.spec Inv-loop μ-loop Inv-loop2 μ-loop2 (λ c κs. omega arith) (λ c. omega arith) (λ c κs. omega arith) (λ c κs. omega arith)
+    (λ c. omega arith) (λ c κs. search needs) (λ c κs. search needs) (λ c. omega arith) (λ c. (omega arith, span-row-none _ _ _ _ _))
+    (λ c. omega arith) (λ c. omega arith) (λ c. omega arith) (λ c. omega arith) (λ c. omega arith) (λ c. omega arith)
+    (λ c. omega arith) (λ c. omega arith) loop-again loop2-holds (λ c κs. (omega arith, omega arith))
+    (λ c. omega arith) (λ c. omega arith) (λ c. omega arith) (λ c. omega arith) (λ c. omega arith) (λ c. omega arith)
+    (λ c. omega arith) (λ c. omega arith) loop2-again returns)
