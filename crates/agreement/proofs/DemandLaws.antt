@@ -19,7 +19,7 @@ use Rattle.agreement.specs.Answer.{Answer, firstLacks, secondLacks, disa
 use Rattle.agreement.specs.Answer.{Three, firstClash, allowed, largestSet, lacking, answer}
 use Rattle.agreement.specs.Demand.{Allowed, IsAnswer, Before3, by-first, by-second, by-third, as-well, Clash, IsDisagreement}
 use Rattle.agreement.specs.Demand.{FirstLacking, IsFirstLacks, IsSecondLacks}
-use Rattle.agreement.specs.Outcome.{Outcome}
+use Rattle.agreement.specs.RightAnswer.{RightAnswer}
 use Rattle.agreement.proofs.SetLaws.{in-nil, in-cases, Within, allIn-within, within-allIn, in-sorted, sorted-inc, common-inc}
 use Rattle.agreement.proofs.SetLaws.{in-common, common-in, sublist-in, sublist-of, sublists-ordered}
 use Rattle.agreement.proofs.AnswerLaws.{FirstThree, first-map, clash-within, clash-found, no-clash-agree, agree-no-clash}
@@ -243,7 +243,7 @@ module _ (s t : Tree) (K : List Label) where
       go none none = refl
 
   settle-outcome : distinct (leaves s) ≡ true → distinct K ≡ true → (o : Option Answer) (p : Option Three)
-      → LackingFrom s t K 0 o → FirstThree (Clash s t K) p → Outcome s t K (settle o p (largestSet s t K))
+      → LackingFrom s t K 0 o → FirstThree (Clash s t K) p → RightAnswer s t K (settle o p (largestSet s t K))
   unfolding settle
   settle-outcome ds dk (some (firstLacks n)) p l c = subst (IsFirstLacks s t K) (omega (arith, l .1)) (l .2)
   settle-outcome ds dk (some (secondLacks n)) p l c = subst (IsSecondLacks s t K) (omega (arith, l .1)) (l .2)
@@ -253,13 +253,13 @@ module _ (s t : Tree) (K : List Label) where
   settle-outcome ds dk none none l c = largest-answer (sorted K) ds (required-allowed dk l c)
 
   -- the answer is what the papers say
-  pub answer-outcome : distinct (leaves s) ≡ true → distinct K ≡ true → Outcome s t K (answer s t K)
+  pub answer-outcome : distinct (leaves s) ≡ true → distinct K ≡ true → RightAnswer s t K (answer s t K)
   answer-outcome ds dk =
-      subst (Outcome s t K) (sym answer-settle)
+      subst (RightAnswer s t K) (sym answer-settle)
       (settle-outcome ds dk (lacking s t K 0) (firstClash s t (sorted K)) (lacking-from s t K 0) (required-clash dk))
 
   -- and the papers say it of one answer only
-  pub outcome-unique : (A B : Answer) → Outcome s t K A → Outcome s t K B → A ≡ B
+  pub outcome-unique : (A B : Answer) → RightAnswer s t K A → RightAnswer s t K B → A ≡ B
   outcome-unique (firstLacks m) (firstLacks n) p q = ap firstLacks (lacks-unique m n (six-lacks m p) (six-lacks n q))
   outcome-unique (firstLacks m) (secondLacks n) p q =
       clash (ap (λ (k : ℕ). holds s (getD K k [])) (lacks-unique m n (six-lacks m p) (seven-lacks n q)) ∙ q .held) (p .lacked)
@@ -284,9 +284,9 @@ module _ (s t : Tree) (K : List Label) where
 
   module _ (ds : distinct (leaves s) ≡ true) (dk : distinct K ≡ true) where
     -- so an answer is the definition's exactly if the papers say it
-    pub answer-exactly : (A : Answer) → (answer s t K ≡ A) ↔ Outcome s t K A
+    pub answer-exactly : (A : Answer) → (answer s t K ≡ A) ↔ RightAnswer s t K A
     answer-exactly A = (
-      λ e. subst (Outcome s t K) e (answer-outcome ds dk),
+      λ e. subst (RightAnswer s t K) e (answer-outcome ds dk),
       λ p. outcome-unique (answer s t K) A (answer-outcome ds dk) p,
     )
 

@@ -14,7 +14,7 @@ use Rattle.trees.proofs.Bools.{clash}
 use Rattle.trees.proofs.LabelLaws.{same-refl, eq-same, ne-same, same-ne, same-cases}
 use Rattle.trees.proofs.ListLaws.{distinct-head, distinct-tail, at-in}
 use Rattle.agreement.specs.Sets.{increasing, keep, setOf}
-use Rattle.agreement.specs.Weights.{weigh, forcing}
+use Rattle.agreement.specs.Weights.{weigh, unitIn}
 use Rattle.agreement.specs.Powers.{power, whole, powerIn, sumIn, decode, telling}
 use Rattle.agreement.proofs.SetLaws.{in-nil, in-head, in-tail, in-cases, inc-least, inc-tail, inc-new}
 
@@ -157,7 +157,7 @@ weigh-powers (suc n) (c ∷ C) L d =
 
 -- a list weighs its units, and the sum of its powers
 pub weigh-telling : (n : ℕ) (F C L : List Label) → distinct L ≡ true
-    → weigh (telling n F C) L ≡ weigh (forcing F) L * whole + sumIn n C (setOf L)
+    → weigh (telling n F C) L ≡ weigh (unitIn F) L * whole + sumIn n C (setOf L)
 unfolding telling
 weigh-telling n F C L d =
-    weigh-sum (λ x. forcing F x * whole) (powerIn n C) L ∙ (rw (weigh-scaled (forcing F) L, weigh-powers n C L d) refl)
+    weigh-sum (λ x. unitIn F x * whole) (powerIn n C) L ∙ (rw (weigh-scaled (unitIn F) L, weigh-powers n C L d) refl)

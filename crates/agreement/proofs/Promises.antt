@@ -21,10 +21,10 @@ use Rattle.agreement.specs.Restrict.{restrict, restrictIn, keyedKept}
 use Rattle.agreement.specs.SameKept.{SameKept}
 use Rattle.agreement.specs.Places.{placeIn, placeOfNumber, placeOfLabel, tokenOfKey, LeafShown, Listed, keptTextIn, spelledIn, printedIn}
 use Rattle.agreement.specs.Sets.{increasing, sorted, common, setOf}
-use Rattle.agreement.specs.Weights.{forcedUnit, best}
+use Rattle.agreement.specs.Weights.{requiredUnit, best}
 use Rattle.agreement.specs.Answer.{Answer, firstLacks, secondLacks, disagree, largest, agreeOn, largestSet, answer}
 use Rattle.agreement.specs.Demand.{IsAnswer, Clash, IsDisagreement, IsFirstLacks, IsSecondLacks}
-use Rattle.agreement.specs.Outcome.{Outcome}
+use Rattle.agreement.specs.RightAnswer.{RightAnswer}
 use Rattle.agreement.specs.Greatest.{Greatest}
 use Rattle.agreement.specs.Powers.{whole, decode, telling}
 use Rattle.agreement.specs.Starred.{Row, answered, rows}
@@ -146,21 +146,21 @@ module _ (s t : Tree) (K : List Label) (proper : Proper s) (different : distinct
   answered-promise held free = DemandLaws.set-answered s t K (proper .different) different held free
 
   -- "exactly what comes back": whatever meets these sentences is the answer.
-  pub answer-promise : (A : Answer) → (answer s t K ≡ A) ↔ Outcome s t K A
+  pub answer-promise : (A : Answer) → (answer s t K ≡ A) ↔ RightAnswer s t K A
   answer-promise A = DemandLaws.answer-exactly s t K (proper .different) different A
 
   -- "Document 001, Lemma 3.1, gives a recurrence over pairs of nodes. It may be used; it is not the definition." If labels weigh units and
   -- powers of two, the greatest weight gives the set, or shows that three required labels have different closer pairs.
   module _ (M : ℕ) (held : Common s t (setOf K)) (great : Greatest (telling leafLimit (sorted K) (common s t)) s t M) where
-    pub weight-tells-set : M / whole / forcedUnit ≡ length K → answer s t K ≡ largest (decode leafLimit (common s t) (M % whole))
+    pub weight-tells-set : M / whole / requiredUnit ≡ length K → answer s t K ≡ largest (decode leafLimit (common s t) (M % whole))
     weight-tells-set = Tells.told-set s t K proper different held M great
 
     -- The units of the greatest weight are the size.
-    pub weight-tells-size : M / whole / forcedUnit ≡ length K
-        → length (decode leafLimit (common s t) (M % whole)) ≡ M / whole / forcedUnit + M / whole % forcedUnit
+    pub weight-tells-size : M / whole / requiredUnit ≡ length K
+        → length (decode leafLimit (common s t) (M % whole)) ≡ M / whole / requiredUnit + M / whole % requiredUnit
     weight-tells-size = Tells.told-size s t K proper different held M great
 
-    pub weight-tells-eight : (M / whole / forcedUnit ≡ length K → ⊥)
+    pub weight-tells-eight : (M / whole / requiredUnit ≡ length K → ⊥)
         → (a : Label) × (b : Label) × (c : Label) × (answer s t K ≡ disagree a b c)
     weight-tells-eight = Tells.told-eight s t K proper different held M great
 

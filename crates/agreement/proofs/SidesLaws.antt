@@ -12,7 +12,7 @@ use Rattle.agreement.specs.Closer.{holds, closer, Agree, Common}
 use Rattle.agreement.specs.Sets.{setOf}
 use Rattle.agreement.specs.Answer.{Answer, firstLacks, secondLacks, disagree, largest, differ, clashing, answer}
 use Rattle.agreement.specs.Demand.{Allowed, Clash, FirstLacking}
-use Rattle.agreement.specs.Outcome.{Outcome}
+use Rattle.agreement.specs.RightAnswer.{RightAnswer}
 use Rattle.agreement.proofs.SameLaws.{same-holds, same-closer}
 use Rattle.agreement.proofs.DemandLaws.{answer-outcome, answer-exactly}
 
@@ -66,7 +66,7 @@ module _ {s s′ t t′ : Tree} (p : Alike s s′) (q : Alike t t′) where
     earlier = λ m l. (sym (p .held (getD K m [])) ∙ h .earlier m l .0, sym (q .held (getD K m [])) ∙ h .earlier m l .1);
   }
 
-outcome-alike : {s s′ t t′ : Tree} → Alike s s′ → Alike t t′ → (K : List Label) (A : Answer) → Outcome s t K A → Outcome s′ t′ K A
+outcome-alike : {s s′ t t′ : Tree} → Alike s s′ → Alike t t′ → (K : List Label) (A : Answer) → RightAnswer s t K A → RightAnswer s′ t′ K A
 outcome-alike p q K (firstLacks n) h = record { found = lacking-alike p q K n (h .found); lacked = sym (p .held (getD K n [])) ∙ h .lacked }
 outcome-alike p q K (secondLacks n) h = record {
   found = lacking-alike p q K n (h .found);

@@ -13,7 +13,7 @@ use Rattle.trees.specs.Tree.{Tree, leaves, leafLimit, Proper}
 use Rattle.trees.proofs.Bools.{bool-cases, clash, refute}
 use Rattle.agreement.specs.Closer.{holds, Common, Agree}
 use Rattle.agreement.specs.Sets.{increasing, keep, sorted, common, setOf, First}
-use Rattle.agreement.specs.Weights.{weigh, weightIn, forcing, forcedUnit}
+use Rattle.agreement.specs.Weights.{weigh, weightIn, unitIn, requiredUnit}
 use Rattle.agreement.specs.Powers.{power, whole, sumIn, decode, telling}
 use Rattle.agreement.specs.Answer.{Three, firstClash, disagree, largest, answer}
 use Rattle.agreement.specs.Demand.{Allowed, IsAnswer, Clash}
@@ -23,7 +23,7 @@ use Rattle.agreement.proofs.SetLaws.{length-sorted, sorted-inc, common-
 use Rattle.agreement.proofs.KeepLaws.{distinct-keep, keep-cong}
 use Rattle.agreement.proofs.AnswerLaws.{FirstThree}
 use Rattle.agreement.proofs.DemandLaws.{sorted-within, within-sorted, required-clash, required-allowed, largest-exactly, eight-exactly}
-use Rattle.agreement.proofs.WeightLaws.{list-weight, forced-held, forced-bound, forced-reached}
+use Rattle.agreement.proofs.WeightLaws.{list-weight, required-held, required-bound, required-reached}
 use Rattle.agreement.proofs.PowerLaws.{sum-small, sum-cong, FirstIn, sum-order, decode-sum, weigh-telling}
 
 allowed-fewer : (s t : Tree) (K F X : List Label) → Within K F → Allowed s t F X → Allowed s t K X
@@ -36,11 +36,11 @@ module _ (n : ℕ) (full : power n ≡ whole) (s t : Tree) (ds : distinct (leave
 
   -- a set of common leaves weighs its units, and the sum of its powers
   set-telling : (F : List Label) (X : Label → Bool) → Common s t X
-      → weightIn (telling n F C) s X ≡ weightIn (forcing F) s X * whole + sumIn n C X
+      → weightIn (telling n F C) s X ≡ weightIn (unitIn F) s X * whole + sumIn n C X
   unfolding weightIn holds
   set-telling F X c =
       weigh-telling n F C (keep X (leaves s)) (distinct-keep X (leaves s) ds)
-      ∙ ap (λ (k : ℕ). weigh (forcing F) (keep X (leaves s)) * whole + k) (sum-cong n C (setOf (keep X (leaves s))) X same)
+      ∙ ap (λ (k : ℕ). weigh (unitIn F) (keep X (leaves s)) * whole + k) (sum-cong n C (setOf (keep X (leaves s))) X same)
     where
       same : (x : Label) → isIn x C ≡ true → isIn x (keep X (leaves s)) ≡ X x
       same x m = go (bool-cases (X x))
@@ -54,13 +54,13 @@ module _ (n : ℕ) (full : power n ≡ whole) (s t : Tree) (ds : distinct (leave
 
   module _ (F : List Label) (M : ℕ) (great : Greatest (telling n F C) s t M) where
     -- the units of the greatest weight are the greatest weight of units, and what is left is the sum of its set
-    pub units : weightIn (forcing F) s (great .set) ≡ M / whole
+    pub units : weightIn (unitIn F) s (great .set) ≡ M / whole
     units = omega (arith, great .reached, set-telling F (great .set) (great .commonLeaves), sum-less (great .set))
 
     pub rest : sumIn n C (great .set) ≡ M % whole
     rest = omega (arith, great .reached, set-telling F (great .set) (great .commonLeaves), sum-less (great .set))
 
-    pub units-greatest : Greatest (forcing F) s t (M / whole)
+    pub units-greatest : Greatest (unitIn F) s t (M / whole)
     units-greatest = record {
       bound = λ X c a. omega (arith, great .bound X c a, set-telling F X c);
       set = great .set;
@@ -74,7 +74,7 @@ module _ (n : ℕ) (full : power n ≡ whole) (s t : Tree) (ds : distinct (leave
     set-decoded = ap (decode n C) (sym rest) ∙ decode-sum n C (great .set) enough
 
     -- a set with the same units is the same, or comes after
-    pub set-first : (X : Label → Bool) → Common s t X → Agree s t X → weightIn (forcing F) s X ≡ M / whole
+    pub set-first : (X : Label → Bool) → Common s t X → Agree s t X → weightIn (unitIn F) s X ≡ M / whole
         → ((x : Label) → isIn x C ≡ true → great .set x ≡ X x) ⊎ FirstIn C (great .set) X
     set-first X c a e =
         sum-order n C (great .set) X (common-inc s t ds) enough
@@ -94,7 +94,7 @@ module _ (n : ℕ) (full : power n ≡ whole) (s t : Tree) (ds : distinct (leave
     F-held : Common s t (setOf F)
     F-held x m = held x (sorted-within K x m)
 
-    g : Greatest (forcing F) s t (M / whole)
+    g : Greatest (unitIn F) s t (M / whole)
     g = units-greatest F M great
 
     set-is : setOf X ≡ great .set
@@ -121,29 +121,29 @@ module _ (n : ℕ) (full : power n ≡ whole) (s t : Tree) (ds : distinct (leave
         same x l (inr m) = outside (great .set) (great .commonLeaves) x m ∙ sym (outside (setOf Y) c x m)
 
     -- where all required labels are held, the units of the greatest weight are the size
-    reached : M / whole / forcedUnit ≡ length K
-        → Allowed s t F X × (length X ≡ M / whole / forcedUnit + M / whole % forcedUnit)
+    reached : M / whole / requiredUnit ≡ length K
+        → Allowed s t F X × (length X ≡ M / whole / requiredUnit + M / whole % requiredUnit)
     unfolding g units-greatest
-    reached e = forced-reached s t F (M / whole) ds few F-inc F-held g (e ∙ sym (length-sorted K))
+    reached e = required-reached s t F (M / whole) ds few F-inc F-held g (e ∙ sym (length-sorted K))
 
-    pub tells-size : M / whole / forcedUnit ≡ length K
-        → length (decode n C (M % whole)) ≡ M / whole / forcedUnit + M / whole % forcedUnit
+    pub tells-size : M / whole / requiredUnit ≡ length K
+        → length (decode n C (M % whole)) ≡ M / whole / requiredUnit + M / whole % requiredUnit
     tells-size e = ap (length {A = Label}) (set-decoded F M great) ∙ reached e .1
 
-    pub tells-answer : M / whole / forcedUnit ≡ length K → IsAnswer s t K (decode n C (M % whole))
+    pub tells-answer : M / whole / requiredUnit ≡ length K → IsAnswer s t K (decode n C (M % whole))
     unfolding g units-greatest
     tells-answer e = subst (IsAnswer s t K) (sym (set-decoded F M great)) is
       where
-        counted : M / whole / forcedUnit ≡ length F
+        counted : M / whole / requiredUnit ≡ length F
         counted = e ∙ sym (length-sorted K)
 
         forF : (Y : List Label) → Allowed s t K Y → Allowed s t F Y
         forF Y p = allowed-fewer s t F K Y (sorted-within K) p
 
         bound : (Y : List Label) → Allowed s t K Y → length Y ≤ length X
-        bound Y p = omega (arith, forced-bound s t F (M / whole) ds few F-inc F-held g Y (forF Y p), reached e .1)
+        bound Y p = omega (arith, required-bound s t F (M / whole) ds few F-inc F-held g Y (forF Y p), reached e .1)
 
-        weighs : (Y : List Label) → Allowed s t K Y → length Y ≡ length X → weightIn (forcing F) s (setOf Y) ≡ M / whole
+        weighs : (Y : List Label) → Allowed s t K Y → length Y ≡ length X → weightIn (unitIn F) s (setOf Y) ≡ M / whole
         weighs Y p l =
             omega (arith, list-weight s t F (M / whole) ds few F-inc F-held g Y (forF Y p), reached e .1, counted)
 
@@ -155,23 +155,23 @@ module _ (n : ℕ) (full : power n ≡ whole) (s t : Tree) (ds : distinct (leave
               (set-first F M great (setOf Y) (p .commonLeaves) (p .agreed) (weighs Y p l));
         }
 
-    pub tells-set : M / whole / forcedUnit ≡ length K → answer s t K ≡ largest (decode n C (M % whole))
+    pub tells-set : M / whole / requiredUnit ≡ length K → answer s t K ≡ largest (decode n C (M % whole))
     tells-set e = largest-exactly s t K ds dk (decode n C (M % whole)) .1 (tells-answer e)
 
     -- required labels that cannot all be held clash
-    tells-clash : (M / whole / forcedUnit ≡ length K → ⊥) → (a : Label) × (b : Label) × (c : Label) × Clash s t K a b c
+    tells-clash : (M / whole / requiredUnit ≡ length K → ⊥) → (a : Label) × (b : Label) × (c : Label) × Clash s t K a b c
     tells-clash no-all = go (firstClash s t F) (required-clash s t K dk)
       where
         go : (o : Option Three) → FirstThree (Clash s t K) o → (a : Label) × (b : Label) × (c : Label) × Clash s t K a b c
         go (some r) f = (r .one, r .two, r .three, f .0)
         go none f = absurd (no-all (counted ∙ length-sorted K))
           where
-            counted : M / whole / forcedUnit ≡ length F
+            counted : M / whole / requiredUnit ≡ length F
             counted =
-                forced-held s t F (M / whole) ds few F-inc F-held g F
+                required-held s t F (M / whole) ds few F-inc F-held g F
                 (allowed-fewer s t F K F (sorted-within K) (required-allowed s t K dk held f))
 
-    pub tells-eight : (M / whole / forcedUnit ≡ length K → ⊥) → (a : Label) × (b : Label) × (c : Label) × (answer s t K ≡ disagree a b c)
+    pub tells-eight : (M / whole / requiredUnit ≡ length K → ⊥) → (a : Label) × (b : Label) × (c : Label) × (answer s t K ≡ disagree a b c)
     tells-eight no-all = eight-exactly s t K ds dk held .0 (tells-clash no-all)
 
 -- with a place for each of at most 80 common labels
@@ -185,12 +185,12 @@ common-few s t p = omega (arith, common-short s t, p .few)
 
 module _ (s t : Tree) (K : List Label) (proper : Proper s) (dk : distinct K ≡ true) (held : Common s t (setOf K)) (M : ℕ)
     (great : Greatest (telling leafLimit (sorted K) (common s t)) s t M) where
-  pub told-set : M / whole / forcedUnit ≡ length K → answer s t K ≡ largest (decode leafLimit (common s t) (M % whole))
+  pub told-set : M / whole / requiredUnit ≡ length K → answer s t K ≡ largest (decode leafLimit (common s t) (M % whole))
   told-set = tells-set leafLimit full-places s t (proper .different) (common-few s t proper) K (proper .few) dk held M great
 
-  pub told-eight : (M / whole / forcedUnit ≡ length K → ⊥) → (a : Label) × (b : Label) × (c : Label) × (answer s t K ≡ disagree a b c)
+  pub told-eight : (M / whole / requiredUnit ≡ length K → ⊥) → (a : Label) × (b : Label) × (c : Label) × (answer s t K ≡ disagree a b c)
   told-eight = tells-eight leafLimit full-places s t (proper .different) (common-few s t proper) K (proper .few) dk held M great
 
-  pub told-size : M / whole / forcedUnit ≡ length K
-      → length (decode leafLimit (common s t) (M % whole)) ≡ M / whole / forcedUnit + M / whole % forcedUnit
+  pub told-size : M / whole / requiredUnit ≡ length K
+      → length (decode leafLimit (common s t) (M % whole)) ≡ M / whole / requiredUnit + M / whole % requiredUnit
   told-size = tells-size leafLimit full-places s t (proper .different) (common-few s t proper) K (proper .few) dk held M great

@@ -1,4 +1,4 @@
--- What the greatest weight says when forced labels weigh 128 and others 1: whether all forced labels can be held, and the
+-- What the greatest weight says when required labels weigh 128 and others 1: whether all required labels can be held, and the
 -- greatest size of a set that holds them. Assumes nothing.
 use Prim.Native.Nat.{ℕ, suc, _+_, _*_, _/_, _%_, _≤_}
 use mathlib.Core.Path.{_≡_, refl, sym, _∙_, ap, subst}
@@ -12,14 +12,14 @@ use Rattle.trees.specs.Tree.{Tree, leaves, leafLimit}
 use Rattle.trees.proofs.Bools.{clash}
 use Rattle.agreement.specs.Closer.{holds, Common, Agree}
 use Rattle.agreement.specs.Sets.{increasing, keep, common, setOf}
-use Rattle.agreement.specs.Weights.{weigh, weightIn, forcing, forcedUnit}
+use Rattle.agreement.specs.Weights.{weigh, weightIn, unitIn, requiredUnit}
 use Rattle.agreement.specs.Demand.{Allowed}
 use Rattle.agreement.specs.Greatest.{Greatest}
 use Rattle.agreement.proofs.SetLaws.{in-nil, in-cases, keep-inc, common-inc, set-keep, count-held}
 
--- how many forced labels, and how many others, a set has of a list
-abbrev pub forcedIn : List Label → (Label → Bool) → List Label → ℕ
-forcedIn F X L = length (keep (setOf F) (keep X L))
+-- how many required labels, and how many others, a set has of a list
+abbrev pub requiredIn : List Label → (Label → Bool) → List Label → ℕ
+requiredIn F X L = length (keep (setOf F) (keep X L))
 
 abbrev pub othersIn : List Label → (Label → Bool) → List Label → ℕ
 othersIn F X L = length (keep (λ x. not (isIn x F)) (keep X L))
@@ -37,23 +37,23 @@ keep-parts X (x ∷ L) = go (X x) (keep-parts X L)
     go true ih = omega arith
     go false ih = omega arith
 
-weigh-forcing : (F L : List Label) → weigh (forcing F) L ≡ 127 * length (keep (setOf F) L) + length L
-unfolding weigh keep forcing
-weigh-forcing F [] = omega arith
-weigh-forcing F (x ∷ L) = go (isIn x F) (weigh-forcing F L)
+weigh-units : (F L : List Label) → weigh (unitIn F) L ≡ 127 * length (keep (setOf F) L) + length L
+unfolding weigh keep unitIn
+weigh-units F [] = omega arith
+weigh-units F (x ∷ L) = go (isIn x F) (weigh-units F L)
   where
-    go : (b : Bool) → weigh (forcing F) L ≡ 127 * length (keep (setOf F) L) + length L
-        → cond b forcedUnit 1 + weigh (forcing F) L ≡ 127 * length (cond b (x ∷ keep (setOf F) L) (keep (setOf F) L)) + suc (length L)
+    go : (b : Bool) → weigh (unitIn F) L ≡ 127 * length (keep (setOf F) L) + length L
+        → cond b requiredUnit 1 + weigh (unitIn F) L ≡ 127 * length (cond b (x ∷ keep (setOf F) L) (keep (setOf F) L)) + suc (length L)
     go true ih = omega arith
     go false ih = omega arith
 
 -- of a set's labels no more are held than there are, and as many exactly if all are held
-held-at-most : (F : List Label) (X : Label → Bool) (L : List Label) → forcedIn F X L ≤ length (keep (setOf F) L)
+held-at-most : (F : List Label) (X : Label → Bool) (L : List Label) → requiredIn F X L ≤ length (keep (setOf F) L)
 unfolding keep
 held-at-most F X [] = omega arith
 held-at-most F X (x ∷ L) = go (X x) (isIn x F) refl (held-at-most F X L)
   where
-    go : (a b : Bool) → isIn x F ≡ b → forcedIn F X L ≤ length (keep (setOf F) L)
+    go : (a b : Bool) → isIn x F ≡ b → requiredIn F X L ≤ length (keep (setOf F) L)
         → length (keep (setOf F) (cond a (x ∷ keep X L) (keep X L))) ≤ length (cond b (x ∷ keep (setOf F) L) (keep (setOf F) L))
     go true true e ih = rw e (omega arith)
     go true false e ih = rw e ih
@@ -61,19 +61,19 @@ held-at-most F X (x ∷ L) = go (X x) (isIn x F) refl (held-at-most F X L)
     go false false e ih = ih
 
 held-all : (F : List Label) (X : Label → Bool) (L : List Label) → ((x : Label) → isIn x F ≡ true → X x ≡ true)
-    → forcedIn F X L ≡ length (keep (setOf F) L)
+    → requiredIn F X L ≡ length (keep (setOf F) L)
 unfolding keep
 held-all F X [] f = refl
 held-all F X (x ∷ L) f = go (X x) refl (isIn x F) refl (held-all F X L f)
   where
-    go : (a : Bool) → X x ≡ a → (b : Bool) → isIn x F ≡ b → forcedIn F X L ≡ length (keep (setOf F) L)
+    go : (a : Bool) → X x ≡ a → (b : Bool) → isIn x F ≡ b → requiredIn F X L ≡ length (keep (setOf F) L)
         → length (keep (setOf F) (cond a (x ∷ keep X L) (keep X L))) ≡ length (cond b (x ∷ keep (setOf F) L) (keep (setOf F) L))
     go true d true e ih = rw e (ap suc ih)
     go true d false e ih = rw e ih
     go false d true e ih = clash (f x e) d
     go false d false e ih = ih
 
-all-held : (F : List Label) (X : Label → Bool) (L : List Label) → forcedIn F X L ≡ length (keep (setOf F) L)
+all-held : (F : List Label) (X : Label → Bool) (L : List Label) → requiredIn F X L ≡ length (keep (setOf F) L)
     → (x : Label) → isIn x L ≡ true → isIn x F ≡ true → X x ≡ true
 unfolding keep
 all-held F X [] h x m k = in-nil x m
@@ -82,7 +82,7 @@ all-held F X (y ∷ L) h x m k = go (X y) refl (isIn y F) refl h (in-cases x y L
     go : (a : Bool) → X y ≡ a → (b : Bool) → isIn y F ≡ b
         → length (keep (setOf F) (cond a (y ∷ keep X L) (keep X L))) ≡ length (cond b (y ∷ keep (setOf F) L) (keep (setOf F) L))
         → (x ≡ y) ⊎ (isIn x L ≡ true)
-        → (forcedIn F X L ≡ length (keep (setOf F) L) → (z : Label) → isIn z L ≡ true → isIn z F ≡ true → X z ≡ true) → X x ≡ true
+        → (requiredIn F X L ≡ length (keep (setOf F) L) → (z : Label) → isIn z L ≡ true → isIn z F ≡ true → X z ≡ true) → X x ≡ true
     go true d b e g (inl c) ih = rw c d
     go true d true e g (inr l) ih = ih (omega (arith, rw e at g)) x l k
     go true d false e g (inr l) ih = ih (rw e at g) x l k
@@ -90,24 +90,24 @@ all-held F X (y ∷ L) h x m k = go (X y) refl (isIn y F) refl h (in-cases x y L
     go false d false e g (inl c) ih = clash (rw c at k) e
     go false d false e g (inr l) ih = ih g x l k
 
--- a set weighs 128 for each forced label that it holds and 1 for each other
+-- a set weighs 128 for each required label that it holds and 1 for each other
 pub set-weight : (s : Tree) (F : List Label) (X : Label → Bool)
-    → weightIn (forcing F) s X ≡ forcedUnit * forcedIn F X (leaves s) + othersIn F X (leaves s)
+    → weightIn (unitIn F) s X ≡ requiredUnit * requiredIn F X (leaves s) + othersIn F X (leaves s)
 unfolding weightIn
-set-weight s F X = omega (arith, weigh-forcing F (keep X (leaves s)), keep-parts (setOf F) (keep X (leaves s)))
+set-weight s F X = omega (arith, weigh-units F (keep X (leaves s)), keep-parts (setOf F) (keep X (leaves s)))
 
 module _ (s t : Tree) (F : List Label) (M : ℕ) (ds : distinct (leaves s) ≡ true) (few : length (leaves s) ≤ leafLimit)
-    (inc : increasing F ≡ true) (common′ : Common s t (setOf F)) (great : Greatest (forcing F) s t M) where
-  forced-count : length (keep (setOf F) (leaves s)) ≡ length F
+    (inc : increasing F ≡ true) (common′ : Common s t (setOf F)) (great : Greatest (unitIn F) s t M) where
+  required-count : length (keep (setOf F) (leaves s)) ≡ length F
   unfolding holds
-  forced-count = count-held F (leaves s) inc ds (λ x m. common′ x m .0)
+  required-count = count-held F (leaves s) inc ds (λ x m. common′ x m .0)
 
   list-size : (Y : List Label) → Allowed s t F Y → length (keep (setOf Y) (leaves s)) ≡ length Y
   unfolding holds
   list-size Y p = count-held Y (leaves s) (p .ordered) ds (λ x m. p .commonLeaves x m .0)
 
   -- what an allowed set weighs
-  pub list-weight : (Y : List Label) → Allowed s t F Y → weightIn (forcing F) s (setOf Y) ≡ 127 * length F + length Y
+  pub list-weight : (Y : List Label) → Allowed s t F Y → weightIn (unitIn F) s (setOf Y) ≡ 127 * length F + length Y
   list-weight Y p =
       omega (
         arith,
@@ -115,40 +115,40 @@ module _ (s t : Tree) (F : List Label) (M : ℕ) (ds : distinct (leaves s) ≡ t
         list-size Y p,
         keep-parts (setOf F) (keep (setOf Y) (leaves s)),
         held-all F (setOf Y) (leaves s) (p .required),
-        forced-count,
+        required-count,
       )
 
   list-bound : (Y : List Label) → Allowed s t F Y → 127 * length F + length Y ≤ M
   list-bound Y p = omega (arith, great .bound (setOf Y) (p .commonLeaves) (p .agreed), list-weight Y p)
 
-  -- the set that reaches the greatest weight: what its forced labels and others say
-  record Split (forced others : ℕ) : Type 0 where
-    weight : M ≡ forcedUnit * forced + others
-    atMost : forced ≤ length F
-    size : length (keep (great .set) (leaves s)) ≡ forced + others
-    fewer : forced + others ≤ leafLimit
+  -- the set that reaches the greatest weight: what its required labels and others say
+  record Split (required others : ℕ) : Type 0 where
+    weight : M ≡ requiredUnit * required + others
+    atMost : required ≤ length F
+    size : length (keep (great .set) (leaves s)) ≡ required + others
+    fewer : required + others ≤ leafLimit
 
-  split : Split (forcedIn F (great .set) (leaves s)) (othersIn F (great .set) (leaves s))
+  split : Split (requiredIn F (great .set) (leaves s)) (othersIn F (great .set) (leaves s))
   split = record {
     weight = sym (great .reached) ∙ set-weight s F (great .set);
-    atMost = omega (arith, held-at-most F (great .set) (leaves s), forced-count);
+    atMost = omega (arith, held-at-most F (great .set) (leaves s), required-count);
     size = keep-parts (setOf F) (keep (great .set) (leaves s));
     fewer = omega (arith, keep-parts (setOf F) (keep (great .set) (leaves s)), keep-parts (great .set) (leaves s));
   }
 
-  -- a set that holds every forced label is there only if the greatest weight counts them all
-  pub forced-held : (Y : List Label) → Allowed s t F Y → M / forcedUnit ≡ length F
-  forced-held Y p = omega (arith, list-bound Y p, split .weight, split .atMost, split .size, split .fewer)
+  -- a set that holds every required label is there only if the greatest weight counts them all
+  pub required-held : (Y : List Label) → Allowed s t F Y → M / requiredUnit ≡ length F
+  required-held Y p = omega (arith, list-bound Y p, split .weight, split .atMost, split .size, split .fewer)
 
   -- and then no such set is larger than this
-  pub forced-bound : (Y : List Label) → Allowed s t F Y → length Y ≤ M / forcedUnit + M % forcedUnit
-  forced-bound Y p = omega (arith, list-bound Y p, forced-held Y p, split .weight, split .atMost, split .size, split .fewer)
+  pub required-bound : (Y : List Label) → Allowed s t F Y → length Y ≤ M / requiredUnit + M % requiredUnit
+  required-bound Y p = omega (arith, list-bound Y p, required-held Y p, split .weight, split .atMost, split .size, split .fewer)
 
   -- and the set that reaches the greatest weight is as large
-  pub forced-reached : M / forcedUnit ≡ length F
-      → Allowed s t F (keep (great .set) (common s t)) × (length (keep (great .set) (common s t)) ≡ M / forcedUnit + M % forcedUnit)
+  pub required-reached : M / requiredUnit ≡ length F
+      → Allowed s t F (keep (great .set) (common s t)) × (length (keep (great .set) (common s t)) ≡ M / requiredUnit + M % requiredUnit)
   unfolding holds
-  forced-reached e = (allowed′, omega (arith, list-size Y allowed′, size, split .weight, split .atMost, split .size, split .fewer))
+  required-reached e = (allowed′, omega (arith, list-size Y allowed′, size, split .weight, split .atMost, split .size, split .fewer))
     where
       Y : List Label
       Y = keep (great .set) (common s t)
@@ -159,8 +159,8 @@ module _ (s t : Tree) (F : List Label) (M : ℕ) (ds : distinct (leaves s) ≡ t
       size : length (keep (setOf Y) (leaves s)) ≡ length (keep (great .set) (leaves s))
       size = ap (λ (X : Label → Bool). length (keep X (leaves s))) same
 
-      held : forcedIn F (great .set) (leaves s) ≡ length (keep (setOf F) (leaves s))
-      held = omega (arith, e, forced-count, split .weight, split .atMost, split .size, split .fewer)
+      held : requiredIn F (great .set) (leaves s) ≡ length (keep (setOf F) (leaves s))
+      held = omega (arith, e, required-count, split .weight, split .atMost, split .size, split .fewer)
 
       allowed′ : Allowed s t F Y
       allowed′ = record {

@@ -6,7 +6,7 @@ pub mod Sets
 pub mod Weights
 pub mod Answer
 pub mod Demand
-pub mod Outcome
+pub mod RightAnswer
 pub mod Greatest
 pub mod Powers
 pub mod Starred

@@ -5,7 +5,7 @@ use mathlib.Core.Bool.{Bool, cond}
 use mathlib.Core.List.{List, [], _∷_}
 use lib.Dec.{leb}
 use Rattle.trees.specs.Label.{Label, sameLabel}
-use Rattle.agreement.specs.Weights.{forcing}
+use Rattle.agreement.specs.Weights.{unitIn}
 
 unfoldable pub power : ℕ → ℕ
 power zero = 1
@@ -35,5 +35,5 @@ decode (suc n) (c ∷ C) p = cond (leb (power n) p) (c ∷ decode n C (p - power
 
 -- the weight of a label: units for size and required labels F, and its power among the common labels C
 unfoldable pub telling : ℕ → List Label → List Label → Label → ℕ
-unfolding forcing sumIn
-telling n F C x = forcing F x * whole + powerIn n C x
+unfolding unitIn sumIn
+telling n F C x = unitIn F x * whole + powerIn n C x

@@ -18,12 +18,12 @@ unfoldable pub weightIn : (Label → ℕ) → Tree → (Label → Bool) → ℕ
 unfolding weigh keep leaves
 weightIn w t X = weigh w (keep X (leaves t))
 
--- a forced label weighs more than all others together, since a tree has at most 80 leaves
-abbrev pub forcedUnit : ℕ
-forcedUnit = 128
+-- a required label weighs more than all others together, since a tree has at most 80 leaves
+abbrev pub requiredUnit : ℕ
+requiredUnit = 128
 
-unfoldable pub forcing : List Label → Label → ℕ
-forcing F x = cond (isIn x F) forcedUnit 1
+unfoldable pub unitIn : List Label → Label → ℕ
+unitIn F x = cond (isIn x F) requiredUnit 1
 
 -- the greatest weight of a set on which two trees agree: below one child of either, or the children paired in one of two ways
 unfoldable pub best : (Label → ℕ) → Tree → Tree → ℕ

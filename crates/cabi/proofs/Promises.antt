@@ -2,11 +2,9 @@
 use Prim.Native.Nat.{ℕ, _+_, _≤_, _<_}
 use mathlib.Core.Path.{_≡_, refl}
 use mathlib.Core.Bool.{true}
-use mathlib.Core.List.{List, map}
-use mathlib.Core.Option.{some}
+use mathlib.Core.List.{List}
 use lib.ListN.{length}
-use Rattle.trees.specs.declared.Reason.the-variants.{Disagree, Contents, ClaimDisagrees}
-use Rattle.trees.specs.declared.Body.the-variants.{K, C, J}
+use Rattle.trees.specs.declared.Body.the-variants.{K, C}
 use Rattle.trees.specs.declared.Refusal.{Refusal}
 use Rattle.trees.specs.Label.{Label}
 use Rattle.trees.specs.Token.{Token}
@@ -17,37 +15,38 @@ use Rattle.trees.specs.Edition.{keyed}
 use Rattle.lists.specs.ReadList.{foldedList, keysOf}
 use Rattle.agreement.specs.Closer.{Common}
 use Rattle.agreement.specs.Sets.{setOf}
-use Rattle.agreement.specs.Places.{placeOfLabel, nameIn}
+use Rattle.agreement.specs.Places.{placeOfLabel}
 use Rattle.agreement.specs.Demand.{IsDisagreement}
 use Rattle.contents.specs.Contents.{layoutOf, bodyPlace}
-use Rattle.mast.specs.Given.{Reads, SetGiven}
-use Rattle.mast.specs.Largest.{turned, Task, task, plain, solve}
+use Rattle.pairs.specs.Outcome.{refused, naming, found, trio}
+use Rattle.mast.specs.Query.{Task, task, plain, eight}
+use Rattle.mast.specs.Largest.{Solution, solution, solutionText, tooShort, solve}
+use Rattle.mast.specs.Reads.{Reads, SetGiven}
 use Rattle.claims.specs.Claim.{IsClaim, claimDisagrees, Clear, VerdictIs}
-use Rattle.claims.specs.Judge.{declined, ReadsClaim, judge}
-use Rattle.mast.specs.declared.Options.{Options}
-use Rattle.job.specs.Printed as printed
-use Rattle.job.specs.Printed.{recordLines, claimLine}
-use Rattle.job.specs.Answered.{outputShort, answerTo}
-use Rattle.job.specs.Outcome.{JobOutcome}
-use Rattle.cabi.specs.Numbers.{succeeded, disagreed, refusedWith, numbersOf, optionsOf, unknownFlags, solveWith, claimNumbers, judgeWith, jobNumbers}
+use Rattle.claims.specs.Judge.{ReadsClaim, fourteen, judge}
+use Rattle.pairs.specs.declared.Options.{Options}
+use Rattle.job.specs.Printed.{solved, passed, setReply, claimReply, claimLine, replyLines}
+use Rattle.job.specs.Answered.{answerTo}
+use Rattle.job.specs.JobOutcome.{JobOutcome}
+use Rattle.cabi.specs.Numbers.{succeeded, namingWith, refusedWith, numbersOf, claimNumbers, jobNumbers, unknownFlags, optionsOf, solveWith, judgeWith}
 use Rattle.cabi.proofs.HostLaws
 
 -- Two trees and a list, with any options. Demand 3: number 0, the size of the answer, the length of its text.
 module _ (q : Task) (room : ℕ) where
   module _ (s t : Tree) (xs : List Token) (reads : Reads q s t xs) where
-    pub set-promise : (X : List Label) (text : List ℕ) → SetGiven (q .options .edition) s t xs X text room
-        → numbersOf (solve q room) ≡ succeeded (length X) (length text)
+    pub set-promise : (X : List Label) → SetGiven (q .options .edition) s t xs X room
+        → numbersOf (solve q room) ≡ succeeded (length X) (length (solutionText (solution (q .options .edition) s X)))
     set-promise = HostLaws.set-numbers q room s t xs reads
 
     -- Number 8 comes with the places of its three labels in the list.
     pub eight-promise : (a b c : Label) → Common (keyed (q .options .edition) s) (keyed (q .options .edition) t) (setOf (keysOf (q .options .edition) xs))
         → IsDisagreement (keyed (q .options .edition) s) (keyed (q .options .edition) t) (keysOf (q .options .edition) xs) a b c
-        → numbersOf (solve q room) ≡ disagreed Disagree K (placeOfLabel (foldedList (q .options .edition) xs) 0 a) (placeOfLabel (foldedList (q .options .edition) xs) 0 b)
+        → numbersOf (solve q room) ≡ namingWith eight (placeOfLabel (foldedList (q .options .edition) xs) 0 a) (placeOfLabel (foldedList (q .options .edition) xs) 0 b)
         (placeOfLabel (foldedList (q .options .edition) xs) 0 c)
     eight-promise = HostLaws.eight-numbers q room s t xs reads
 
   -- Any other refusal: its number, letter and place.
-  pub refusal-promise : (p : Refusal) → solve q room ≡ turned p → numbersOf (solve q room) ≡ refusedWith p
+  pub refusal-promise : (p : Refusal) → solve q room ≡ refused p → numbersOf (solve q room) ≡ refusedWith p
   refusal-promise = HostLaws.refusal-numbers q room
 
 -- Flags: 0 for none, 1 for `strict`, 2 for edition 2, 3 for both. Any other number is refused with 10, J 0.
@@ -68,23 +67,23 @@ module _ (first second required : List ℕ) (room : ℕ) where
   unfolding solveWith
   both-flags = refl
 
-  pub unknown-flags : (flags : ℕ) → 3 < flags → solveWith flags first second required room ≡ turned (record { reason = Contents; body = J; place = 0 })
-  unknown-flags = HostLaws.flags-refused first second required room
+  pub unknown-flags : (flags : ℕ) → 3 < flags → solveWith flags first second required room ≡ refused unknownFlags
+  unknown-flags flags = HostLaws.flags-refused flags first second required room
 
 -- 8 and 14 in the papers' numbers: K is the byte 75 and C 67
 pub numbers-told : (a b c : ℕ)
-    → (disagreed Disagree K a b c
+    → (namingWith eight a b c
     ≡ record { number = 8; letter = 75; place = 0; size = 0; length = 0; first = a; second = b; third = c })
-    × (disagreed ClaimDisagrees C a b c
+    × (namingWith fourteen a b c
     ≡ record { number = 14; letter = 67; place = 0; size = 0; length = 0; first = a; second = b; third = c })
-unfolding disagreed
+unfolding namingWith
 numbers-told a b c = (refl, refl)
 
 -- C-16, a claim: its size exactly as the claim passes, or the row of its judgement; flags as above
 pub claim-promise : (q : Task) (claim : List ℕ) (s t : Tree) (xs ys : List Token) → ReadsClaim q claim s t xs ys
     → IsClaim (keyed (q .options .edition) s) (keyed (q .options .edition) t) (keysOf (q .options .edition) xs) (keysOf (q .options .edition) ys)
     → claimNumbers (judge q claim) ≡ succeeded (length ys) 0
-claim-promise = HostLaws.claim-size
+claim-promise q claim s t xs ys = HostLaws.claim-size q claim s t xs ys
 
 module _ (q : Task) (claim : List ℕ) where
   module _ (s t : Tree) (xs ys : List Token) (read : ReadsClaim q claim s t xs ys) where
@@ -92,7 +91,7 @@ module _ (q : Task) (claim : List ℕ) where
     pub claim-eight-promise : (a b c : Label)
         → Common (keyed (q .options .edition) s) (keyed (q .options .edition) t) (setOf (keysOf (q .options .edition) xs))
         → IsDisagreement (keyed (q .options .edition) s) (keyed (q .options .edition) t) (keysOf (q .options .edition) xs) a b c
-        → claimNumbers (judge q claim) ≡ disagreed Disagree K (placeOfLabel (foldedList (q .options .edition) xs) 0 a)
+        → claimNumbers (judge q claim) ≡ namingWith eight (placeOfLabel (foldedList (q .options .edition) xs) 0 a)
         (placeOfLabel (foldedList (q .options .edition) xs) 0 b) (placeOfLabel (foldedList (q .options .edition) xs) 0 c)
     claim-eight-promise = HostLaws.claim-eight q claim s t xs ys read
 
@@ -100,49 +99,50 @@ module _ (q : Task) (claim : List ℕ) where
         → Clear (keyed (q .options .edition) s) (keyed (q .options .edition) t) (keysOf (q .options .edition) xs)
         → VerdictIs (keyed (q .options .edition) s) (keyed (q .options .edition) t) (keysOf (q .options .edition) xs) (keysOf (q .options .edition) ys)
         (claimDisagrees a b c)
-        → claimNumbers (judge q claim) ≡ disagreed ClaimDisagrees C (placeOfLabel (foldedList (q .options .edition) ys) 0 a)
+        → claimNumbers (judge q claim) ≡ namingWith fourteen (placeOfLabel (foldedList (q .options .edition) ys) 0 a)
         (placeOfLabel (foldedList (q .options .edition) ys) 0 b) (placeOfLabel (foldedList (q .options .edition) ys) 0 c)
     claim-fourteen-promise = HostLaws.claim-fourteen q claim s t xs ys read
 
   -- Any other refusal: its number, letter and place.
-  pub claim-refusal-promise : (p : Refusal) → judge q claim ≡ declined p → claimNumbers (judge q claim) ≡ refusedWith p
+  pub claim-refusal-promise : (p : Refusal) → judge q claim ≡ refused p → claimNumbers (judge q claim) ≡ refusedWith p
   claim-refusal-promise = HostLaws.claim-refusal q claim
 
-pub claim-flags : (first second required claim : List ℕ) (flags : ℕ) (o : Options) → some o ≡ optionsOf flags
+pub claim-flags : (first second required claim : List ℕ) (flags : ℕ) (o : Options) → found o ≡ optionsOf flags
     → judgeWith flags first second required claim ≡ judge (task o first second required) claim
-claim-flags = HostLaws.claim-flags-known
+claim-flags first second required claim flags = HostLaws.claim-flags-known flags first second required claim
 
 pub claim-unknown-flags : (first second required claim : List ℕ) (flags : ℕ) → 3 < flags
-    → judgeWith flags first second required claim ≡ declined unknownFlags
-claim-unknown-flags = HostLaws.claim-flags-refused
+    → judgeWith flags first second required claim ≡ refused unknownFlags
+claim-unknown-flags first second required claim flags = HostLaws.claim-flags-refused flags first second required claim
 
 -- A job: the length of its lines, or number 9 if the output has fewer bytes.
 module _ (bytes : List ℕ) (room : ℕ) where
-  pub job-promise : (e : Edition) (s : Tree) (X : List Label) (text : List ℕ) → JobOutcome bytes (printed.solved e s X text) → length (recordLines (map (nameIn e s) X) text) ≤ room
-      → jobNumbers (answerTo bytes room) ≡ succeeded 0 (length (recordLines (map (nameIn e s) X) text))
-  job-promise = HostLaws.job-numbers bytes room
+  pub job-promise : (r : Solution) → JobOutcome bytes (setReply r) → length (replyLines (solved r)) ≤ room
+      → jobNumbers (answerTo bytes room) ≡ succeeded 0 (length (replyLines (solved r)))
+  job-promise r = HostLaws.reply-numbers bytes room (solved r)
 
-  pub job-nine-promise : (e : Edition) (s : Tree) (X : List Label) (text : List ℕ) → JobOutcome bytes (printed.solved e s X text) → room < length (recordLines (map (nameIn e s) X) text)
-      → jobNumbers (answerTo bytes room) ≡ refusedWith outputShort
-  job-nine-promise = HostLaws.job-nine-numbers bytes room
+  pub job-nine-promise : (r : Solution) → JobOutcome bytes (setReply r) → room < length (replyLines (solved r))
+      → jobNumbers (answerTo bytes room) ≡ refusedWith tooShort
+  job-nine-promise r = HostLaws.nine-numbers bytes room (solved r)
 
   -- Number 8 comes with the places of its three labels in the job's list.
-  pub job-eight-promise : (e : Edition) (s : Tree) (xs : List Token) (a b c : Label) → JobOutcome bytes (printed.clashed e s xs a b c)
+  pub job-eight-promise : (e : Edition) (s : Tree) (xs : List Token) (a b c : Label) → JobOutcome bytes (naming eight (trio e s xs a b c))
       → jobNumbers (answerTo bytes room)
-      ≡ disagreed Disagree K (bodyPlace K (layoutOf bytes) + placeOfLabel (foldedList e xs) 0 a) (bodyPlace K (layoutOf bytes) + placeOfLabel (foldedList e xs) 0 b)
+      ≡ namingWith eight (bodyPlace K (layoutOf bytes) + placeOfLabel (foldedList e xs) 0 a) (bodyPlace K (layoutOf bytes) + placeOfLabel (foldedList e xs) 0 b)
       (bodyPlace K (layoutOf bytes) + placeOfLabel (foldedList e xs) 0 c)
   job-eight-promise = HostLaws.job-eight-numbers bytes room
 
   -- C-16: the line of a claim that passes. Number 14 comes with the places of its three labels in the job's claim.
-  pub job-claim-promise : (n : ℕ) → JobOutcome bytes (printed.passed n) → length (claimLine n) ≤ room
+  pub job-claim-promise : (n : ℕ) → JobOutcome bytes (claimReply n) → length (claimLine n) ≤ room
       → jobNumbers (answerTo bytes room) ≡ succeeded 0 (length (claimLine n))
-  job-claim-promise = HostLaws.job-claim-numbers bytes room
+  unfolding replyLines
+  job-claim-promise n = HostLaws.reply-numbers bytes room (passed n)
 
-  pub job-fourteen-promise : (e : Edition) (s : Tree) (ys : List Token) (a b c : Label) → JobOutcome bytes (printed.apart e s ys a b c)
+  pub job-fourteen-promise : (e : Edition) (s : Tree) (ys : List Token) (a b c : Label) → JobOutcome bytes (naming fourteen (trio e s ys a b c))
       → jobNumbers (answerTo bytes room)
-      ≡ disagreed ClaimDisagrees C (bodyPlace C (layoutOf bytes) + placeOfLabel (foldedList e ys) 0 a)
+      ≡ namingWith fourteen (bodyPlace C (layoutOf bytes) + placeOfLabel (foldedList e ys) 0 a)
       (bodyPlace C (layoutOf bytes) + placeOfLabel (foldedList e ys) 0 b) (bodyPlace C (layoutOf bytes) + placeOfLabel (foldedList e ys) 0 c)
   job-fourteen-promise = HostLaws.job-fourteen-numbers bytes room
 
-  pub job-refusal-promise : (q : Refusal) → JobOutcome bytes (printed.turned q) → jobNumbers (answerTo bytes room) ≡ refusedWith q
+  pub job-refusal-promise : (q : Refusal) → JobOutcome bytes (refused q) → jobNumbers (answerTo bytes room) ≡ refusedWith q
   job-refusal-promise = HostLaws.job-refusal-numbers bytes room

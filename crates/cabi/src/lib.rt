@@ -3,20 +3,21 @@
 // No function has a `requires`. A struct of numbers is returned by value: every answer is a few numbers, and a host reads them by name. A
 // packed number would have to be taken apart.
 ghost use mathlib.Core.Path.{_≡_};
-ghost use mathlib.Core.Option.{some};
 ghost use Prim.Native.Nat.{_≤_};
 ghost use lib.Dec.{leb};
 ghost use lib.ListN.{length};
-ghost use Rattle.mast.specs.Largest.{task, plain, solve, outputOf};
+ghost use Rattle.pairs.specs.Outcome.{found};
+ghost use Rattle.mast.specs.Query.{task, plain};
+ghost use Rattle.mast.specs.Largest.{solve, outputOf};
 ghost use Rattle.job.specs.Printed.{solveJob};
 ghost use Rattle.job.specs.Answered.{answerTo, jobOutput};
-ghost use Rattle.cabi.specs.Numbers.{succeeded, disagreed, refusedWith, numbersOf, optionsOf, unknownFlags, solveWith};
-ghost use Rattle.cabi.specs.Numbers.{claimNumbers, judgeWith, namedIn, jobNumbers};
+ghost use Rattle.cabi.specs.Numbers.{succeeded, namingWith, namedWith, refusedWith, numbersOf, claimNumbers, jobNumbers};
+ghost use Rattle.cabi.specs.Numbers.{unknownFlags, optionsOf, solveWith, judgeWith};
 use claims::ClaimAnswer;
 use job::JobAnswer;
-use job::Named;
 use mast::LargestAnswer;
-use mast::Options;
+use mast::Named;
+use pairs::Options;
 use trees::Body;
 use trees::Edition;
 use trees::Reason;
@@ -59,27 +60,9 @@ fn succeeded(size: usize, length: usize) -> AgreeResult
     }
 }
 
-// Number 8 for the list, or 14 for the claim, with the places of its three labels.
-fn disagreed(reason: Reason, body: Body, a: usize, b: usize, c: usize) -> AgreeResult
-    ensures { λ r. ⌜ r ≡ disagreed reason body a b c ⌝ }
-{
-    let number = trees::number(reason) as usize;
-    let letter = trees::letter(body) as usize;
-    AgreeResult {
-        number,
-        letter,
-        place: 0,
-        size: 0,
-        length: 0,
-        first: a,
-        second: b,
-        third: c,
-    }
-}
-
-// Any other refusal.
-fn refused_with(refusal: Refusal) -> AgreeResult
-    ensures { λ r. ⌜ r ≡ refusedWith refusal ⌝ }
+// The numbers of a refusal, with three places.
+fn row(refusal: Refusal, first: usize, second: usize, third: usize) -> AgreeResult
+    ensures { λ r. ⌜ r ≡ namingWith refusal first second third ⌝ }
 {
     let reason = refusal.reason;
     let body = refusal.body;
@@ -91,10 +74,27 @@ fn refused_with(refusal: Refusal) -> AgreeResult
         place: refusal.place,
         size: 0,
         length: 0,
-        first: 0,
-        second: 0,
-        third: 0,
+        first,
+        second,
+        third,
     }
+}
+
+// Number 8 or 14, with the places of the three labels that it names.
+fn named_with(refusal: Refusal, named: Named) -> AgreeResult
+    ensures { λ r. ⌜ r ≡ namedWith refusal named ⌝ }
+{
+    let one = named.first;
+    let two = named.second;
+    let three = named.third;
+    row(refusal, one.place, two.place, three.place)
+}
+
+// Any other refusal.
+fn refused_with(refusal: Refusal) -> AgreeResult
+    ensures { λ r. ⌜ r ≡ refusedWith refusal ⌝ }
+{
+    row(refusal, 0, 0, 0)
 }
 
 // The numbers of the engine's answer.
@@ -117,7 +117,7 @@ fn answered(
     let answer = result.answer;
     match answer {
         LargestAnswer::Found(size, length) => succeeded(size, length),
-        LargestAnswer::Disagree(a, b, c) => disagreed(Reason::Disagree, Body::K, a, b, c),
+        LargestAnswer::Naming(refusal, named) => named_with(refusal, named),
         LargestAnswer::Refused(refusal) => refused_with(refusal),
     }
 }
@@ -148,7 +148,7 @@ pub extern "C" fn agree_largest(
 // The options of flags of at most 3.
 fn options_of(flags: usize) -> Options
     requires { ⌜ flags ≤ 3 ⌝ }
-    ensures { λ r. ⌜ some r ≡ optionsOf flags ⌝ }
+    ensures { λ r. ⌜ found r ≡ optionsOf flags ⌝ }
 {
     if flags < EDITION_2 {
         return Options {
@@ -222,24 +222,12 @@ pub extern "C" fn agree_claim(
         return refused_with(unknown_flags());
     }
     let options = options_of(flags);
-    let result = claims::judge(options, first, second, required, claim);
-    let answer = result.answer;
+    let answer = claims::judge(options, first, second, required, claim);
     match answer {
         ClaimAnswer::Passed(size) => succeeded(size, 0),
-        ClaimAnswer::Disagree(a, b, c) => disagreed(Reason::Disagree, Body::K, a, b, c),
-        ClaimAnswer::Apart(a, b, c) => disagreed(Reason::ClaimDisagrees, Body::C, a, b, c),
+        ClaimAnswer::Naming(refusal, named) => named_with(refusal, named),
         ClaimAnswer::Refused(refusal) => refused_with(refusal),
     }
-}
-
-// Three labels of a job with different closer pairs, by their places in it.
-fn named_in(reason: Reason, body: Body, named: Named) -> AgreeResult
-    ensures { λ r. ⌜ r ≡ namedIn reason body named ⌝ }
-{
-    let one = named.first;
-    let two = named.second;
-    let three = named.third;
-    disagreed(reason, body, one.place, two.place, three.place)
 }
 
 // The answer to a job; its lines go into `out`. The size is in the first of them, or in the only one for a job with a claim.
@@ -251,8 +239,7 @@ pub extern "C" fn agree_job(bytes: &[u8], out: &mut [u8]) -> AgreeResult
     let answer = job::answer_job(bytes, out);
     match answer {
         JobAnswer::Written(length) => succeeded(0, length),
-        JobAnswer::Disagree(named) => named_in(Reason::Disagree, Body::K, named),
-        JobAnswer::Apart(named) => named_in(Reason::ClaimDisagrees, Body::C, named),
+        JobAnswer::Naming(refusal, named) => named_with(refusal, named),
         JobAnswer::Refused(refusal) => refused_with(refusal),
     }
 }

@@ -16,12 +16,12 @@ use Rattle.agreement.specs.Closer.{Agree, Common}
 use Rattle.agreement.specs.Sets.{sorted, setOf}
 use Rattle.agreement.specs.Answer.{Answer, firstLacks, secondLacks, disagree, largest, largestSet, answer}
 use Rattle.agreement.specs.Demand.{Allowed, IsAnswer}
-use Rattle.agreement.specs.Outcome.{Outcome}
+use Rattle.agreement.specs.RightAnswer.{RightAnswer}
 use Rattle.agreement.proofs.SetLaws.{in-sorted, length-sorted, sorted-inc, inc-distinct}
 use Rattle.agreement.proofs.AnswerLaws.{agree-no-clash}
 use Rattle.agreement.proofs.Promises as agreement
 use Rattle.mast.specs.Compare.{missing}
-use Rattle.mast.proofs.CompareLaws.{Missed, missed-is, one-missing, none-missing}
+use Rattle.mast.proofs.MissingLaws.{Missed, missed-is, one-missing, none-missing}
 use Rattle.claims.specs.Claim.{HoldsRequired, IsClaim, Verdict, claimFirstLacks, claimSecondLacks, claimLacks, claimDisagrees, claimSmall, claimPasses, Clear, VerdictIs}
 
 -- what is found, by the number of claimed labels, the largest size, the first required label that is missing and the answer to the claim
@@ -32,12 +32,12 @@ unfoldable pub byMissing : Option ℕ → Verdict → Verdict
 byMissing (some n) v = claimLacks n
 byMissing none v = v
 
-unfoldable pub found : ℕ → ℕ → Option ℕ → Answer → Verdict
+unfoldable pub verdictOf : ℕ → ℕ → Option ℕ → Answer → Verdict
 unfolding bySize byMissing
-found count size missed (firstLacks n) = claimFirstLacks n
-found count size missed (secondLacks n) = claimSecondLacks n
-found count size missed (disagree a b c) = byMissing missed (claimDisagrees a b c)
-found count size missed (largest Z) = byMissing missed (bySize count size)
+verdictOf count size missed (firstLacks n) = claimFirstLacks n
+verdictOf count size missed (secondLacks n) = claimSecondLacks n
+verdictOf count size missed (disagree a b c) = byMissing missed (claimDisagrees a b c)
+verdictOf count size missed (largest Z) = byMissing missed (bySize count size)
 
 -- ---- sets
 
@@ -90,7 +90,7 @@ passes-clear s t K Y k = record {
 module _ (s t : Tree) (K Y : List Label) (proper : Proper s) (different : distinct Y ≡ true) (X : List Label)
     (given : IsAnswer s t K X) where
   -- the answer to the claim as a list
-  told : (A : Answer) → answer s t Y ≡ A → Outcome s t Y A
+  told : (A : Answer) → answer s t Y ≡ A → RightAnswer s t Y A
   told A = agreement.answer-promise s t Y proper different A .0
 
   -- a set that agrees on the claim's labels is the answer exactly if both trees hold them and agree on them
@@ -132,11 +132,11 @@ module _ (s t : Tree) (K Y : List Label) (proper : Proper s) (different : distin
       go none g = f g
       go (some n) g = (c, g)
 
-  pub found-is : VerdictIs s t K Y (found (length Y) (length X) (missing K Y 0) (answer s t Y))
-  unfolding found
-  found-is = go (answer s t Y) refl
+  pub verdict-is : VerdictIs s t K Y (verdictOf (length Y) (length X) (missing K Y 0) (answer s t Y))
+  unfolding verdictOf
+  verdict-is = go (answer s t Y) refl
     where
-      go : (A : Answer) → answer s t Y ≡ A → VerdictIs s t K Y (found (length Y) (length X) (missing K Y 0) A)
+      go : (A : Answer) → answer s t Y ≡ A → VerdictIs s t K Y (verdictOf (length Y) (length X) (missing K Y 0) A)
       go (firstLacks n) h = told (firstLacks n) h
       go (secondLacks n) h = told (secondLacks n) h
       go (disagree a b c) h =
@@ -158,25 +158,25 @@ module _ (s t : Tree) (K Y : List Label) (proper : Proper s) (different : distin
   lacked c (disagree x y z) h f g = f x y z refl
   lacked c (largest Z) h f g = g Z refl
 
-  found-agreed : HoldsRequired K Y → Common s t (setOf Y) → Agree s t (setOf Y)
-      → found (length Y) (length X) (missing K Y 0) (answer s t Y) ≡ bySize (length Y) (length X)
-  unfolding found byMissing
-  found-agreed r c a = rw (agreed-answer c a, none-missing K Y r) refl
+  verdict-agreed : HoldsRequired K Y → Common s t (setOf Y) → Agree s t (setOf Y)
+      → verdictOf (length Y) (length X) (missing K Y 0) (answer s t Y) ≡ bySize (length Y) (length X)
+  unfolding verdictOf byMissing
+  verdict-agreed r c a = rw (agreed-answer c a, none-missing K Y r) refl
 
-  pub found-only : (v : Verdict) → VerdictIs s t K Y v → found (length Y) (length X) (missing K Y 0) (answer s t Y) ≡ v
-  unfolding found byMissing bySize
-  found-only (claimFirstLacks n) h = rw (agreement.six-promise s t Y proper different n .1 h) refl
-  found-only (claimSecondLacks n) h = rw (agreement.seven-promise s t Y proper different n .1 h) refl
-  found-only (claimLacks n) h =
+  pub verdict-only : (v : Verdict) → VerdictIs s t K Y v → verdictOf (length Y) (length X) (missing K Y 0) (answer s t Y) ≡ v
+  unfolding verdictOf byMissing bySize
+  verdict-only (claimFirstLacks n) h = rw (agreement.six-promise s t Y proper different n .1 h) refl
+  verdict-only (claimSecondLacks n) h = rw (agreement.seven-promise s t Y proper different n .1 h) refl
+  verdict-only (claimLacks n) h =
       lacked (h .0) (answer s t Y) refl (λ a b c e. rw (e, one-missing K Y n (h .1)) refl)
       (λ Z e. rw (e, one-missing K Y n (h .1)) refl)
-  found-only (claimDisagrees a b c) h =
+  verdict-only (claimDisagrees a b c) h =
       rw (agreement.eight-names s t Y proper different a b c (h .0) .1 (h .2), none-missing K Y (h .1)) refl
-  found-only claimSmall h =
+  verdict-only claimSmall h =
       let w = h .3 in
-      found-agreed (h .1) (h .0) (h .2)
+      verdict-agreed (h .1) (h .0) (h .2)
       ∙ rw (lt-ltb (length Y) (length X) (omega (arith, w .more, given .largestSize (w .larger) (w .allowed)))) refl
-  found-only (claimPasses n) h =
+  verdict-only (claimPasses n) h =
       let w = h .0 in
-      found-agreed (w .required) (w .commonLeaves) (w .agreed)
+      verdict-agreed (w .required) (w .commonLeaves) (w .agreed)
       ∙ rw (le-ltb (length Y) (length X) (w .largestSize X (given .allowedSet))) (ap claimPasses (sym (h .1)))

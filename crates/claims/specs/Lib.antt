@@ -1,4 +1,3 @@
 pub mod Claim
 pub mod Judge
-pub mod Rows
-pub mod Steps
+pub mod PaperNumbers

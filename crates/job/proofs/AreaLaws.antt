@@ -15,7 +15,8 @@ use Rattle.trees.proofs.StoredLaws.{shown-back}
 use Rattle.trees.proofs.TokenLaws.{token-short}
 use Rattle.lists.specs.ReadList.{joined}
 use Rattle.job.specs.declared.LineAnswer.the-variants.{Written, TooShort}
-use Rattle.job.specs.Answered.{outputShort, lineAnswer, lineOutput, labelIn}
+use Rattle.mast.specs.Largest.{tooShort}
+use Rattle.job.specs.Answered.{lineAnswer, lineOutput, labelIn}
 use Rattle.job.specs.Areas.{Put, item, labelsIn}
 use Rattle.job.specs.Printed.{itemRoom}
 
@@ -85,7 +86,7 @@ pub answer-fits : (text : List ℕ) (room n : ℕ) → length text ≤ room → 
 unfolding lineAnswer
 answer-fits text room n h e = rw (le-leb (length text) room h) (ap Written (e ∙ zero-add (length text)))
 
-pub answer-short : (text : List ℕ) (room : ℕ) → room < length text → TooShort outputShort ≡ lineAnswer text room
+pub answer-short : (text : List ℕ) (room : ℕ) → room < length text → TooShort tooShort ≡ lineAnswer text room
 unfolding lineAnswer
 answer-short text room h = rw (lt-leb (length text) room h) refl
 

@@ -2,7 +2,7 @@
 use Prim.Native.Nat.{ℕ, _≤_}
 use mathlib.Core.Path.{_≡_, refl, sym, _∙_, ap, ap₂, subst}
 use mathlib.Core.Bool.{true}
-use mathlib.Core.Logic.{_↔_}
+use mathlib.Core.Logic.{_⊎_, inl, inr, _↔_}
 use mathlib.Core.List.{List, [], _∷_, map}
 use mathlib.Core.Option.{some}
 use native.Mathlib.Omega.{arith}
@@ -27,18 +27,21 @@ use Rattle.agreement.specs.Places.{spelledIn, nameIn}
 use Rattle.agreement.proofs.EditionText.{one-text-in, spelled-good}
 use Rattle.agreement.proofs.SetLaws.{within-few}
 use Rattle.claims.specs.Claim.{Verdict, claimFirstLacks, claimSecondLacks, claimLacks, claimDisagrees, claimSmall, claimPasses, Clear, VerdictIs}
-use Rattle.claims.specs.Judge.{judgementOf}
+use Rattle.claims.specs.Judge.{fourteen, judgementOf}
 use Rattle.claims.proofs.Promises.{passing-is-clear}
 use Rattle.contents.specs.Contents.{claimText, line}
 use Rattle.decimals.specs.Decimal.{decimalOf}
-use Rattle.job.specs.Printed.{JobSolution, solved, passed, clashed, apart, turned, ofJudgement, refusedWords, recordLines, threeLine, claimLine}
-use Rattle.job.specs.Printed.{eight, fourteen, eightLine, fourteenLine, solveJob, printedOf, printed}
-use Rattle.job.specs.Outcome.{Asks, SetAnswered, EightAnswered, ClaimAnswered, FourteenAnswered, JobOutcome}
-use Rattle.job.specs.Outcome.{too-long, no-contents, first-fault, second-fault, list-fault, claim-fault, stray-first, stray-second, first-lacks, second-lacks, disagreement, largest-set, judged}
+use Rattle.pairs.specs.Outcome.{Outcome, refused, naming, found, andThen, Trio, trio}
+use Rattle.mast.specs.Query.{eight}
+use Rattle.mast.specs.Largest.{Solution, solution, solutionText}
+use Rattle.job.specs.Printed.{Reply, solved, passed, setReply, claimReply, refusedWords, setLines, recordLines, namingLine, threeLine, claimLine}
+use Rattle.job.specs.Printed.{eightLine, fourteenLine, solveJob, printedOf, printed}
+use Rattle.job.specs.JobOutcome.{Asks, SetAnswered, EightAnswered, ClaimAnswered, FourteenAnswered, JobOutcome}
+use Rattle.job.specs.JobOutcome.{too-long, no-contents, first-fault, second-fault, list-fault, claim-fault, stray-first, stray-second, first-lacks, second-lacks, disagreement, largest-set, judged}
 use Rattle.job.proofs.OutcomeLaws.{outcome-exactly, claim-some}
 use Rattle.job.proofs.ReadBack.{kept-line, lines-back, refusal-no-three, three-back, claim-back}
 use Rattle.job.proofs.RoomLaws.{kept-short}
-use Rattle.job.proofs.ShownLaws.{writable-names}
+use Rattle.job.proofs.ShownLaws.{writable-names, set-printed, claim-printed, naming-printed}
 
 -- ---- what is printed of labels: few, and in forms that can be written
 
@@ -98,44 +101,56 @@ module _ {job : List ℕ} {n : ℕ} (a : ClaimAnswered job n) where
 
 -- ---- what an outcome that names a set, a size or labels means
 
-abbrev pub Meant : List ℕ → JobSolution → Type 0
-Meant job (solved e s X text) = SetAnswered job (map (nameIn e s) X) text
-Meant job (passed n) = ClaimAnswered job n
-Meant job (clashed e s xs a b c) = EightAnswered job (nameIn e s a) (nameIn e s b) (nameIn e s c)
-Meant job (apart e s ys a b c) = FourteenAnswered job (nameIn e s a) (nameIn e s b) (nameIn e s c)
-Meant job (turned q) = Prim.Unit {0}
+abbrev pub MeantFor : List ℕ → Reply → Type 0
+MeantFor job (solved r) = SetAnswered job (map (nameIn (r .edition) (r .first)) (r .set)) (solutionText r)
+MeantFor job (passed n) = ClaimAnswered job n
+
+-- three labels as the first tree spells them
+abbrev pub NamesMeant : (Label → Label → Label → Type 0) → Trio → Type 0
+NamesMeant P n =
+    P (nameIn (n .edition) (n .first) (n .labels .one)) (nameIn (n .edition) (n .first) (n .labels .two))
+    (nameIn (n .edition) (n .first) (n .labels .three))
+
+abbrev pub Meant : List ℕ → Outcome Reply → Type 0
+Meant job (found x) = MeantFor job x
+Meant job (naming q n) = ((q ≡ eight) × NamesMeant (EightAnswered job) n) ⊎ ((q ≡ fourteen) × NamesMeant (FourteenAnswered job) n)
+Meant job (refused q) = Prim.Unit {0}
 
 module _ (job : List ℕ) where
   verdict-meant : (e : Edition) (s t : Tree) (xs ys : List Token) → Asks job e s t xs (some ys) → Clear (keyed e s) (keyed e t) (keysOf e xs)
-      → (v : Verdict) → VerdictIs (keyed e s) (keyed e t) (keysOf e xs) (keysOf e ys) v → Meant job (ofJudgement (judgementOf e s xs ys v))
-  unfolding ofJudgement judgementOf
+      → (v : Verdict) → VerdictIs (keyed e s) (keyed e t) (keysOf e xs) (keysOf e ys) v → Meant job (andThen (judgementOf e s xs ys v) claimReply)
+  unfolding andThen judgementOf
   verdict-meant e s t xs ys asks clear (claimFirstLacks n) o = tt
   verdict-meant e s t xs ys asks clear (claimSecondLacks n) o = tt
   verdict-meant e s t xs ys asks clear (claimLacks n) o = tt
   verdict-meant e s t xs ys asks clear (claimDisagrees a b c) o =
-      record {
-        e = e;
-        s = s;
-        t = t;
-        xs = xs;
-        ys = ys;
-        a = a;
-        b = b;
-        c = c;
-        asked = asks;
-        clear = clear;
-        claimed = o .0;
-        holdsRequired = o .1;
-        isDisagreement = o .2;
-        one-is = refl;
-        two-is = refl;
-        three-is = refl;
-      }
+      inr (
+        refl,
+        record {
+          e = e;
+          s = s;
+          t = t;
+          xs = xs;
+          ys = ys;
+          a = a;
+          b = b;
+          c = c;
+          asked = asks;
+          clear = clear;
+          claimed = o .0;
+          holdsRequired = o .1;
+          isDisagreement = o .2;
+          one-is = refl;
+          two-is = refl;
+          three-is = refl;
+        },
+      )
   verdict-meant e s t xs ys asks clear claimSmall o = tt
   verdict-meant e s t xs ys asks clear (claimPasses n) o =
       record { e = e; s = s; t = t; xs = xs; ys = ys; asked = asks; isClaim = o .0; size = o .1 ∙ keys-count e ys }
 
-  meant : (x : JobSolution) → JobOutcome job x → Meant job x
+  meant : (x : Outcome Reply) → JobOutcome job x → Meant job x
+  unfolding solutionText
   meant x (too-long h) = tt
   meant x (no-contents h never) = tt
   meant x (first-fault b held r i f) = tt
@@ -147,22 +162,25 @@ module _ (job : List ℕ) where
   meant x (first-lacks e s t xs c asks n o) = tt
   meant x (second-lacks e s t xs c asks n o) = tt
   meant x (disagreement e s t xs z asks a b c held o) =
-      record {
-        e = e;
-        s = s;
-        t = t;
-        xs = xs;
-        a = a;
-        b = b;
-        c = c;
-        claim = z;
-        asked = asks;
-        common = held;
-        isDisagreement = o;
-        one-is = refl;
-        two-is = refl;
-        three-is = refl;
-      }
+      inl (
+        refl,
+        record {
+          e = e;
+          s = s;
+          t = t;
+          xs = xs;
+          a = a;
+          b = b;
+          c = c;
+          claim = z;
+          asked = asks;
+          common = held;
+          isDisagreement = o;
+          one-is = refl;
+          two-is = refl;
+          three-is = refl;
+        },
+      )
   meant x (largest-set e s t xs asks X o) =
       record {
         e = e;
@@ -188,7 +206,7 @@ abbrev firstByte : List ℕ → ℕ
 firstByte l = getD l 0 0
 
 record-opens : (X : List Label) (text : List ℕ) → firstByte (recordLines X text) ≡ 115
-unfolding recordLines line bytesOf
+unfolding setLines line bytesOf
 record-opens X text = refl
 
 claim-opens : (n : ℕ) → firstByte (claimLine n) ≡ 99
@@ -196,16 +214,27 @@ unfolding claimLine line bytesOf
 claim-opens n = refl
 
 three-opens : (q : Refusal) (a b c : Label) → firstByte (threeLine q a b c) ≡ 114
-unfolding threeLine refusedWords line bytesOf
+unfolding namingLine refusedWords line bytesOf
 three-opens q a b c = refl
 
-refusal-opens : (q : Refusal) → firstByte (printedOf (turned q)) ≡ 114
+refusal-opens : (q : Refusal) → firstByte (printedOf (refused q)) ≡ 114
 unfolding printedOf refusedWords line bytesOf
 refusal-opens q = refl
 
+-- what is printed of an outcome, in these forms
+naming-opens : (q : Refusal) (n : Trio) → firstByte (printedOf (naming q n)) ≡ 114
+naming-opens q n = ap firstByte (naming-printed q n) ∙ three-opens q _ _ _
+
+solved-opens : (r : Solution) → firstByte (printedOf (setReply r)) ≡ 115
+solved-opens r =
+    ap firstByte (set-printed r) ∙ record-opens (map (nameIn (r .edition) (r .first)) (r .set)) (solutionText r)
+
+passed-opens : (n : ℕ) → firstByte (printedOf (claimReply n)) ≡ 99
+passed-opens n = ap firstByte (claim-printed n) ∙ claim-opens n
+
 -- `refused 8` and `refused 14`
 eight-fourteen : (a b c x y z : Label) → eightLine a b c ≡ fourteenLine x y z → ⊥
-unfolding threeLine refusedWords line bytesOf numberOf decimalOf
+unfolding namingLine refusedWords line bytesOf numberOf decimalOf
 eight-fourteen a b c x y z e =
     let other : _≡_ {A = ℕ} 56 49 = ap (λ (l : List ℕ). getD l 8 0) e in
     omega arith
@@ -213,27 +242,24 @@ eight-fourteen a b c x y z e =
 -- ---- the lines of a set
 
 module _ (job : List ℕ) (N : List Label) (text : List ℕ) (can : writableLabels N ≡ true) where
-  set-from : (x : JobSolution) → Meant job x → printedOf x ≡ recordLines N text → SetAnswered job N text
-  unfolding printedOf
-  set-from (solved e s Y q) a k =
-      let w = lines-back N (map (nameIn e s) Y) text q can (set-writable a) (set-few a) (set-line a) (sym k) in
+  set-from : (x : Outcome Reply) → Meant job x → printedOf x ≡ recordLines N text → SetAnswered job N text
+  set-from (found (solved r)) a k =
+      let w = lines-back N _ text _ can (set-writable a) (set-few a) (set-line a) (sym k ∙ set-printed r) in
       rw (w .0, w .1) a
-  set-from (passed n) a k = absurd (omega (arith, ap firstByte k, claim-opens n, record-opens N text))
-  set-from (clashed e s xs a b c) m k =
-      absurd (omega (arith, ap firstByte k, three-opens eight (nameIn e s a) (nameIn e s b) (nameIn e s c), record-opens N text))
-  set-from (apart e s ys a b c) m k =
-      absurd (omega (arith, ap firstByte k, three-opens fourteen (nameIn e s a) (nameIn e s b) (nameIn e s c), record-opens N text))
-  set-from (turned q) m k = absurd (omega (arith, ap firstByte k, refusal-opens q, record-opens N text))
+  set-from (found (passed n)) a k = absurd (omega (arith, ap firstByte k, passed-opens n, record-opens N text))
+  set-from (naming q n) m k = absurd (omega (arith, ap firstByte k, naming-opens q n, record-opens N text))
+  set-from (refused q) m k = absurd (omega (arith, ap firstByte k, refusal-opens q, record-opens N text))
 
 pub set-lines : (job : List ℕ) (N : List Label) (text : List ℕ)
     → ((writableLabels N ≡ true) × (printed job ≡ recordLines N text)) ↔ SetAnswered job N text
-unfolding printed printedOf
+unfolding printed solutionText
 set-lines job N text = (
   λ (k : (writableLabels N ≡ true) × (printedOf (solveJob job) ≡ recordLines N text)).
       set-from job N text (k .0) (solveJob job) (job-meant job) (k .1),
   λ (a : SetAnswered job N text). (
     set-writable a,
     ap printedOf (outcome-exactly job _ .1 (largest-set (a .e) (a .s) (a .t) (a .xs) (a .asked) (a .X) (a .isAnswer)))
+        ∙ set-printed (solution (a .e) (a .s) (a .X))
         ∙ ap₂ recordLines (sym (a .spelled)) (sym (a .first-text)),
   ),
 )
@@ -241,71 +267,79 @@ set-lines job N text = (
 -- ---- the line of a claim that passes
 
 pub claim-lines : (job : List ℕ) (n : ℕ) → (printed job ≡ claimLine n) ↔ ClaimAnswered job n
-unfolding printed printedOf ofJudgement judgementOf
+unfolding printed andThen judgementOf
 claim-lines job n = (
   λ (k : printedOf (solveJob job) ≡ claimLine n). from (solveJob job) (job-meant job) k,
   λ (a : ClaimAnswered job n).
       ap printedOf (outcome-exactly job _ .1 (judged (a .e) (a .s) (a .t) (a .xs) (a .ys) (a .asked)
       (passing-is-clear (keyed (a .e) (a .s)) (keyed (a .e) (a .t)) (keysOf (a .e) (a .xs)) (keysOf (a .e) (a .ys)) (a .isClaim)) (claimPasses n)
-      (a .isClaim, a .size ∙ sym (keys-count (a .e) (a .ys))))),
+      (a .isClaim, a .size ∙ sym (keys-count (a .e) (a .ys)))))
+      ∙ claim-printed n,
 )
   where
-    from : (x : JobSolution) → Meant job x → printedOf x ≡ claimLine n → ClaimAnswered job n
-    from (solved e s Y q) a k = absurd (omega (arith, ap firstByte k, claim-opens n, record-opens (map (nameIn e s) Y) q))
-    from (passed m) a k = subst (ClaimAnswered job) (claim-back m n (omega (arith, a .size, claim-few a)) k) a
-    from (clashed e s xs a b c) m k =
-        absurd (omega (arith, ap firstByte k, three-opens eight (nameIn e s a) (nameIn e s b) (nameIn e s c), claim-opens n))
-    from (apart e s ys a b c) m k =
-        absurd (omega (arith, ap firstByte k, three-opens fourteen (nameIn e s a) (nameIn e s b) (nameIn e s c), claim-opens n))
-    from (turned q) m k = absurd (omega (arith, ap firstByte k, refusal-opens q, claim-opens n))
+    from : (x : Outcome Reply) → Meant job x → printedOf x ≡ claimLine n → ClaimAnswered job n
+    from (found (solved r)) a k = absurd (omega (arith, ap firstByte k, solved-opens r, claim-opens n))
+    from (found (passed m)) a k =
+        subst (ClaimAnswered job) (claim-back m n (omega (arith, a .size, claim-few a)) (sym (claim-printed m) ∙ k)) a
+    from (naming q m) a k = absurd (omega (arith, ap firstByte k, naming-opens q m, claim-opens n))
+    from (refused q) a k = absurd (omega (arith, ap firstByte k, refusal-opens q, claim-opens n))
 
 -- ---- the lines that name three labels
 
-module _ (job : List ℕ) (u v w : Label) where
-  module _ (can : writableLabels (u ∷ v ∷ w ∷ []) ≡ true) where
-    eight-from : (x : JobSolution) → Meant job x → printedOf x ≡ eightLine u v w → EightAnswered job u v w
-    unfolding printedOf
-    eight-from (solved e s Y q) m k = absurd (omega (arith, ap firstByte k, three-opens eight u v w, record-opens (map (nameIn e s) Y) q))
-    eight-from (passed n) m k = absurd (omega (arith, ap firstByte k, three-opens eight u v w, claim-opens n))
-    eight-from (clashed e s xs a b c) m k =
-        let z = three-back eight u v w (nameIn e s a) (nameIn e s b) (nameIn e s c) can (eight-writable m) (sym k) in
-        rw (z .0, z .1, z .2) m
-    eight-from (apart e s ys a b c) m k = absurd (eight-fourteen u v w (nameIn e s a) (nameIn e s b) (nameIn e s c) (sym k))
-    eight-from (turned q) m k = absurd (refusal-no-three q eight u v w k)
+-- the line of a refusal that is this one
+named-as : (p q : Refusal) (n : Trio) (l : List ℕ) → q ≡ p → printedOf (naming q n) ≡ l
+    → l ≡ threeLine p (nameIn (n .edition) (n .first) (n .labels .one)) (nameIn (n .edition) (n .first) (n .labels .two))
+    (nameIn (n .edition) (n .first) (n .labels .three))
+named-as p q n l e k = sym k ∙ ap (λ (r : Refusal). printedOf (naming r n)) e ∙ naming-printed p n
 
-    fourteen-from : (x : JobSolution) → Meant job x → printedOf x ≡ fourteenLine u v w → FourteenAnswered job u v w
-    unfolding printedOf
-    fourteen-from (solved e s Y q) m k = absurd (omega (arith, ap firstByte k, three-opens fourteen u v w, record-opens (map (nameIn e s) Y) q))
-    fourteen-from (passed n) m k = absurd (omega (arith, ap firstByte k, three-opens fourteen u v w, claim-opens n))
-    fourteen-from (clashed e s xs a b c) m k = absurd (eight-fourteen (nameIn e s a) (nameIn e s b) (nameIn e s c) u v w k)
-    fourteen-from (apart e s ys a b c) m k =
-        let z = three-back fourteen u v w (nameIn e s a) (nameIn e s b) (nameIn e s c) can (fourteen-writable m) (sym k) in
-        rw (z .0, z .1, z .2) m
-    fourteen-from (turned q) m k = absurd (refusal-no-three q fourteen u v w k)
+module _ (job : List ℕ) (u v w : Label) where
+  -- neither the lines of a set or a claim nor a refusal without labels
+  only-naming : (p : Refusal) (G : Type 0) (x : Outcome Reply) → Meant job x
+      → ((q : Refusal) (n : Trio) → Meant job (naming q n) → printedOf (naming q n) ≡ threeLine p u v w → G) → printedOf x ≡ threeLine p u v w → G
+  only-naming p G (found (solved r)) m f k = absurd (omega (arith, ap firstByte k, solved-opens r, three-opens p u v w))
+  only-naming p G (found (passed n)) m f k = absurd (omega (arith, ap firstByte k, passed-opens n, three-opens p u v w))
+  only-naming p G (naming q n) m f k = f q n m k
+  only-naming p G (refused q) m f k = absurd (refusal-no-three q p u v w k)
+
+  module _ (can : writableLabels (u ∷ v ∷ w ∷ []) ≡ true) where
+    eight-from : (q : Refusal) (n : Trio) → Meant job (naming q n) → printedOf (naming q n) ≡ eightLine u v w → EightAnswered job u v w
+    eight-from q n (inl m) k =
+        let z = three-back eight u v w _ _ _ can (eight-writable (m .1)) (named-as eight q n _ (m .0) k) in
+        rw (z .0, z .1, z .2) (m .1)
+    eight-from q n (inr m) k = absurd (eight-fourteen u v w _ _ _ (named-as fourteen q n _ (m .0) k))
+
+    fourteen-from : (q : Refusal) (n : Trio) → Meant job (naming q n) → printedOf (naming q n) ≡ fourteenLine u v w
+        → FourteenAnswered job u v w
+    fourteen-from q n (inl m) k = absurd (eight-fourteen _ _ _ u v w (sym (named-as eight q n _ (m .0) k)))
+    fourteen-from q n (inr m) k =
+        let z = three-back fourteen u v w _ _ _ can (fourteen-writable (m .1)) (named-as fourteen q n _ (m .0) k) in
+        rw (z .0, z .1, z .2) (m .1)
 
   pub eight-lines : ((writableLabels (u ∷ v ∷ w ∷ []) ≡ true) × (printed job ≡ eightLine u v w)) ↔ EightAnswered job u v w
-  unfolding printed printedOf
+  unfolding printed
   eight-lines = (
     λ (k : (writableLabels (u ∷ v ∷ w ∷ []) ≡ true) × (printedOf (solveJob job) ≡ eightLine u v w)).
-        eight-from (k .0) (solveJob job) (job-meant job) (k .1),
+        only-naming eight (EightAnswered job u v w) (solveJob job) (job-meant job) (eight-from (k .0)) (k .1),
     λ (k : EightAnswered job u v w). (
       eight-writable k,
       ap printedOf (outcome-exactly job _ .1
           (disagreement (k .e) (k .s) (k .t) (k .xs) (k .claim) (k .asked) (k .a) (k .b) (k .c) (k .common) (k .isDisagreement)))
+          ∙ naming-printed eight (trio (k .e) (k .s) (k .xs) (k .a) (k .b) (k .c))
           ∙ (rw (k .one-is, k .two-is, k .three-is) refl),
     ),
   )
 
   pub fourteen-lines : ((writableLabels (u ∷ v ∷ w ∷ []) ≡ true) × (printed job ≡ fourteenLine u v w)) ↔ FourteenAnswered job u v w
-  unfolding printed printedOf ofJudgement judgementOf
+  unfolding printed andThen judgementOf
   fourteen-lines = (
     λ (k : (writableLabels (u ∷ v ∷ w ∷ []) ≡ true) × (printedOf (solveJob job) ≡ fourteenLine u v w)).
-        fourteen-from (k .0) (solveJob job) (job-meant job) (k .1),
+        only-naming fourteen (FourteenAnswered job u v w) (solveJob job) (job-meant job) (fourteen-from (k .0)) (k .1),
     λ (k : FourteenAnswered job u v w). (
       fourteen-writable k,
       ap printedOf (outcome-exactly job _ .1
           (judged (k .e) (k .s) (k .t) (k .xs) (k .ys) (k .asked) (k .clear) (claimDisagrees (k .a) (k .b) (k .c))
           (k .claimed, k .holdsRequired, k .isDisagreement)))
+          ∙ naming-printed fourteen (trio (k .e) (k .s) (k .ys) (k .a) (k .b) (k .c))
           ∙ (rw (k .one-is, k .two-is, k .three-is) refl),
     ),
   )

@@ -1,24 +1,25 @@
 -- The parts of the lines, one after another, are the lines. Assumes nothing.
-use Prim.Native.Nat.{ℕ, _+_, _-_, _≤_}
-use mathlib.Core.Path.{_≡_, refl, _∙_, ap}
+use Prim.Native.Nat.{ℕ, _+_, _≤_}
+use mathlib.Core.Path.{_≡_, refl, sym, _∙_, ap}
 use mathlib.Core.List.{List, [], _∷_, _++_, map, append-assoc}
 use native.Mathlib.Omega.{arith}
-use lib.ListN.{length, take, length-append, length-take}
+use lib.ListN.{length, take, length-append, length-take, length-map}
 use Rattle.decimals.proofs.DecimalLaws.{decimal-short, from-few}
-use Rattle.job.proofs.AreaLaws.{form-short, item-short}
+use Rattle.job.proofs.AreaLaws.{put-then, form-short, item-short}
 use Rattle.trees.specs.declared.Refusal.{Refusal}
 use Rattle.trees.specs.Refusals.{numberOf, letterOf}
 use Rattle.trees.specs.Label.{Label}
 use Rattle.trees.specs.Token.{Token, tokenOf, tokenLimit}
 use Rattle.trees.specs.Tree.{leafLimit}
 use Rattle.lists.specs.ReadList.{joined}
-use Rattle.job.specs.declared.Named.{Named}
+use Rattle.mast.specs.declared.Named.{Named}
+use Rattle.pairs.specs.Outcome.{refused}
 use Rattle.job.specs.declared.LineAnswer.{LineAnswer}
 use Rattle.job.specs.declared.JobAnswer.{JobAnswer}
 use Rattle.decimals.specs.Decimal.{decimalOf}
 use Rattle.trees.specs.Words.{bytesOf}
 use Rattle.contents.specs.Contents.{line}
-use Rattle.job.specs.Printed.{itemRoom, wordsRoom, turned, refusedWords, recordLines, threeLine, claimLine, printedOf}
+use Rattle.job.specs.Printed.{itemRoom, wordsRoom, refusedWords, namingLine, setLines, recordLines, claimLine, printedOf}
 use Rattle.job.specs.Answered.{lineAnswer, lineOutput, recordAnswer, labelIn, namedLine}
 use Rattle.job.specs.Areas.{Put, item}
 
@@ -32,9 +33,11 @@ pub refusal-parts : (q : Refusal) (n l : ℕ) → n ≡ numberOf (q .reason) →
 unfolding refusedWords
 refusal-parts q n l e f = rw (e, f) (words-of (decimalOf (numberOf (q .reason))) (decimalOf (q .place)) (letterOf (q .body)))
 
-pub refusal-line-parts : (q : Refusal) → refusedWords q ++ (10 ∷ []) ≡ printedOf (turned q)
+-- the words and a line end
+pub refusal-put : {a b d : List ℕ} {i n : ℕ} (q : Refusal) → Put a 0 (refusedWords q) i b → Put b i (10 ∷ []) n d
+    → Put a 0 (printedOf (refused q)) n d
 unfolding printedOf line
-refusal-line-parts q = refl
+refusal-put q p r = put-then p r
 
 three-of : (w x y z : List ℕ)
     → w ++ (32 ∷ []) ++ item 0 x ++ item 1 y ++ item 1 z ++ (10 ∷ []) ≡ line (w ++ (32 ∷ joined (x ∷ y ∷ z ∷ [])))
@@ -48,7 +51,7 @@ pub named-parts : (job : List ℕ) (q : Refusal) (n : Named)
     ++ item 1 (tokenOf (labelIn job (n .third .start) (n .third .size)))
     ++ (10 ∷ [])
     ≡ namedLine job q n
-unfolding namedLine threeLine
+unfolding namedLine namingLine
 named-parts job q n =
     three-of (refusedWords q) (tokenOf (labelIn job (n .first .start) (n .first .size)))
     (tokenOf (labelIn job (n .second .start) (n .second .size))) (tokenOf (labelIn job (n .third .start) (n .third .size)))
@@ -61,8 +64,10 @@ lines-of n w d x j y t = simp append-assoc
 pub record-parts : (X : List Label) (tree : List ℕ) (n : ℕ) → n ≡ length X
     → bytesOf "size " ++ decimalOf n ++ (10 ∷ bytesOf "set ") ++ joined (map tokenOf X) ++ (10 ∷ bytesOf "tree ") ++ tree ++ (10 ∷ [])
     ≡ recordLines X tree
-unfolding recordLines line
-record-parts X tree n e = rw e (lines-of (10 ∷ []) (bytesOf "size ") (decimalOf (length X)) (bytesOf "set ") (joined (map tokenOf X)) (bytesOf "tree ") tree)
+unfolding setLines line
+record-parts X tree n e =
+    rw (e ∙ sym (length-map X tokenOf))
+    (lines-of (10 ∷ []) (bytesOf "size ") (decimalOf (length (map tokenOf X))) (bytesOf "set ") (joined (map tokenOf X)) (bytesOf "tree ") tree)
 
 pub claim-parts : (n : ℕ) → bytesOf "claim ok " ++ decimalOf n ++ (10 ∷ []) ≡ claimLine n
 unfolding claimLine line
@@ -86,6 +91,9 @@ words-short q =
       decimal-short (numberOf (q .reason)),
       decimal-short (q .place),
     )
+
+pub words-fit : {a b : List ℕ} {i : ℕ} (q : Refusal) → Put a 0 (refusedWords q) i b → wordsRoom + 1 ≤ length a → i + 1 ≤ length b
+words-fit q p h = omega (arith, p .ends, p .whole, words-short q, h)
 
 -- an area from 0 to n, lent as a part
 module _ {a b text : List ℕ} {n : ℕ} (p : Put a 0 text n b) where

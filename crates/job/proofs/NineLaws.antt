@@ -1,30 +1,30 @@
 -- Number 9 for a job stands only for the caller's output. Assumes nothing.
 use Prim.Native.Nat.{ℕ, _<_}
 use mathlib.Core.Path.{_≡_, refl, _∙_, ap, subst}
-use mathlib.Core.List.{List, map}
+use mathlib.Core.List.{List}
 use native.Mathlib.Omega.{arith}
 use lib.ListN.{length}
 use borrow.Author.Tests.{lt-leb}
 use Rattle.trees.specs.declared.Refusal.{Refusal}
 use Rattle.trees.specs.Refusals.{numberOf}
-use Rattle.trees.specs.Label.{Label}
 use Rattle.trees.specs.declared.Edition.{Edition}
 use Rattle.trees.specs.Token.{Token}
 use Rattle.trees.specs.Tree.{Tree}
-use Rattle.agreement.specs.Places.{nameIn}
 use Rattle.claims.specs.Claim.{Verdict, claimFirstLacks, claimSecondLacks, claimLacks, claimDisagrees, claimSmall, claimPasses}
 use Rattle.claims.specs.Judge.{judgementOf}
 use Rattle.job.specs.declared.JobAnswer.the-variants as job-answer
-use Rattle.job.specs.Printed.{JobSolution, solved, passed, clashed, apart, turned, ofJudgement, solveJob, recordLines, claimLine, printedOf, printed}
-use Rattle.job.specs.Answered.{outputShort, lineAnswer, linesAnswer, recordAnswer, answered, answerTo, beginIn}
-use Rattle.job.specs.Outcome.{JobOutcome}
-use Rattle.job.specs.Outcome.{too-long, no-contents, first-fault, second-fault, list-fault, claim-fault, stray-first, stray-second, first-lacks, second-lacks, disagreement, largest-set, judged}
+use Rattle.pairs.specs.Outcome.{Outcome, refused, naming, found, andThen}
+use Rattle.mast.specs.Largest.{tooShort}
+use Rattle.job.specs.Printed.{Reply, claimReply, solveJob, replyLines, printedOf, printed}
+use Rattle.job.specs.Answered.{lineAnswer, linesAnswer, recordAnswer, answered, answerTo, beginIn}
+use Rattle.job.specs.JobOutcome.{JobOutcome}
+use Rattle.job.specs.JobOutcome.{too-long, no-contents, first-fault, second-fault, list-fault, claim-fault, stray-first, stray-second, first-lacks, second-lacks, disagreement, largest-set, judged}
 use Rattle.job.proofs.OutcomeLaws.{outcome-exactly}
 use Rattle.job.proofs.RecordLaws.{record-refused}
 use Rattle.job.proofs.RoomLaws.{fault-low, NotNine}
 
-verdict-never-nine : (e : Edition) (s : Tree) (xs ys : List Token) (v : Verdict) → NotNine (ofJudgement (judgementOf e s xs ys v))
-unfolding judgementOf ofJudgement numberOf
+verdict-never-nine : (e : Edition) (s : Tree) (xs ys : List Token) (v : Verdict) → NotNine (andThen (judgementOf e s xs ys v) claimReply)
+unfolding judgementOf andThen numberOf
 verdict-never-nine e s xs ys (claimFirstLacks n) = λ h. omega arith
 verdict-never-nine e s xs ys (claimSecondLacks n) = λ h. omega arith
 verdict-never-nine e s xs ys (claimLacks n) = λ h. omega arith
@@ -32,7 +32,7 @@ verdict-never-nine e s xs ys (claimDisagrees a b c) = tt
 verdict-never-nine e s xs ys claimSmall = λ h. omega arith
 verdict-never-nine e s xs ys (claimPasses n) = tt
 
-outcome-never-nine : (job : List ℕ) (x : JobSolution) → JobOutcome job x → NotNine x
+outcome-never-nine : (job : List ℕ) (x : Outcome Reply) → JobOutcome job x → NotNine x
 unfolding numberOf
 outcome-never-nine job x (too-long h) = λ k. omega arith
 outcome-never-nine job x (no-contents h never) = λ k. omega arith
@@ -51,7 +51,7 @@ outcome-never-nine job x (judged e s t xs ys asks clear v o) = verdict-never-nin
 job-never-nine : (job : List ℕ) → NotNine (solveJob job)
 job-never-nine job = outcome-never-nine job (solveJob job) (outcome-exactly job (solveJob job) .0 refl)
 
-pub job-fits : (job : List ℕ) (q : Refusal) → solveJob job ≡ turned q → numberOf (q .reason) ≡ 9 → ⊥
+pub job-fits : (job : List ℕ) (q : Refusal) → solveJob job ≡ refused q → numberOf (q .reason) ≡ 9 → ⊥
 job-fits job q e = subst NotNine e (job-never-nine job)
 
 -- number 9 for a job: the output is shorter than the printed lines
@@ -60,34 +60,20 @@ pub nine-output : (job : List ℕ) (room : ℕ) (q : Refusal) → answerTo job r
 unfolding answerTo answered printed printedOf
 nine-output job room q e n = go (solveJob job) (job-never-nine job) e
   where
-    go : (x : JobSolution) → NotNine x → answered (beginIn job) room x ≡ job-answer.Refused q → room < length (printedOf x)
-    go (solved d s X text) k h = record-refused (recordLines (map (nameIn d s) X) text) room q h .2
-    go (passed m) k h = record-refused (claimLine m) room q h .2
-    go (clashed d s xs a b c) k h =
-        let z : _≡_ {A = ℕ} 0 1 = cc in
-        absurd (omega arith)
-    go (apart d s ys a b c) k h =
-        let z : _≡_ {A = ℕ} 0 1 = cc in
-        absurd (omega arith)
-    go (turned p) k h =
+    go : (x : Outcome Reply) → NotNine x → answered (beginIn job) room x ≡ job-answer.Refused q → room < length (printedOf x)
+    go (found x) k h = record-refused (replyLines x) room q h .2
+    go (naming p m) k h = let z : _≡_ {A = ℕ} 0 1 = cc in absurd (omega arith)
+    go (refused p) k h =
         let g : p ≡ q = cc in
         absurd (k (ap (λ (r : Refusal). numberOf (r .reason)) g ∙ n))
 
 -- and an answer whose lines are longer than the output gets number 9
-short-lines : (lines : List ℕ) (room : ℕ) → room < length lines → recordAnswer lines room ≡ job-answer.Refused outputShort
+short-lines : (lines : List ℕ) (room : ℕ) → room < length lines → recordAnswer lines room ≡ job-answer.Refused tooShort
 unfolding recordAnswer lineAnswer linesAnswer
 short-lines lines room h = rw (lt-leb (length lines) room h) refl
 
-module _ (job : List ℕ) (room : ℕ) (h : room < length (printed job)) where
-  pub short-output : (d : Edition) (s : Tree) (X : List Label) (text : List ℕ) → solveJob job ≡ solved d s X text
-      → answerTo job room ≡ job-answer.Refused outputShort
-  unfolding answerTo answered printed printedOf
-  short-output d s X text e =
-      ap (answered (beginIn job) room) e
-      ∙ short-lines (recordLines (map (nameIn d s) X) text) room (subst (λ (x : JobSolution). room < length (printedOf x)) e h)
-
-  pub short-claim : (n : ℕ) → solveJob job ≡ passed n → answerTo job room ≡ job-answer.Refused outputShort
-  unfolding answerTo answered printed printedOf
-  short-claim n e =
-      ap (answered (beginIn job) room) e
-      ∙ short-lines (claimLine n) room (subst (λ (x : JobSolution). room < length (printedOf x)) e h)
+pub short-output : (job : List ℕ) (room : ℕ) → room < length (printed job) → (y : Reply) → solveJob job ≡ found y
+    → answerTo job room ≡ job-answer.Refused tooShort
+unfolding answerTo answered printed printedOf
+short-output job room h y e =
+    ap (answered (beginIn job) room) e ∙ short-lines (replyLines y) room (subst (λ (x : Outcome Reply). room < length (printedOf x)) e h)

@@ -17,7 +17,7 @@ use Rattle.trees.specs.declared.Edition.{Edition}
 use Rattle.trees.specs.Edition.{folded, keyed}
 use Rattle.trees.specs.Token.{Token}
 use Rattle.trees.specs.Tree.{Tree}
-use Rattle.trees.specs.Reading.{Reading, good, refused}
+use Rattle.trees.specs.Reading.{Reading, good, refused as unread}
 use Rattle.trees.proofs.Bools.{bool-cases}
 use Rattle.trees.proofs.TokenLaws.{valid-decoded}
 use Rattle.trees.proofs.EditionLaws.{valid-folded}
@@ -27,7 +27,7 @@ use Rattle.lists.specs.ReadList.{readListIn, keysOf, IsList}
 use Rattle.lists.proofs.Promises as lists
 use Rattle.agreement.specs.Demand.{IsAnswer}
 use Rattle.agreement.specs.Answer.{Answer, firstLacks, secondLacks, disagree, largest, answer}
-use Rattle.agreement.specs.Outcome.{Outcome}
+use Rattle.agreement.specs.RightAnswer.{RightAnswer}
 use Rattle.agreement.specs.Strict.{Stray, inFirst, inSecond, nowhere}
 use Rattle.agreement.proofs.DemandLaws.{allowed-held, allowed-no-clash}
 use Rattle.agreement.proofs.Promises as agreement
@@ -36,12 +36,15 @@ use Rattle.claims.specs.Judge.{judge}
 use Rattle.contents.specs.Contents.{Bodies, firstText, secondText, listText, claimText, bodiesOf}
 use Rattle.contents.proofs.Promises as contents
 use Rattle.contents.proofs.ContentsLaws.{none-some}
-use Rattle.mast.specs.Given.{Reads}
-use Rattle.mast.specs.Largest.{strayFor, Task, task, solve}
-use Rattle.mast.proofs.StrayLaws.{nowhere-shared, stray-strict}
-use Rattle.job.specs.Printed.{jobLimit, taskOf, JobSolution, ofSolution, ofJudgement, solveTask, solveBodies, solveJob, printedOf, printed}
-use Rattle.job.specs.Outcome.{Follows, Holds, editionIn, TreeBody, Shared, ClaimRead, Asks, refusal, JobOutcome}
-use Rattle.job.specs.Outcome.{too-long, no-contents, first-fault, second-fault, list-fault, claim-fault, stray-first, stray-second, first-lacks, second-lacks, disagreement, largest-set, judged}
+use Rattle.pairs.specs.Outcome.{Outcome, andThen}
+use Rattle.pairs.specs.TwoTrees.{strayFor}
+use Rattle.mast.specs.Query.{Task, task}
+use Rattle.mast.specs.Largest.{solve}
+use Rattle.mast.specs.Reads.{Reads}
+use Rattle.pairs.proofs.StrayLaws.{nowhere-shared, stray-strict}
+use Rattle.job.specs.Printed.{jobLimit, taskOf, Reply, setReply, claimReply, solveTask, solveBodies, solveJob, printedOf, printed}
+use Rattle.job.specs.JobOutcome.{Follows, Holds, editionIn, TreeBody, Shared, ClaimRead, Asks, refusal, JobOutcome}
+use Rattle.job.specs.JobOutcome.{too-long, no-contents, first-fault, second-fault, list-fault, claim-fault, stray-first, stray-second, first-lacks, second-lacks, disagreement, largest-set, judged}
 use Rattle.job.proofs.TaskLaws.{ReadClaim, task-first, task-second, task-stray-first, task-stray-second, task-list, task-claim, task-first-lacks, task-second-lacks, task-clash, task-set, task-verdict, some-verdict}
 
 -- ---- bodies that are read
@@ -87,7 +90,7 @@ module _ (job : List ℕ) (b : Bodies) (held : Holds job b) where
   abbrev Out : Type 0
   Out = JobOutcome job (solveTask (taskOf b) (claimText b))
 
-  of : (x : JobSolution) → solveTask (taskOf b) (claimText b) ≡ x → JobOutcome job x → Out
+  of : (x : Outcome Reply) → solveTask (taskOf b) (claimText b) ≡ x → JobOutcome job x → Out
   of x e o = subst (JobOutcome job) (sym e) o
 
   module _ (s t : Tree) (first : readTreeIn E (firstText b) ≡ good s) (second : readTreeIn E (secondText b) ≡ good t) where
@@ -117,7 +120,7 @@ module _ (job : List ℕ) (b : Bodies) (held : Holds job b) where
           claim = w;
         }
 
-        told : (A : Answer) → answer (keyed E s) (keyed E t) (keysOf E xs) ≡ A → Outcome (keyed E s) (keyed E t) (keysOf E xs) A
+        told : (A : Answer) → answer (keyed E s) (keyed E t) (keysOf E xs) ≡ A → RightAnswer (keyed E s) (keyed E t) (keysOf E xs) A
         told A k =
             agreement.answer-promise (keyed E s) (keyed E t) (keysOf E xs) (valid-decoded (folded E s) (valid-folded E s (one-body .valid))) (list-body .different) A .0 k
 
@@ -147,7 +150,7 @@ module _ (job : List ℕ) (b : Bodies) (held : Holds job b) where
         claimed (some text) d = go (readListIn E text) refl
           where
             go : (z : Reading (List Token)) → readListIn E text ≡ z → Out
-            go (refused r i) k =
+            go (unread r i) k =
                 of _ (ap (solveTask (taskOf b)) d ∙ task-claim (taskOf b) s t first second shared xs listed text r i k)
                 (claim-fault b held s t one-body two-body shared xs list-body text d r i (lists.refused-first E text r i k))
             go (good ys) k =
@@ -162,7 +165,7 @@ module _ (job : List ℕ) (b : Bodies) (held : Holds job b) where
                 (answer (keyed E s) (keyed E t) (keysOf E xs)) refl
 
       listed-outcome : (z : Reading (List Token)) → readListIn E (listText b) ≡ z → Out
-      listed-outcome (refused r i) e =
+      listed-outcome (unread r i) e =
           of _ (task-list (taskOf b) s t first second shared (claimText b) r i e)
           (list-fault b held s t one-body two-body shared r i (lists.refused-first E (listText b) r i e))
       listed-outcome (good xs) e = claimed xs e (claimText b) refl
@@ -182,9 +185,9 @@ module _ (job : List ℕ) (b : Bodies) (held : Holds job b) where
   bodies-outcome = go (readTreeIn E (firstText b)) (readTreeIn E (secondText b)) refl refl
     where
       go : (x y : Reading Tree) → readTreeIn E (firstText b) ≡ x → readTreeIn E (secondText b) ≡ y → Out
-      go (refused r i) y ex ey =
+      go (unread r i) y ex ey =
           of _ (task-first (taskOf b) (claimText b) r i ex) (first-fault b held r i (newick.refused-first E (firstText b) r i ex))
-      go (good s) (refused r i) ex ey =
+      go (good s) (unread r i) ex ey =
           of _ (task-second (taskOf b) (claimText b) r i s ex ey)
           (second-fault b held s (tree-body E (firstText b) s ex) r i (newick.refused-first E (secondText b) r i ey))
       go (good s) (good t) ex ey = shared-outcome s t ex ey (strayFor (taskOf b .options) s t) refl
@@ -210,11 +213,11 @@ module _ (job : List ℕ) (b : Bodies) (held : Holds job b) where
   job-solve = rw (le-leb (length job) jobLimit (held .size)) (ap solveBodies (holds-bodies job b held))
 
   -- the two sorts of jobs
-  pub without-claim : claimText b ≡ none → solveJob job ≡ ofSolution (solve (taskOf b) treeRoom)
+  pub without-claim : claimText b ≡ none → solveJob job ≡ andThen (solve (taskOf b) treeRoom) setReply
   unfolding solveTask
   without-claim d = job-solve ∙ ap (solveTask (taskOf b)) d
 
-  pub with-claim : (text : List ℕ) → claimText b ≡ some text → solveJob job ≡ ofJudgement (judge (taskOf b) text)
+  pub with-claim : (text : List ℕ) → claimText b ≡ some text → solveJob job ≡ andThen (judge (taskOf b) text) claimReply
   unfolding solveTask
   with-claim text d = job-solve ∙ ap (solveTask (taskOf b)) d
 
@@ -243,10 +246,10 @@ module _ (job : List ℕ) (e : Edition) (s t : Tree) (xs : List Token) (c : Opti
   asked-claim : ReadClaim e (claimText bodies)
   asked-claim = read-claim e (claimText bodies) c (asks .claim)
 
-  decided : (x : JobSolution) → solveTask asked (claimText bodies) ≡ x → solveJob job ≡ x
+  decided : (x : Outcome Reply) → solveTask asked (claimText bodies) ≡ x → solveJob job ≡ x
   decided x o = job-solve job bodies (asks .held) ∙ ap (λ (q : Task). solveTask q (claimText bodies)) (sym asked-is) ∙ o
 
-one : (job : List ℕ) (x : JobSolution) → JobOutcome job x → solveJob job ≡ x
+one : (job : List ℕ) (x : Outcome Reply) → JobOutcome job x → solveJob job ≡ x
 unfolding solveJob solveBodies asked
 one job x (too-long h) = rw (lt-leb (length job) jobLimit h) refl
 one job x (no-contents h never) = rw (le-leb (length job) jobLimit h) (go (bodiesOf job) refl)
@@ -292,12 +295,12 @@ one job x (judged e s t xs ys asks clear v o) =
     ∙ task-verdict (asked job e s t xs (some ys) asks) s t xs (asked-reads job e s t xs (some ys) asks) (w .0) ys
     (lists.labels-read e (w .0) ys (w .2)) clear v o)
 
-pub outcome-exactly : (job : List ℕ) (x : JobSolution) → (solveJob job ≡ x) ↔ JobOutcome job x
+pub outcome-exactly : (job : List ℕ) (x : Outcome Reply) → (solveJob job ≡ x) ↔ JobOutcome job x
 outcome-exactly job x = (λ (e : solveJob job ≡ x). subst (JobOutcome job) e (outcome job), one job x)
 
-pub printed-exactly : (job out : List ℕ) → (printed job ≡ out) ↔ ((x : JobSolution) × JobOutcome job x × (printedOf x ≡ out))
+pub printed-exactly : (job out : List ℕ) → (printed job ≡ out) ↔ ((x : Outcome Reply) × JobOutcome job x × (printedOf x ≡ out))
 unfolding printed
 printed-exactly job out = (
   λ (e : printed job ≡ out). (solveJob job, outcome job, e),
-  λ (w : (x : JobSolution) × JobOutcome job x × (printedOf x ≡ out)). ap printedOf (one job (w .0) (w .1)) ∙ w .2,
+  λ (w : (x : Outcome Reply) × JobOutcome job x × (printedOf x ≡ out)). ap printedOf (one job (w .0) (w .1)) ∙ w .2,
 )

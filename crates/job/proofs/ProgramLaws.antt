@@ -26,10 +26,13 @@ use Rattle.agreement.specs.Places.{nameIn}
 use Rattle.contents.specs.Contents.{line}
 use Rattle.decimals.specs.Decimal.{decimalOf}
 use Rattle.decimals.proofs.DecimalLaws.{decimal-short}
-use Rattle.job.specs.Printed.{JobSolution, solved, passed, clashed, apart, turned, jobLimit, itemRoom, recordRoom, solveJob, refusedWords, recordLines, claimLine, printedOf, printed, threeLine, eight, fourteen}
+use Rattle.pairs.specs.Outcome.{Outcome, refused, naming, found}
+use Rattle.mast.specs.Largest.{solutionText}
+use Rattle.job.specs.Printed.{Reply, solved, passed, jobLimit, itemRoom, recordRoom, solveJob, refusedWords, namingLine, setLines, recordLines, claimLine, printedOf, printed, threeLine}
 use Rattle.job.specs.Answered.{lineAnswer, lineOutput, writtenPart}
 use Rattle.job.proofs.AnswerLaws.{job-long}
 use Rattle.job.proofs.DemandLaws.{Meant, job-meant, set-few, set-writable, set-short, eight-writable, fourteen-writable}
+use Rattle.job.proofs.ShownLaws.{set-printed, claim-printed, naming-printed}
 use Rattle.job.proofs.LineLaws.{size-short, words-short}
 
 -- ---- one byte over the limit is enough
@@ -82,28 +85,28 @@ line-size w v = omega (arith, length-append (w ++ v) (10 ∷ []), length-append 
 
 record-short : (X : List Label) (text : List ℕ) → length X ≤ leafLimit → writableLabels X ≡ true → length text ≤ treeRoom
     → length (recordLines X text) ≤ recordRoom
-unfolding recordLines bytesOf
+unfolding setLines bytesOf
 record-short X text few can short =
-    let one : List ℕ = line (bytesOf "size " ++ decimalOf (length X)) in
+    let one : List ℕ = line (bytesOf "size " ++ decimalOf (length (map tokenOf X))) in
     let two : List ℕ = line (bytesOf "set " ++ joined (map tokenOf X)) in
     let three : List ℕ = line (bytesOf "tree " ++ text) in
     omega (
       arith,
       length-append one (two ++ three),
       length-append two three,
-      line-size (bytesOf "size ") (decimalOf (length X)),
+      line-size (bytesOf "size ") (decimalOf (length (map tokenOf X))),
       line-size (bytesOf "set ") (joined (map tokenOf X)),
       forms-short X can,
       line-size (bytesOf "tree ") text,
-      size-short (length X) few,
+      size-short (length (map tokenOf X)) (omega (arith, few, length-map X tokenOf)),
     )
 
-refusal-short : (q : Refusal) → length (printedOf (turned q)) ≤ recordRoom
+refusal-short : (q : Refusal) → length (printedOf (refused q)) ≤ recordRoom
 unfolding printedOf line
 refusal-short q = omega (arith, length-append (refusedWords q) (10 ∷ []), words-short q)
 
 three-short : (q : Refusal) (a b c : Label) → writableLabels (a ∷ b ∷ c ∷ []) ≡ true → length (threeLine q a b c) ≤ recordRoom
-unfolding threeLine
+unfolding namingLine
 three-short q a b c can =
     let three : List Label = a ∷ b ∷ c ∷ [] in
     omega (
@@ -117,13 +120,14 @@ claim-short : (n : ℕ) → length (claimLine n) ≤ recordRoom
 unfolding claimLine bytesOf
 claim-short n = omega (arith, line-size (bytesOf "claim ok ") (decimalOf n), decimal-short n)
 
-short : (job : List ℕ) (x : JobSolution) → Meant job x → length (printedOf x) ≤ recordRoom
-unfolding printedOf
-short job (solved e s X text) m = record-short (map (nameIn e s) X) text (set-few m) (set-writable m) (set-short m)
-short job (passed n) m = claim-short n
-short job (clashed e s xs a b c) m = three-short eight (nameIn e s a) (nameIn e s b) (nameIn e s c) (eight-writable m)
-short job (apart e s ys a b c) m = three-short fourteen (nameIn e s a) (nameIn e s b) (nameIn e s c) (fourteen-writable m)
-short job (turned q) m = refusal-short q
+short : (job : List ℕ) (x : Outcome Reply) → Meant job x → length (printedOf x) ≤ recordRoom
+short job (found (solved r)) m =
+    rw (set-printed r)
+    (record-short (map (nameIn (r .edition) (r .first)) (r .set)) (solutionText r) (set-few m) (set-writable m) (set-short m))
+short job (found (passed n)) m = rw (claim-printed n) (claim-short n)
+short job (naming q n) (inl m) = rw (naming-printed q n) (three-short q _ _ _ (eight-writable (m .1)))
+short job (naming q n) (inr m) = rw (naming-printed q n) (three-short q _ _ _ (fourteen-writable (m .1)))
+short job (refused q) m = refusal-short q
 
 pub printed-short : (job : List ℕ) → length (printed job) ≤ recordRoom
 unfolding printed

@@ -7,7 +7,7 @@ use mathlib.Core.List.{List, [], _∷_, map}
 use mathlib.Core.Option.{some, none}
 use lib.ListN.{length, take}
 use Rattle.trees.specs.declared.Refusal.{Refusal}
-use Rattle.trees.specs.Refusals.{numberOf, letterOf}
+use Rattle.trees.specs.Refusals.{value, row, rowNaming, numberOf, letterOf}
 use Rattle.trees.specs.Label.{Label, labelLimit, isIn}
 use Rattle.trees.specs.Text.{treeRoom}
 use Rattle.trees.specs.Token.{Token}
@@ -23,20 +23,20 @@ use Rattle.agreement.specs.Places.{placeIn, placeOfLabel, tokenOfKey, spelledIn
 use Rattle.agreement.specs.Strict.{SameLeaves}
 use Rattle.contents.specs.declared.Stated.the-variants as states
 use Rattle.contents.specs.Contents.{Bodies, digitLimit, editionOf, part, firstText, secondText, listText, claimText, under}
-use Rattle.mast.specs.Largest.{Task, solve}
-use Rattle.mast.specs.Largest as mast
-use Rattle.claims.specs.Judge.{judge}
+use Rattle.mast.specs.declared.Named.{Named}
+use Rattle.pairs.specs.Outcome.{Outcome, refused, naming, andThen, trio}
+use Rattle.mast.specs.Query.{Task, eight}
+use Rattle.mast.specs.Largest.{Solution, solution, solutionText, tooShort, solve}
+use Rattle.claims.specs.Judge.{fourteen, judge}
 use Rattle.job.specs.declared.JobAnswer.the-variants as job-answer
 use Rattle.job.specs.declared.LineAnswer.the-variants.{Written, TooShort}
-use Rattle.job.specs.declared.Named.{Named}
-use Rattle.job.specs.Printed.{JobSolution, solved, passed, clashed, apart, turned, ofSolution, ofJudgement, taskOf, jobLimit, recordRoom, solveBodies, solveJob}
-use Rattle.job.specs.Printed.{recordLines, claimLine, eight, fourteen, eightLine, fourteenLine, printedOf, printed}
-use Rattle.job.specs.Answered.{outputShort, lineAnswer, lineOutput, writtenPart, namedLine, beginIn, answerTo}
-use Rattle.job.specs.Outcome.{Holds, editionIn, TreeBody, SetAnswered, EightAnswered, ClaimAnswered, FourteenAnswered, JobOutcome, Stopped, withoutLine}
-use Rattle.job.specs.Rows.{saidOfLine, saidOfJob}
+use Rattle.job.specs.Printed.{Reply, solved, passed, setReply, claimReply, taskOf, jobLimit, recordRoom, solveBodies, solveJob}
+use Rattle.job.specs.Printed.{recordLines, claimLine, eightLine, fourteenLine, printedOf, printed}
+use Rattle.job.specs.Answered.{lineAnswer, lineOutput, writtenPart, namedLine, beginIn, answerTo}
+use Rattle.job.specs.JobOutcome.{Holds, editionIn, TreeBody, SetAnswered, EightAnswered, ClaimAnswered, FourteenAnswered, JobOutcome, Stopped, withoutLine}
+use Rattle.job.specs.PaperNumbers.{saidOfLine, saidOfJob}
 use Rattle.job.specs.PaperTable.{NumberRow, numberRows, LetterRow, letterRows, Limits, paperLimits, LineRow, linesOf, bytesOfJob, lineRows}
 use Rattle.job.specs.Sides.{SidesExchanged}
-use Rattle.mast.specs.Rows.{granted, row}
 use Rattle.job.proofs.ClashLaws
 use Rattle.job.proofs.DemandLaws
 use Rattle.job.proofs.NineLaws
@@ -73,20 +73,20 @@ fourteen-promise = DemandLaws.fourteen-lines
 
 -- "that is the job's answer: what 01 and demands 1 and 3 say of the set as the answer is about jobs without C". A job without C has the
 -- engine's solution for its trees and list, a job with C the judgement of its claim.
-pub no-claim : (job : List ℕ) (b : Bodies) → Holds job b → claimText b ≡ none → solveJob job ≡ ofSolution (solve (taskOf b) treeRoom)
+pub no-claim : (job : List ℕ) (b : Bodies) → Holds job b → claimText b ≡ none → solveJob job ≡ andThen (solve (taskOf b) treeRoom) setReply
 no-claim = OutcomeLaws.without-claim
 
 pub claim-judged : (job : List ℕ) (b : Bodies) → Holds job b → (text : List ℕ) → claimText b ≡ some text
-    → solveJob job ≡ ofJudgement (judge (taskOf b) text)
+    → solveJob job ≡ andThen (judge (taskOf b) text) claimReply
 claim-judged = OutcomeLaws.with-claim
 
 -- The program prints a text if and only if it belongs to an outcome that the papers give the job. `JobOutcome` has the outcomes, number by
 -- number.
-pub job-promise : (job out : List ℕ) → (printed job ≡ out) ↔ ((x : JobSolution) × JobOutcome job x × (printedOf x ≡ out))
+pub job-promise : (job out : List ℕ) → (printed job ≡ out) ↔ ((x : Outcome Reply) × JobOutcome job x × (printedOf x ≡ out))
 job-promise = OutcomeLaws.printed-exactly
 
 -- Each job has exactly one outcome.
-pub outcome-promise : (job : List ℕ) (x : JobSolution) → (solveJob job ≡ x) ↔ JobOutcome job x
+pub outcome-promise : (job : List ℕ) (x : Outcome Reply) → (solveJob job ≡ x) ↔ JobOutcome job x
 outcome-promise = OutcomeLaws.outcome-exactly
 
 -- "Left and right children mean nothing.": a job with equal trees prints the same
@@ -95,7 +95,7 @@ sides-mean-nothing-printed = SidesLaws.printed-alike
 
 -- C-11: number 12 exactly if the job is strict, both trees are read, and they do not hold the same leaves; its letter and place
 -- are those of `JobOutcome`
-pub twelve-promise : (job : List ℕ) → ((q : Refusal) × (solveJob job ≡ turned q) × (numberOf (q .reason) ≡ 12)) ↔ Stopped job
+pub twelve-promise : (job : List ℕ) → ((q : Refusal) × (solveJob job ≡ refused q) × (numberOf (q .reason) ≡ 12)) ↔ Stopped job
 twelve-promise = StrictLaws.twelve-exactly
 
 -- "a larger set is still impossible in both sorts": if both trees have the same leaves, a strict job is answered as it is without the line.
@@ -106,14 +106,14 @@ strict-promise = StrictLaws.strict-same
 
 -- "If an answer is an enum, the promises use a definition that gives this paper's number and values for each of its cases."
 pub job-rows-promise : (n : ℕ) (m : Named) (q : Refusal)
-    → (saidOfJob (job-answer.Written n) ≡ granted (n ∷ []))
-    × (saidOfJob (job-answer.Disagree m) ≡ row 8 75 0 (m .first .place ∷ m .second .place ∷ m .third .place ∷ []))
-    × (saidOfJob (job-answer.Apart m) ≡ row 14 67 0 (m .first .place ∷ m .second .place ∷ m .third .place ∷ []))
-    × (saidOfJob (job-answer.Refused q) ≡ row (numberOf (q .reason)) (letterOf (q .body)) (q .place) [])
+    → (saidOfJob (job-answer.Written n) ≡ value n)
+    × (saidOfJob (job-answer.Naming eight m) ≡ rowNaming 8 75 0 (m .first .place ∷ m .second .place ∷ m .third .place ∷ []))
+    × (saidOfJob (job-answer.Naming fourteen m) ≡ rowNaming 14 67 0 (m .first .place ∷ m .second .place ∷ m .third .place ∷ []))
+    × (saidOfJob (job-answer.Refused q) ≡ row (numberOf (q .reason)) (letterOf (q .body)) (q .place))
 unfolding saidOfJob
 job-rows-promise n m q = (refl, refl, refl, refl)
 
-pub line-rows-promise : (n : ℕ) → (saidOfLine (Written n) ≡ granted (n ∷ [])) × (saidOfLine (TooShort outputShort) ≡ row 9 79 0 [])
+pub line-rows-promise : (n : ℕ) → (saidOfLine (Written n) ≡ value n) × (saidOfLine (TooShort tooShort) ≡ row 9 79 0)
 unfolding saidOfLine
 line-rows-promise n = (refl, refl)
 
@@ -127,45 +127,46 @@ papers-table = (Table.numbers-hold, Table.letters-hold, Table.limits-hold, Table
 
 -- "An output is too short exactly if it has fewer bytes than the text that belongs in it". The engine's own area for a tree's text is never
 -- too short, so number 9 means that the caller's output has fewer bytes than the printed lines.
-pub area-fits : (q : Task) (p : Refusal) → solve q treeRoom ≡ mast.turned p → numberOf (p .reason) ≡ 9 → ⊥
+pub area-fits : (q : Task) (p : Refusal) → solve q treeRoom ≡ refused p → numberOf (p .reason) ≡ 9 → ⊥
 area-fits = RoomLaws.engine-fits
 
-pub job-area-fits : (job : List ℕ) (q : Refusal) → solveJob job ≡ turned q → numberOf (q .reason) ≡ 9 → ⊥
+pub job-area-fits : (job : List ℕ) (q : Refusal) → solveJob job ≡ refused q → numberOf (q .reason) ≡ 9 → ⊥
 job-area-fits = NineLaws.job-fits
 
 pub nine-of-output : (job : List ℕ) (room : ℕ) (q : Refusal) → answerTo job room ≡ job-answer.Refused q
     → numberOf (q .reason) ≡ 9 → room < length (printed job)
 nine-of-output = NineLaws.nine-output
 
-pub nine-when-short : (job : List ℕ) (room : ℕ) → room < length (printed job) → (e : Edition) (s : Tree) (X : List Label) (text : List ℕ)
-    → solveJob job ≡ solved e s X text → answerTo job room ≡ job-answer.Refused outputShort
-nine-when-short = NineLaws.short-output
+pub nine-when-short : (job : List ℕ) (room : ℕ) → room < length (printed job) → (r : Solution) → solveJob job ≡ setReply r
+    → answerTo job room ≡ job-answer.Refused tooShort
+nine-when-short job room h r = NineLaws.short-output job room h (solved r)
 
-pub nine-when-claim-short : (job : List ℕ) (room : ℕ) → room < length (printed job) → (n : ℕ) → solveJob job ≡ passed n
-    → answerTo job room ≡ job-answer.Refused outputShort
-nine-when-claim-short = NineLaws.short-claim
+pub nine-when-claim-short : (job : List ℕ) (room : ℕ) → room < length (printed job) → (n : ℕ) → solveJob job ≡ claimReply n
+    → answerTo job room ≡ job-answer.Refused tooShort
+nine-when-claim-short job room h n = NineLaws.short-output job room h (passed n)
 
 -- "Number 8 adds a space and its three labels joined by commas." The line made from the answer's places and sizes is the printed one.
-pub eight-line : (job : List ℕ) (room : ℕ) (n : Named) → answerTo job room ≡ job-answer.Disagree n → namedLine job eight n ≡ printed job
-eight-line = ClashLaws.clash-line
+pub eight-line : (job : List ℕ) (room : ℕ) (n : Named) → answerTo job room ≡ job-answer.Naming eight n → namedLine job eight n ≡ printed job
+eight-line job room = ClashLaws.naming-line job room eight
 
 -- Each of its labels is in the job's list at the place returned, as a token with its key, and in the job's first tree as it is spelled
 -- there.
-pub eight-places : (job : List ℕ) (e : Edition) (s : Tree) (xs : List Token) (a b c : Label) → solveJob job ≡ clashed e s xs a b c
+pub eight-places : (job : List ℕ) (e : Edition) (s : Tree) (xs : List Token) (a b c : Label) → solveJob job ≡ naming eight (trio e s xs a b c)
     → (x : Label) → isIn x (a ∷ b ∷ c ∷ []) ≡ true
     → Within job (beginIn job .list + placeOfLabel (foldedList e xs) 0 x) (tokenOfKey e xs x) × (key e (tokenOfKey e xs x) ≡ x)
     × Within job (beginIn job .tree + placeIn (folded e s) 0 x) (spelledIn e s x) × (key e (spelledIn e s x) ≡ x)
-eight-places = ClashLaws.clash-shown
+eight-places = ClashLaws.eight-shown
 
 -- The same for number 14, whose labels are in the job's claim.
-pub fourteen-line : (job : List ℕ) (room : ℕ) (n : Named) → answerTo job room ≡ job-answer.Apart n → namedLine job fourteen n ≡ printed job
-fourteen-line = ClashLaws.apart-line
+pub fourteen-line : (job : List ℕ) (room : ℕ) (n : Named) → answerTo job room ≡ job-answer.Naming fourteen n
+    → namedLine job fourteen n ≡ printed job
+fourteen-line job room = ClashLaws.naming-line job room fourteen
 
-pub fourteen-places : (job : List ℕ) (e : Edition) (s : Tree) (ys : List Token) (a b c : Label) → solveJob job ≡ apart e s ys a b c
+pub fourteen-places : (job : List ℕ) (e : Edition) (s : Tree) (ys : List Token) (a b c : Label) → solveJob job ≡ naming fourteen (trio e s ys a b c)
     → (x : Label) → isIn x (a ∷ b ∷ c ∷ []) ≡ true
     → Within job (beginIn job .claim + placeOfLabel (foldedList e ys) 0 x) (tokenOfKey e ys x) × (key e (tokenOfKey e ys x) ≡ x)
     × Within job (beginIn job .tree + placeIn (folded e s) 0 x) (spelledIn e s x) × (key e (spelledIn e s x) ≡ x)
-fourteen-places = ClashLaws.apart-shown
+fourteen-places = ClashLaws.fourteen-shown
 
 -- C-15, "a job without it has edition 1": the same job with the line `E 1`, or without it, has the same answer.
 pub edition-one-written : (b : Bodies)
@@ -175,8 +176,8 @@ unfolding solveBodies editionOf firstText secondText listText claimText part
 edition-one-written b = refl
 
 -- "Old records must still be judged by the first edition": under edition 1 each label of the answer is printed as itself.
-pub first-edition-prints : (s : Tree) (X : List Label) (text : List ℕ) → ((x : Label) → isIn x X ≡ true → holds (keyed One s) x ≡ true)
-    → printedOf (solved One s X text) ≡ recordLines X text
+pub first-edition-prints : (s : Tree) (X : List Label) → ((x : Label) → isIn x X ≡ true → holds (keyed One s) x ≡ true)
+    → printedOf (setReply (solution One s X)) ≡ recordLines X (solutionText (solution One s X))
 first-edition-prints = ClashLaws.one-printed
 
 -- "The program `agree` reads a job from standard input": it reads at most one byte over the limit, and writes what is printed for the whole

@@ -35,7 +35,8 @@ use Rattle.agreement.proofs.EditionText.{restrict-valid}
 use Rattle.contents.specs.Contents.{line}
 use Rattle.decimals.specs.Decimal.{isDigit, valueFrom, decimalFrom, decimalOf, digitRoom}
 use Rattle.decimals.proofs.DecimalLaws.{allDigits, from-digits, from-large, from-some, decimal-value}
-use Rattle.job.specs.Printed.{turned, refusedWords, recordLines, threeLine, claimLine, printedOf}
+use Rattle.pairs.specs.Outcome.{refused}
+use Rattle.job.specs.Printed.{refusedWords, namingLine, setLines, recordLines, threeLine, claimLine, printedOf}
 use Rattle.job.proofs.LineLaws.{size-short}
 use Rattle.job.proofs.ShownLaws.{cons-count}
 use Rattle.job.proofs.TokenBytes.{token-comma, token-line}
@@ -156,30 +157,30 @@ kept-line e X t v = go (restrictIn e X t) refl
 
 -- ---- the lines
 
-abbrev sizeWords : List Label → List ℕ
+abbrev sizeWords : List Token → List ℕ
 sizeWords X = bytesOf "size " ++ decimalOf (length X)
 
-abbrev setWords : List Label → List ℕ
-setWords X = bytesOf "set " ++ joined (map tokenOf X)
+abbrev setWords : List Token → List ℕ
+setWords X = bytesOf "set " ++ joined X
 
 abbrev treeWords : List ℕ → List ℕ
 treeWords text = bytesOf "tree " ++ text
 
-lines-form : (X : List Label) (text : List ℕ)
-    → recordLines X text ≡ sizeWords X ++ (10 ∷ (setWords X ++ (10 ∷ (treeWords text ++ (10 ∷ [])))))
-unfolding recordLines line
+lines-form : (X : List Token) (text : List ℕ)
+    → setLines X text ≡ sizeWords X ++ (10 ∷ (setWords X ++ (10 ∷ (treeWords text ++ (10 ∷ [])))))
+unfolding setLines line
 lines-form X text =
     append-assoc (sizeWords X) (10 ∷ []) (line (setWords X) ++ line (treeWords text))
     ∙ ap (λ (l : List ℕ). sizeWords X ++ (10 ∷ l)) (append-assoc (setWords X) (10 ∷ []) (line (treeWords text)))
 
-size-line : (X : List Label) → occurrences 10 (sizeWords X) ≡ 0
+size-line : (X : List Token) → occurrences 10 (sizeWords X) ≡ 0
 unfolding bytesOf occurrences decimalOf
 size-line X = digit-free 10 no-digit-end (decimalOf (length X)) (from-digits digitRoom (length X))
   where
     no-digit-end : isDigit 10 ≡ false
     no-digit-end = unfold isDigit in refl
 
-set-line : (X : List Label) → occurrences 10 (setWords X) ≡ occurrences 10 (joined (map tokenOf X))
+set-line : (X : List Token) → occurrences 10 (setWords X) ≡ occurrences 10 (joined X)
 unfolding bytesOf occurrences
 set-line X = refl
 
@@ -187,8 +188,8 @@ tree-line : (text : List ℕ) → occurrences 10 (treeWords text) ≡ occurrence
 unfolding bytesOf occurrences
 tree-line text = refl
 
-line-ends : (X : List Label) (text : List ℕ)
-    → occurrences 10 (recordLines X text) ≡ 3 + occurrences 10 (joined (map tokenOf X)) + occurrences 10 text
+line-ends : (X : List Token) (text : List ℕ)
+    → occurrences 10 (setLines X text) ≡ 3 + occurrences 10 (joined X) + occurrences 10 text
 unfolding occurrences
 line-ends X text =
     let three : List ℕ = treeWords text ++ (10 ∷ []) in
@@ -207,11 +208,11 @@ line-ends X text =
       tree-line text,
     )
 
-size-back : (X Y : List Label) → sizeWords X ≡ sizeWords Y → decimalOf (length X) ≡ decimalOf (length Y)
+size-back : (X Y : List Token) → sizeWords X ≡ sizeWords Y → decimalOf (length X) ≡ decimalOf (length Y)
 unfolding bytesOf
 size-back X Y e = ap (drop 5) e
 
-set-back : (X Y : List Label) → setWords X ≡ setWords Y → joined (map tokenOf X) ≡ joined (map tokenOf Y)
+set-back : (X Y : List Token) → setWords X ≡ setWords Y → joined X ≡ joined Y
 unfolding bytesOf
 set-back X Y e = ap (drop 4) e
 
@@ -219,17 +220,12 @@ tree-back : (p q : List ℕ) → treeWords p ≡ treeWords q → p ≡ q
 unfolding bytesOf
 tree-back p q e = ap (drop 5) e
 
--- labels that can be written are told by their written forms
-forms-back : (X Y : List Label) → writableLabels X ≡ true → writableLabels Y ≡ true → map tokenOf X ≡ map tokenOf Y → X ≡ Y
-forms-back X Y v w e = sym (tokens-back X v) ∙ ap (map spelling) e ∙ tokens-back Y w
-
-pub lines-back : (X Y : List Label) (p q : List ℕ) → writableLabels X ≡ true → writableLabels Y ≡ true → length Y ≤ leafLimit
-    → occurrences 10 q ≡ 0 → recordLines X p ≡ recordLines Y q → (X ≡ Y) × (p ≡ q)
-lines-back X Y p q v w few plain e =
-    let goodX = tokens-good X v in
-    let goodY = tokens-good Y w in
-    let set : occurrences 10 (joined (map tokenOf X)) ≡ 0 = joined-line (map tokenOf X) goodX in
-    let other : occurrences 10 (joined (map tokenOf Y)) ≡ 0 = joined-line (map tokenOf Y) goodY in
+-- written forms are told by their lines
+tokens-lines : (X Y : List Token) (p q : List ℕ) → goodLabels X ≡ true → goodLabels Y ≡ true → length Y ≤ leafLimit
+    → occurrences 10 q ≡ 0 → setLines X p ≡ setLines Y q → (X ≡ Y) × (p ≡ q)
+tokens-lines X Y p q goodX goodY few plain e =
+    let set : occurrences 10 (joined X) ≡ 0 = joined-line X goodX in
+    let other : occurrences 10 (joined Y) ≡ 0 = joined-line Y goodY in
     let ends = sym (line-ends X p) ∙ ap (occurrences 10) e ∙ line-ends Y q in
     let tree : occurrences 10 p ≡ 0 = omega (arith, ends, set, other, plain) in
     let f = sym (lines-form X p) ∙ e ∙ lines-form Y q in
@@ -238,18 +234,20 @@ lines-back X Y p q v w few plain e =
     let c = cut-at 10 (treeWords p) (treeWords q) [] [] (tree-line p ∙ tree) (tree-line q ∙ plain) (b .1) in
     let j = set-back X Y (b .0) in
     let small : length X < 10 ^ digitRoom =
-    omega (
-      arith,
-      commas-near (map tokenOf X) goodX .1,
-      ap (occurrences 44) j,
-      commas-near (map tokenOf Y) goodY .0,
-      length-map X tokenOf,
-      length-map Y tokenOf,
-    ) in
+    omega (arith, commas-near X goodX .1, ap (occurrences 44) j, commas-near Y goodY .0) in
     let n : length X ≡ length Y =
     sym (decimal-value (length X) small) ∙ ap (valueFrom 0) (size-back X Y (a .0)) ∙ decimal-value (length Y) (omega arith) in
-    let same = joined-back (map tokenOf X) (map tokenOf Y) goodX goodY (omega (arith, n, length-map X tokenOf, length-map Y tokenOf)) j in
-    (forms-back X Y v w same, tree-back p q (c .0))
+    (joined-back X Y goodX goodY n j, tree-back p q (c .0))
+
+-- and labels that can be written by these forms
+forms-back : (X Y : List Label) → writableLabels X ≡ true → writableLabels Y ≡ true → map tokenOf X ≡ map tokenOf Y → X ≡ Y
+forms-back X Y v w e = sym (tokens-back X v) ∙ ap (map spelling) e ∙ tokens-back Y w
+
+pub lines-back : (X Y : List Label) (p q : List ℕ) → writableLabels X ≡ true → writableLabels Y ≡ true → length Y ≤ leafLimit
+    → occurrences 10 q ≡ 0 → recordLines X p ≡ recordLines Y q → (X ≡ Y) × (p ≡ q)
+lines-back X Y p q v w few plain e =
+    let k = tokens-lines (map tokenOf X) (map tokenOf Y) p q (tokens-good X v) (tokens-good Y w) (omega (arith, few, length-map Y tokenOf)) plain e in
+    (forms-back X Y v w (k .0), k .1)
 
 -- ---- the lines of numbers 8 and 14
 
@@ -294,8 +292,8 @@ unfolding line occurrences
 line-blanks w = omega (arith, occurrences-append 32 w (10 ∷ []))
 
 -- the line of a refusal that names no label
-pub refusal-no-three : (q p : Refusal) (a b c : Label) → printedOf (turned q) ≡ threeLine p a b c → ⊥
-unfolding printedOf threeLine
+pub refusal-no-three : (q p : Refusal) (a b c : Label) → printedOf (refused q) ≡ threeLine p a b c → ⊥
+unfolding printedOf namingLine
 refusal-no-three q p a b c e =
     let w : List ℕ = refusedWords p in
     let j : List ℕ = joined (map tokenOf (a ∷ b ∷ c ∷ [])) in
@@ -314,29 +312,25 @@ after-words : (w r : List ℕ) → drop (length w) (line (w ++ r)) ≡ r ++ (10 
 unfolding line
 after-words w r = ap (drop (length w)) (append-assoc w r (10 ∷ [])) ∙ drop-append-seam w (r ++ (10 ∷ []))
 
-three-joined : (p : Refusal) (a b c x y z : Label) → threeLine p a b c ≡ threeLine p x y z
-    → joined (map tokenOf (a ∷ b ∷ c ∷ [])) ++ (10 ∷ []) ≡ joined (map tokenOf (x ∷ y ∷ z ∷ [])) ++ (10 ∷ [])
-unfolding threeLine
-three-joined p a b c x y z e =
+naming-joined : (p : Refusal) (X Y : List Token) → namingLine p X ≡ namingLine p Y → joined X ++ (10 ∷ []) ≡ joined Y ++ (10 ∷ [])
+unfolding namingLine
+naming-joined p X Y e =
     let w : List ℕ = refusedWords p in
-    let j : List ℕ = joined (map tokenOf (a ∷ b ∷ c ∷ [])) in
-    let k : List ℕ = joined (map tokenOf (x ∷ y ∷ z ∷ [])) in
-    let f : 32 ∷ (j ++ (10 ∷ [])) ≡ 32 ∷ (k ++ (10 ∷ [])) =
-    sym (after-words w (32 ∷ j)) ∙ ap (drop (length w)) e ∙ after-words w (32 ∷ k) in
-    heads 32 32 (j ++ (10 ∷ [])) (k ++ (10 ∷ [])) f .1
+    let f : 32 ∷ (joined X ++ (10 ∷ [])) ≡ 32 ∷ (joined Y ++ (10 ∷ [])) =
+    sym (after-words w (32 ∷ joined X)) ∙ ap (drop (length w)) e ∙ after-words w (32 ∷ joined Y) in
+    heads 32 32 (joined X ++ (10 ∷ [])) (joined Y ++ (10 ∷ [])) f .1
 
 pub three-back : (p : Refusal) (a b c x y z : Label) → writableLabels (a ∷ b ∷ c ∷ []) ≡ true → writableLabels (x ∷ y ∷ z ∷ []) ≡ true
     → threeLine p a b c ≡ threeLine p x y z → (a ≡ x) × (b ≡ y) × (c ≡ z)
 three-back p a b c x y z v w e =
     let one : List Label = a ∷ b ∷ c ∷ [] in
     let two : List Label = x ∷ y ∷ z ∷ [] in
-    let goodOne = tokens-good one v in
-    let goodTwo = tokens-good two w in
-    let j = three-joined p a b c x y z e in
-    let cut =
-    cut-at 10 (joined (map tokenOf one)) (joined (map tokenOf two)) [] [] (joined-line (map tokenOf one) goodOne)
-    (joined-line (map tokenOf two) goodTwo) j in
-    let same : one ≡ two = forms-back one two v w (joined-back (map tokenOf one) (map tokenOf two) goodOne goodTwo refl (cut .0)) in
+    let X : List Token = map tokenOf one in
+    let Y : List Token = map tokenOf two in
+    let goodX = tokens-good one v in
+    let goodY = tokens-good two w in
+    let cut = cut-at 10 (joined X) (joined Y) [] [] (joined-line X goodX) (joined-line Y goodY) (naming-joined p X Y e) in
+    let same : one ≡ two = forms-back one two v w (joined-back X Y goodX goodY refl (cut .0)) in
     let i : a ≡ x = cc in
     let k : b ≡ y = cc in
     let l : c ≡ z = cc in

@@ -11,11 +11,12 @@ use borrow.Author.Tests.{leb-false}
 use Rattle.trees.specs.declared.Refusal.{Refusal}
 use Rattle.trees.specs.Refusals.{numberOf}
 use Rattle.trees.proofs.Bools.{bool-cases}
+use Rattle.mast.specs.Largest.{tooShort}
 use Rattle.job.specs.declared.JobAnswer.{JobAnswer}
 use Rattle.job.specs.declared.JobAnswer.the-variants as job-answer
 use Rattle.job.specs.declared.LineAnswer.{LineAnswer}
 use Rattle.job.specs.declared.LineAnswer.the-variants.{Written, TooShort}
-use Rattle.job.specs.Answered.{outputShort, lineAnswer, linesAnswer, recordAnswer}
+use Rattle.job.specs.Answered.{lineAnswer, linesAnswer, recordAnswer}
 
 pub record-told : (lines : List ℕ) (room : ℕ) {l : LineAnswer} → l ≡ lineAnswer lines room → linesAnswer l ≡ recordAnswer lines room
 unfolding recordAnswer
@@ -30,18 +31,18 @@ record-written lines room n e = go (lineAnswer lines room) e
     go (TooShort q) h = let z : _≡_ {A = ℕ} 0 1 = cc in absurd (omega arith)
 
 -- the line's answer carries number 9 only where the output is too short
-line-nine : (lines : List ℕ) (room : ℕ) (q : Refusal) → lineAnswer lines room ≡ TooShort q → (q ≡ outputShort) × (room < length lines)
+line-nine : (lines : List ℕ) (room : ℕ) (q : Refusal) → lineAnswer lines room ≡ TooShort q → (q ≡ tooShort) × (room < length lines)
 unfolding lineAnswer
 line-nine lines room q e = go (bool-cases (leb (length lines) room))
   where
-    go : (leb (length lines) room ≡ true) ⊎ (leb (length lines) room ≡ false) → (q ≡ outputShort) × (room < length lines)
+    go : (leb (length lines) room ≡ true) ⊎ (leb (length lines) room ≡ false) → (q ≡ tooShort) × (room < length lines)
     go (inl f) =
         let g : Written (length lines) ≡ TooShort q = rw f at e in
         let z : _≡_ {A = ℕ} 0 1 = cc in
         absurd (omega arith)
     go (inr f) =
-        let g : TooShort outputShort ≡ TooShort q = rw f at e in
-        let k : q ≡ outputShort = cc in
+        let g : TooShort tooShort ≡ TooShort q = rw f at e in
+        let k : q ≡ tooShort = cc in
         (k, leb-false (length lines) room f)
 
 pub record-refused : (lines : List ℕ) (room : ℕ) (q : Refusal) → recordAnswer lines room ≡ job-answer.Refused q
@@ -59,16 +60,15 @@ record-refused lines room q e = go (lineAnswer lines room) refl e
         (sym g, ap (λ (r : Refusal). numberOf (r .reason)) (w .0), w .1)
 
 -- answers that name labels
-abbrev pub Naming : JobAnswer → Type 0
-Naming (job-answer.Written n) = ⊥
-Naming (job-answer.Disagree n) = Prim.Unit {0}
-Naming (job-answer.Apart n) = Prim.Unit {0}
-Naming (job-answer.Refused q) = ⊥
+abbrev pub Names : JobAnswer → Type 0
+Names (job-answer.Written n) = ⊥
+Names (job-answer.Naming q n) = Prim.Unit {0}
+Names (job-answer.Refused q) = ⊥
 
-pub record-no-names : (lines : List ℕ) (room : ℕ) → Naming (recordAnswer lines room) → ⊥
+pub record-no-names : (lines : List ℕ) (room : ℕ) → Names (recordAnswer lines room) → ⊥
 unfolding recordAnswer linesAnswer
 record-no-names lines room = go (lineAnswer lines room)
   where
-    go : (l : LineAnswer) → Naming (linesAnswer l) → ⊥
+    go : (l : LineAnswer) → Names (linesAnswer l) → ⊥
     go (Written m) h = h
     go (TooShort q) h = h

@@ -8,6 +8,7 @@ use native.Mathlib.Omega.{arith}
 use lib.ListN.{length}
 use borrow.Author.Tests.{le-leb}
 use Rattle.trees.specs.declared.Reason.{Reason}
+use Rattle.trees.specs.declared.Body.the-variants.{K}
 use Rattle.trees.specs.declared.Refusal.{Refusal}
 use Rattle.trees.specs.Refusals.{numberOf}
 use Rattle.trees.specs.Label.{Label}
@@ -16,7 +17,7 @@ use Rattle.trees.specs.Edition.{keyed, ValidIn, normalTextIn}
 use Rattle.trees.specs.Token.{Token}
 use Rattle.trees.specs.Tree.{Tree}
 use Rattle.trees.specs.Text.{treeRoom}
-use Rattle.trees.specs.Reading.{Reading, good, refused}
+use Rattle.trees.specs.Reading.{good, refused as unread}
 use Rattle.trees.specs.Faults.{Fault, bad-byte, ends-too-soon, label-too-long, too-many, repeated}
 use Rattle.trees.proofs.EditionLaws.{valid-spelled, normalTree, normal-tree-valid}
 use Rattle.trees.proofs.ArrayLaws.{text-short}
@@ -29,10 +30,10 @@ use Rattle.agreement.specs.Restrict.{restrictIn}
 use Rattle.agreement.specs.Answer.{Answer, firstLacks, secondLacks, disagree, largest, answer}
 use Rattle.agreement.specs.Places.{keptTextIn}
 use Rattle.agreement.proofs.EditionText.{restrict-valid}
-use Rattle.mast.specs.Largest.{Solution, fitted, solutionOf, solveList, Task, solve}
-use Rattle.mast.specs.Largest as mast
-use Rattle.job.specs.Printed.{JobSolution, solved, passed, clashed, apart, turned, ofSolution}
-use Rattle.job.proofs.TreesLaws.{each-way}
+use Rattle.pairs.specs.Outcome.{Outcome, refused, naming, found}
+use Rattle.mast.specs.Query.{Task, answerTo, heldBy, requiredOf}
+use Rattle.mast.specs.Largest.{solution, solutionText, fitted, solutionOf, solveList, solve}
+use Rattle.job.proofs.TreesLaws.{each-way, each-list}
 
 -- ---- the text of a restriction
 
@@ -45,9 +46,8 @@ kept-short e X t v = go (restrictIn e X t) refl
     go (some r) d =
         text-short (normalTree e r) (valid-spelled e (normalTree e r) (normal-tree-valid e r (restrict-valid e X t r v d)))
 
-pub text-fits : (e : Edition) (s : Tree) (X : List Label) → ValidIn e s
-    → fitted e s X (keptTextIn e (restrictIn e (setOf X) s)) treeRoom ≡ mast.solved e s X (keptTextIn e (restrictIn e (setOf X) s))
-unfolding fitted
+pub text-fits : (e : Edition) (s : Tree) (X : List Label) → ValidIn e s → fitted treeRoom (solution e s X) ≡ found (solution e s X)
+unfolding fitted solutionText
 text-fits e s X v = rw (le-leb (length (keptTextIn e (restrictIn e (setOf X) s))) treeRoom (kept-short e (setOf X) s v)) refl
 
 -- ---- the other refusals
@@ -62,44 +62,36 @@ fault-low (too-many i a) = omega arith
 fault-low (repeated j k a b c d e f) = omega arith
 
 -- not number 9
-abbrev pub NotNine : JobSolution → Type 0
-NotNine (solved e s X text) = Prim.Unit {0}
-NotNine (passed n) = Prim.Unit {0}
-NotNine (clashed e s xs a b c) = Prim.Unit {0}
-NotNine (apart e s ys a b c) = Prim.Unit {0}
-NotNine (turned q) = numberOf (q .reason) ≡ 9 → ⊥
+abbrev pub NotNine : {A : Type 0} → Outcome A → Type 0
+NotNine (found x) = Prim.Unit {0}
+NotNine (naming q n) = Prim.Unit {0}
+NotNine (refused q) = numberOf (q .reason) ≡ 9 → ⊥
 
 module _ (q : Task) where
   abbrev E : Edition
   E = q .options .edition
 
-  abbrev Out : Solution → Type 0
-  Out x = NotNine (ofSolution x)
-
-  never-nine : NotNine (ofSolution (solve q treeRoom))
-  unfolding ofSolution solve solveList solutionOf numberOf
+  never-nine : NotNine (solve q treeRoom)
+  unfolding solve solveList answerTo solutionOf requiredOf heldBy numberOf
   never-nine =
-      each-way mast.turned (q .options) (q .first) (q .second) _ Out
-      (λ (r : Reason) (i : ℕ) (e : readTreeIn E (q .first) ≡ refused r i). low r (fault-low (refusal-in E (q .first) r i e .here)))
-      (λ (r : Reason) (i : ℕ) (e : readTreeIn E (q .second) ≡ refused r i). low r (fault-low (refusal-in E (q .second) r i e .here)))
+      each-way (q .options) (q .first) (q .second) _ NotNine
+      (λ (r : Reason) (i : ℕ) (e : readTreeIn E (q .first) ≡ unread r i). low r (fault-low (refusal-in E (q .first) r i e .here)))
+      (λ (r : Reason) (i : ℕ) (e : readTreeIn E (q .second) ≡ unread r i). low r (fault-low (refusal-in E (q .second) r i e .here)))
       (λ s x h. omega arith) (λ t x h. omega arith)
-      (λ (s t : Tree) (e : readTreeIn E (q .first) ≡ good s) (f : readTreeIn E (q .second) ≡ good t). listed s t (readListIn E (q .required)) e refl)
+      (λ (s t : Tree) (e : readTreeIn E (q .first) ≡ good s) (f : readTreeIn E (q .second) ≡ good t).
+      each-list E K (q .required) (solveList E treeRoom (record { first = s; second = t })) NotNine
+      (λ (r : Reason) (i : ℕ) (g : readListIn E (q .required) ≡ unread r i). low r (fault-low (refused-first E (q .required) r i g .here)))
+      (λ (xs : List Token) (g : readListIn E (q .required) ≡ good xs). answers s e xs (answer (keyed E s) (keyed E t) (keysOf E xs))))
     where
       low : (r : Reason) → numberOf r ≤ 5 → numberOf r ≡ 9 → ⊥
       low r h e = omega arith
 
-      listed : (s t : Tree) (c : Reading (List Token)) → readTreeIn E (q .first) ≡ good s → readListIn E (q .required) ≡ c
-          → Out (solveList E s t treeRoom c)
-      listed s t (refused r i) ea ec = low r (fault-low (refused-first E (q .required) r i ec .here))
-      listed s t (good xs) ea ec = answers (answer (keyed E s) (keyed E t) (keysOf E xs))
-        where
-          answers : (w : Answer) → Out (solutionOf E s xs treeRoom w)
-          answers (firstLacks n) = λ h. omega arith
-          answers (secondLacks n) = λ h. omega arith
-          answers (disagree a b c) = tt
-          answers (largest X) = subst Out (sym (text-fits E s X (accepts-in E (q .first) s ea .1))) tt
+      answers : (s : Tree) → readTreeIn E (q .first) ≡ good s → (xs : List Token) (w : Answer) → NotNine (solutionOf E s xs treeRoom w)
+      answers s e xs (firstLacks n) = λ h. omega arith
+      answers s e xs (secondLacks n) = λ h. omega arith
+      answers s e xs (disagree a b c) = tt
+      answers s e xs (largest X) = subst NotNine (sym (text-fits E s X (accepts-in E (q .first) s e .1))) tt
 
   -- whatever is asked
-  pub engine-fits : (p : Refusal) → solve q treeRoom ≡ mast.turned p → numberOf (p .reason) ≡ 9 → ⊥
-  unfolding ofSolution
-  engine-fits p e = subst Out e never-nine
+  pub engine-fits : (p : Refusal) → solve q treeRoom ≡ refused p → numberOf (p .reason) ≡ 9 → ⊥
+  engine-fits p e = subst NotNine e never-nine

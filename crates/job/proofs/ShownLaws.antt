@@ -4,6 +4,7 @@ use mathlib.Core.Path.{_≡_, refl, sym, _∙_, ap, ap₂}
 use mathlib.Core.Bool.{true, false}
 use mathlib.Core.Logic.{_⊎_, inl, inr, ⊎-elim}
 use mathlib.Core.List.{List, [], _∷_, _++_, map}
+use mathlib.Core.Option.{Option, some, none}
 use native.Mathlib.Omega.{arith}
 use lib.Dec.{eqb}
 use lib.ListN.{length, getD, take, drop, replicate, length-append, length-map, List·getD-append}
@@ -12,7 +13,11 @@ use borrow.Author.Tests.{le-leb, eq-eqb}
 use Rattle.trees.specs.Faults.{occurrences}
 use Rattle.trees.specs.Label.{Label, labelLimit, isIn}
 use Rattle.trees.specs.Stored.{partOf}
-use Rattle.trees.specs.Token.{Token, spelling, goodLabel}
+use Rattle.trees.specs.Token.{Token, spelling, tokenOf, goodLabel}
+use Rattle.trees.specs.Tree.{Tree}
+use Rattle.trees.specs.declared.Edition.{Edition}
+use Rattle.trees.specs.Edition.{rewritten}
+use Rattle.trees.specs.declared.Refusal.{Refusal}
 use Rattle.trees.specs.Words.{Within}
 use Rattle.trees.specs.Writable.{writableLabel, writableLabels}
 use Rattle.trees.proofs.Bools.{bool-cases, clash}
@@ -21,7 +26,13 @@ use Rattle.trees.proofs.RelabelLaws.{map-at}
 use Rattle.trees.proofs.TokenLaws.{good-spelling}
 use Rattle.trees.proofs.WritableLaws.{writable-head, writable-cons, spelled-writable}
 use Rattle.lists.specs.ReadList.{padded, listLimit}
+use Rattle.agreement.specs.Sets.{setOf}
+use Rattle.agreement.specs.Restrict.{restrictIn}
+use Rattle.agreement.specs.Places.{keptTextIn, spelledIn, nameIn}
 use Rattle.agreement.proofs.SetLaws.{in-head, in-tail, in-cases}
+use Rattle.pairs.specs.Outcome.{Trio, naming}
+use Rattle.mast.specs.Largest.{Solution, solutionText}
+use Rattle.job.specs.Printed.{setLines, recordLines, threeLine, inOrder, shownOf, treeBy, linesBy, claimLine, solved, setReply, claimReply, replyLines, printedOf}
 use Rattle.job.specs.Answered.{labelIn}
 use Rattle.job.specs.Areas.{labelsIn}
 
@@ -117,3 +128,39 @@ writable-names token [] h = refl
 writable-names token (x ∷ X) h =
     writable-cons (spelling (token x)) (map (λ (y : Label). spelling (token y)) X) (spelled-writable (token x) (h x (in-head x X)))
     (writable-names token X (λ (y : Label) (k : isIn y X ≡ true). h y (in-tail y x X k)))
+
+-- ---- the lines of a set, by its labels and its text
+
+forms-are : (e : Edition) (s : Tree) (X : List Label) → map tokenOf (map (nameIn e s) X) ≡ map rewritten (map (spelledIn e s) X)
+forms-are e s [] = refl
+forms-are e s (x ∷ X) = ap (λ (l : List Token). tokenOf (nameIn e s x) ∷ l) (forms-are e s X)
+
+-- the text that the writer gives a restriction is its tree, children in order, with each label in its written form
+pub kept-by : (e : Edition) (o : Option Tree) → keptTextIn e o ≡ treeBy rewritten (inOrder e o)
+unfolding keptTextIn treeBy inOrder
+kept-by e none = refl
+kept-by e (some t) = refl
+
+pub reply-lines : (r : Solution) (N : List Label) (text : List ℕ) → N ≡ map (nameIn (r .edition) (r .first)) (r .set) → text ≡ solutionText r
+    → recordLines N text ≡ replyLines (solved r)
+unfolding replyLines linesBy shownOf solutionText
+reply-lines r N text e f =
+    ap₂ setLines (ap (map tokenOf) e ∙ forms-are (r .edition) (r .first) (r .set))
+    (f ∙ kept-by (r .edition) (restrictIn (r .edition) (setOf (r .set)) (r .first)))
+
+-- ---- what is printed, by labels
+
+pub set-printed : (r : Solution) → printedOf (setReply r) ≡ recordLines (map (nameIn (r .edition) (r .first)) (r .set)) (solutionText r)
+unfolding printedOf
+set-printed r = sym (reply-lines r _ _ refl refl)
+
+pub claim-printed : (n : ℕ) → printedOf (claimReply n) ≡ claimLine n
+unfolding printedOf
+claim-printed n = refl
+
+pub naming-printed : (q : Refusal) (n : Trio)
+    → printedOf (naming q n)
+    ≡ threeLine q (nameIn (n .edition) (n .first) (n .labels .one)) (nameIn (n .edition) (n .first) (n .labels .two))
+    (nameIn (n .edition) (n .first) (n .labels .three))
+unfolding printedOf
+naming-printed q n = refl

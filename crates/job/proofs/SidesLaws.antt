@@ -6,13 +6,15 @@ use mathlib.Core.List.{List, [], _∷_, map}
 use mathlib.Core.Option.{Option, some, none}
 use lib.Dec.{leb}
 use lib.ListN.{length}
+use Rattle.trees.specs.declared.Body.the-variants.{K, C}
+use Rattle.trees.specs.declared.Refusal.{Refusal}
 use Rattle.trees.specs.declared.Edition.{Edition}
 use Rattle.trees.specs.Edition.{folded, keyed, ValidIn}
 use Rattle.trees.specs.Label.{Label, isIn, distinct}
 use Rattle.trees.specs.Text.{treeRoom}
 use Rattle.trees.specs.Token.{Token, spelling}
 use Rattle.trees.specs.Tree.{Tree, Same}
-use Rattle.trees.specs.Reading.{Reading, good, refused}
+use Rattle.trees.specs.Reading.{Reading, good, refused as unread}
 use Rattle.trees.proofs.TokenLaws.{valid-decoded}
 use Rattle.trees.proofs.EditionLaws.{valid-folded}
 use Rattle.newick.specs.ReadTree.{readTreeIn}
@@ -24,35 +26,37 @@ use Rattle.agreement.specs.Sets.{setOf}
 use Rattle.agreement.specs.Restrict.{restrictIn}
 use Rattle.agreement.specs.Places.{keptTextIn, nameIn}
 use Rattle.agreement.specs.Answer.{Answer, firstLacks, secondLacks, disagree, largest, answer}
-use Rattle.agreement.specs.Outcome.{Outcome}
-use Rattle.agreement.specs.Strict.{SameLeaves, nowhere}
+use Rattle.agreement.specs.RightAnswer.{RightAnswer}
+use Rattle.agreement.specs.Strict.{SameLeaves}
 use Rattle.agreement.proofs.SameLaws.{same-holds}
 use Rattle.agreement.proofs.SetLaws.{in-head, in-tail}
 use Rattle.agreement.proofs.SidesText.{same-keyed, valid-same}
 use Rattle.agreement.proofs.Promises as agreement
 use Rattle.trees.specs.Refusals.{letterOf}
 use Rattle.contents.specs.Contents.{Bodies, entries, lookup, part, firstText, secondText, listText, claimText}
-use Rattle.mast.specs.Largest as mast
-use Rattle.mast.specs.Largest.{Task, sharedThen, fitted, solutionOf, solveList}
-use Rattle.mast.specs.Compare.{missing, compareOther, compareAnswers, compareLists, compareRead}
-use Rattle.mast.proofs.BodyLaws.{solve-trees}
-use Rattle.mast.proofs.StrayLaws.{shared-nowhere}
-use Rattle.claims.specs.Judge.{judgedByThree, judgedByList, judgedBy}
-use Rattle.job.specs.Printed.{ofSolution, ofJudgement, taskOf, recordLines, solveTask, printedOf, printed}
-use Rattle.job.specs.Outcome.{editionIn, TreeBody, Shared}
+use Rattle.pairs.specs.Outcome.{Outcome, refused, naming, found, andThen, trio}
+use Rattle.pairs.specs.TwoTrees.{bodyOf, treesOf}
+use Rattle.mast.specs.Query.{Task, apart, together, listOf, answerTo, heldBy, eight, requiredOf}
+use Rattle.mast.specs.Largest.{Solution, solution, solutionText, tooShort, fitted, solutionOf, solveList, solve}
+use Rattle.mast.specs.Compare.{Comparison, missing, clashOf, comparison, compareOther, compareAnswers, compareLists, compare}
+use Rattle.pairs.proofs.StrayLaws.{shared-nowhere}
+use Rattle.pairs.proofs.StepLaws.{then-found, trees-both}
+use Rattle.claims.specs.Judge.{fourteen, judgedBySize, judgedByThree, judgedByList, verdictOn, judge}
+use Rattle.job.specs.Printed.{setReply, claimReply, taskOf, recordLines, solveTask, printedOf, printed}
+use Rattle.job.specs.JobOutcome.{editionIn, TreeBody, Shared}
 use Rattle.job.specs.Sides.{withTrees, SidesExchanged}
 use Rattle.job.proofs.OutcomeLaws.{job-solve, body-tree}
-use Rattle.job.proofs.TaskLaws.{judged-shared}
+use Rattle.job.proofs.ShownLaws.{set-printed, naming-printed}
 
 module _ (e : Edition) (s s′ t t′ : Tree) (p : Same s s′) (q : Same t t′) (v : ValidIn e s) (w : ValidIn e t) where
-  alike : (K : List Label) → distinct K ≡ true → answer (keyed e s) (keyed e t) K ≡ answer (keyed e s′) (keyed e t′) K
-  alike K d =
-      agreement.sides-mean-nothing (keyed e s) (keyed e s′) (keyed e t) (keyed e t′) K (same-keyed e p) (same-keyed e q) (v .different)
+  alike : (M : List Label) → distinct M ≡ true → answer (keyed e s) (keyed e t) M ≡ answer (keyed e s′) (keyed e t′) M
+  alike M d =
+      agreement.sides-mean-nothing (keyed e s) (keyed e s′) (keyed e t) (keyed e t′) M (same-keyed e p) (same-keyed e q) (v .different)
       (w .different) d
 
-  outcome : (K : List Label) → distinct K ≡ true → Outcome (keyed e s) (keyed e t) K (answer (keyed e s) (keyed e t) K)
-  outcome K d =
-      agreement.answer-promise (keyed e s) (keyed e t) K (valid-decoded (folded e s) (valid-folded e s v)) d (answer (keyed e s) (keyed e t) K) .0 refl
+  outcome : (M : List Label) → distinct M ≡ true → RightAnswer (keyed e s) (keyed e t) M (answer (keyed e s) (keyed e t) M)
+  outcome M d =
+      agreement.answer-promise (keyed e s) (keyed e t) M (valid-decoded (folded e s) (valid-folded e s v)) d (answer (keyed e s) (keyed e t) M) .0 refl
 
   -- the first tree spells a label alike
   name : (x : Label) → holds (keyed e s) x ≡ true → nameIn e s x ≡ nameIn e s′ x
@@ -62,93 +66,122 @@ module _ (e : Edition) (s s′ t t′ : Tree) (p : Same s s′) (q : Same t t′
   names [] h = refl
   names (x ∷ X) h = ap₂ {C = List Label} _∷_ (name x (h x (in-head x X))) (names X (λ y m. h y (in-tail y x X m)))
 
+  -- number 8 or 14
+  three-alike : (q : Refusal) (zs : List Token) (a b c : Label) → RightAnswer (keyed e s) (keyed e t) (keysOf e zs) (disagree a b c)
+      → printedOf (naming q (trio e s zs a b c)) ≡ printedOf (naming q (trio e s′ zs a b c))
+  three-alike q zs a b c o =
+      let k = o .1 .clash in
+      naming-printed q (trio e s zs a b c)
+      ∙ (rw (name a (o .0 a (k .inOne) .0), name b (o .0 b (k .inTwo) .0), name c (o .0 c (k .inThree) .0)) refl)
+      ∙ sym (naming-printed q (trio e s′ zs a b c))
+
   -- ---- without a claim
 
-  list-alike : (xs : List Token) (room : ℕ) (A : Answer) → Outcome (keyed e s) (keyed e t) (keysOf e xs) A
-      → printedOf (ofSolution (solutionOf e s xs room A)) ≡ printedOf (ofSolution (solutionOf e s′ xs room A))
-  unfolding printedOf ofSolution solutionOf fitted
+  set-alike : (X : List Label) → ((x : Label) → isIn x X ≡ true → holds (keyed e s) x ≡ true)
+      → printedOf (setReply (solution e s X)) ≡ printedOf (setReply (solution e s′ X))
+  unfolding solutionText
+  set-alike X h =
+      set-printed (solution e s X)
+      ∙ ap₂ recordLines (names X h) (agreement.sides-one-text e s s′ p v (setOf X))
+      ∙ sym (set-printed (solution e s′ X))
+
+  list-alike : (xs : List Token) (room : ℕ) (A : Answer) → RightAnswer (keyed e s) (keyed e t) (keysOf e xs) A
+      → printedOf (andThen (solutionOf e s xs room A) setReply) ≡ printedOf (andThen (solutionOf e s′ xs room A) setReply)
+  unfolding solutionOf requiredOf heldBy fitted solutionText
   list-alike xs room (firstLacks n) o = refl
   list-alike xs room (secondLacks n) o = refl
-  list-alike xs room (disagree a b c) o =
-      let k = o .1 .clash in
-      rw (name a (o .0 a (k .inOne) .0), name b (o .0 b (k .inTwo) .0), name c (o .0 c (k .inThree) .0)) refl
+  list-alike xs room (disagree a b c) o = three-alike eight xs a b c o
   list-alike xs room (largest X) o =
-      rw (agreement.sides-one-text e s s′ p v (setOf X)) (go (leb (length (keptTextIn e (restrictIn e (setOf X) s′))) room))
+      ap (λ (l : List ℕ). printedOf (andThen (cond (leb (length l) room) (found (solution e s X)) (refused tooShort)) setReply))
+      (agreement.sides-one-text e s s′ p v (setOf X))
+      ∙ go (leb (length (keptTextIn e (restrictIn e (setOf X) s′))) room)
     where
-      go : (b : Bool)
-          → printedOf (ofSolution (cond b (mast.solved e s X (keptTextIn e (restrictIn e (setOf X) s′))) (mast.turned mast.tooShort)))
-          ≡ printedOf (ofSolution (cond b (mast.solved e s′ X (keptTextIn e (restrictIn e (setOf X) s′))) (mast.turned mast.tooShort)))
-      go true =
-          ap (λ (N : List Label). recordLines N (keptTextIn e (restrictIn e (setOf X) s′)))
-          (names X (λ x m. o .allowedSet .commonLeaves x m .0))
+      go : (b : Bool) → printedOf (andThen (cond b (found (solution e s X)) (refused tooShort)) setReply)
+          ≡ printedOf (andThen (cond b (found (solution e s′ X)) (refused tooShort)) setReply)
+      go true = set-alike X (λ x m. o .allowedSet .commonLeaves x m .0)
       go false = refl
 
   solved-alike : (text : List ℕ) (room : ℕ) (z : Reading (List Token)) → readListIn e text ≡ z
-      → printedOf (ofSolution (solveList e s t room z)) ≡ printedOf (ofSolution (solveList e s′ t′ room z))
-  unfolding solveList
-  solved-alike text room (refused r i) h = refl
+      → printedOf (andThen (andThen (bodyOf K z) (solveList e room (record { first = s; second = t }))) setReply)
+      ≡ printedOf (andThen (andThen (bodyOf K z) (solveList e room (record { first = s′; second = t′ }))) setReply)
+  unfolding bodyOf andThen solveList answerTo
+  solved-alike text room (unread r i) h = refl
   solved-alike text room (good xs) h =
       let d = accepted-list e text xs h .different in
       list-alike xs room (answer (keyed e s) (keyed e t) (keysOf e xs)) (outcome (keysOf e xs) d)
-      ∙ ap (λ (A : Answer). printedOf (ofSolution (solutionOf e s′ xs room A))) (alike (keysOf e xs) d)
+      ∙ ap (λ (A : Answer). printedOf (andThen (solutionOf e s′ xs room A) setReply)) (alike (keysOf e xs) d)
 
   -- ---- with one
 
-  three-alike : (ys : List Token) (a b c : Label) (size : ℕ) (xs : List Token) → Outcome (keyed e s) (keyed e t) (keysOf e ys) (disagree a b c)
-      → (m : Option ℕ)
-      → printedOf (ofJudgement (judgedByList e s xs ys size m (some (record { one = a; two = b; three = c }))))
-      ≡ printedOf (ofJudgement (judgedByList e s′ xs ys size m (some (record { one = a; two = b; three = c }))))
-  unfolding printedOf ofJudgement judgedByList judgedByThree
-  three-alike ys a b c size xs o (some n) = refl
-  three-alike ys a b c size xs o none =
-      let k = o .1 .clash in
-      rw (name a (o .0 a (k .inOne) .0), name b (o .0 b (k .inTwo) .0), name c (o .0 c (k .inThree) .0)) refl
+  abbrev claimed : Outcome Comparison → List ℕ
+  claimed x = printedOf (andThen (andThen x verdictOn) claimReply)
 
-  size-alike : (xs ys : List Token) (size : ℕ) (m : Option ℕ)
-      → printedOf (ofJudgement (judgedByList e s xs ys size m none)) ≡ printedOf (ofJudgement (judgedByList e s′ xs ys size m none))
-  unfolding judgedByList judgedByThree
-  size-alike xs ys size (some n) = refl
-  size-alike xs ys size none = refl
+  verdict-alike : (xs ys : List Token) (size : ℕ) (B : Answer) → RightAnswer (keyed e s) (keyed e t) (keysOf e ys) B
+      → claimed (compareOther e s xs ys size B) ≡ claimed (compareOther e s′ xs ys size B)
+  unfolding compareOther heldBy comparison clashOf verdictOn judgedByList judgedByThree judgedBySize
+  verdict-alike xs ys size (firstLacks n) o = refl
+  verdict-alike xs ys size (secondLacks n) o = refl
+  verdict-alike xs ys size (disagree a b c) o = go (missing (keysOf e xs) (keysOf e ys) 0)
+    where
+      go : (m : Option ℕ)
+          → printedOf (andThen (judgedByList (comparison e s xs ys size (apart (record { one = a; two = b; three = c }))) m) claimReply)
+          ≡ printedOf (andThen (judgedByList (comparison e s′ xs ys size (apart (record { one = a; two = b; three = c }))) m) claimReply)
+      go none = three-alike fourteen ys a b c o
+      go (some n) = refl
+  verdict-alike xs ys size (largest Y) o = go (missing (keysOf e xs) (keysOf e ys) 0)
+    where
+      go : (m : Option ℕ)
+          → printedOf (andThen (judgedByList (comparison e s xs ys size (together Y)) m) claimReply)
+          ≡ printedOf (andThen (judgedByList (comparison e s′ xs ys size (together Y)) m) claimReply)
+      go none = refl
+      go (some n) = refl
 
-  claim-alike : (xs ys : List Token) (A B : Answer) → Outcome (keyed e s) (keyed e t) (keysOf e xs) A
-      → Outcome (keyed e s) (keyed e t) (keysOf e ys) B
-      → printedOf (ofJudgement (judgedBy (compareAnswers e s xs ys A B))) ≡ printedOf (ofJudgement (judgedBy (compareAnswers e s′ xs ys A B)))
-  unfolding printedOf ofJudgement judgedBy compareAnswers compareOther
+  claim-alike : (xs ys : List Token) (A B : Answer) → RightAnswer (keyed e s) (keyed e t) (keysOf e xs) A
+      → RightAnswer (keyed e s) (keyed e t) (keysOf e ys) B → claimed (compareAnswers e s xs ys A B) ≡ claimed (compareAnswers e s′ xs ys A B)
+  unfolding compareAnswers requiredOf heldBy
   claim-alike xs ys (firstLacks n) B o r = refl
   claim-alike xs ys (secondLacks n) B o r = refl
-  claim-alike xs ys (disagree a b c) B o r =
-      let k = o .1 .clash in
-      rw (name a (o .0 a (k .inOne) .0), name b (o .0 b (k .inTwo) .0), name c (o .0 c (k .inThree) .0)) refl
-  claim-alike xs ys (largest X) (firstLacks n) o r = refl
-  claim-alike xs ys (largest X) (secondLacks n) o r = refl
-  claim-alike xs ys (largest X) (disagree a b c) o r = three-alike ys a b c (length X) xs r (missing (keysOf e xs) (keysOf e ys) 0)
-  claim-alike xs ys (largest X) (largest Y) o r = size-alike xs ys (length X) (missing (keysOf e xs) (keysOf e ys) 0)
+  claim-alike xs ys (disagree a b c) B o r = three-alike eight xs a b c o
+  claim-alike xs ys (largest X) B o r = verdict-alike xs ys (length X) B r
 
   judged-alike : (list claim : List ℕ) (z y : Reading (List Token)) → readListIn e list ≡ z → readListIn e claim ≡ y
-      → printedOf (ofJudgement (judgedBy (compareRead e s t z y))) ≡ printedOf (ofJudgement (judgedBy (compareRead e s′ t′ z y)))
-  unfolding compareRead compareLists
-  judged-alike list claim (refused r i) y h k = refl
-  judged-alike list claim (good xs) (refused r i) h k = refl
+      → claimed (andThen (bodyOf K z) (λ xs. andThen (bodyOf C y) (compareLists e (record { first = s; second = t }) xs)))
+      ≡ claimed (andThen (bodyOf K z) (λ xs. andThen (bodyOf C y) (compareLists e (record { first = s′; second = t′ }) xs)))
+  unfolding bodyOf andThen compareLists answerTo
+  judged-alike list claim (unread r i) y h k = refl
+  judged-alike list claim (good xs) (unread r i) h k = refl
   judged-alike list claim (good xs) (good ys) h k =
       let d = accepted-list e list xs h .different in
       let f = accepted-list e claim ys k .different in
       claim-alike xs ys (answer (keyed e s) (keyed e t) (keysOf e xs)) (answer (keyed e s) (keyed e t) (keysOf e ys)) (outcome (keysOf e xs) d)
       (outcome (keysOf e ys) f)
-      ∙ ap₂ (λ (A B : Answer). printedOf (ofJudgement (judgedBy (compareAnswers e s′ xs ys A B)))) (alike (keysOf e xs) d) (alike (keysOf e ys) f)
+      ∙ ap₂ (λ (A B : Answer). claimed (compareAnswers e s′ xs ys A B)) (alike (keysOf e xs) d) (alike (keysOf e ys) f)
 
 -- what a task comes to, once both trees are read and no leaf is stray
 module _ (q : Task) (s t : Tree) (one : readTreeIn (q .options .edition) (q .first) ≡ good s)
     (two : readTreeIn (q .options .edition) (q .second) ≡ good t)
     (shared : q .options .strict ≡ true → SameLeaves (keyed (q .options .edition) s) (keyed (q .options .edition) t)) where
+  abbrev D : Edition
+  D = q .options .edition
+
+  both : treesOf (q .options) (q .first) (q .second) ≡ found (record { first = s; second = t })
+  both = trees-both (q .options) (q .first) (q .second) s one t two (shared-nowhere (q .options) s t shared)
+
   plain-task : solveTask q none
-      ≡ ofSolution (solveList (q .options .edition) s t treeRoom (readListIn (q .options .edition) (q .required)))
-  unfolding solveTask sharedThen
-  plain-task = ap ofSolution (solve-trees q treeRoom s t one two nowhere (shared-nowhere (q .options) s t shared))
+      ≡ andThen (andThen (bodyOf K (readListIn D (q .required))) (solveList D treeRoom (record { first = s; second = t }))) setReply
+  unfolding solveTask solve listOf
+  plain-task =
+      ap (λ (x : Outcome Solution). andThen x setReply)
+      (then-found (treesOf (q .options) (q .first) (q .second)) (λ p. andThen (listOf D K (q .required)) (solveList D treeRoom p)) _ both)
 
   claim-task : (text : List ℕ) → solveTask q (some text)
-      ≡ ofJudgement (judgedBy (compareRead (q .options .edition) s t (readListIn (q .options .edition) (q .required)) (readListIn (q .options .edition) text)))
-  unfolding solveTask
-  claim-task text = ap ofJudgement (judged-shared q text s t one two (shared-nowhere (q .options) s t shared))
+      ≡ andThen (andThen (andThen (bodyOf K (readListIn D (q .required)))
+      (λ xs. andThen (bodyOf C (readListIn D text)) (compareLists D (record { first = s; second = t }) xs))) verdictOn) claimReply
+  unfolding solveTask judge compare listOf
+  claim-task text =
+      ap (λ (x : Outcome Comparison). andThen (andThen x verdictOn) claimReply)
+      (then-found (treesOf (q .options) (q .first) (q .second))
+      (λ p. andThen (listOf D K (q .required)) (λ xs. andThen (listOf D C text) (compareLists D p xs))) _ both)
 
 -- the same lines and lists with equal trees
 module _ (b : Bodies) (s s′ t t′ : Tree) (p : Same s s′) (q : Same t t′) (first : TreeBody (editionIn b) (firstText b) s)

@@ -18,9 +18,10 @@ use Rattle.agreement.proofs.Promises.{stray-promise, stray-leaf}
 use Rattle.claims.specs.Claim.{Verdict, claimFirstLacks, claimSecondLacks, claimLacks, claimDisagrees, claimSmall, claimPasses}
 use Rattle.claims.specs.Judge.{judgementOf}
 use Rattle.contents.specs.Contents.{Bodies, part, firstText, secondText, listText, claimText}
-use Rattle.job.specs.Printed.{JobSolution, turned, ofJudgement, taskOf, solveBodies, solveJob}
-use Rattle.job.specs.Outcome.{TreeBody, JobOutcome, Stopped, withoutLine, editionIn}
-use Rattle.job.specs.Outcome.{too-long, no-contents, first-fault, second-fault, list-fault, claim-fault, stray-first, stray-second, first-lacks, second-lacks, disagreement, largest-set, judged}
+use Rattle.pairs.specs.Outcome.{Outcome, refused, andThen}
+use Rattle.job.specs.Printed.{Reply, claimReply, taskOf, solveBodies, solveJob}
+use Rattle.job.specs.JobOutcome.{TreeBody, JobOutcome, Stopped, withoutLine, editionIn}
+use Rattle.job.specs.JobOutcome.{too-long, no-contents, first-fault, second-fault, list-fault, claim-fault, stray-first, stray-second, first-lacks, second-lacks, disagreement, largest-set, judged}
 use Rattle.job.proofs.OutcomeLaws.{outcome-exactly, body-tree}
 use Rattle.job.proofs.RoomLaws.{fault-low}
 use Rattle.job.proofs.TaskLaws.{task-strict}
@@ -30,12 +31,12 @@ stray-differ : (s t : Tree) (x : Label) → IsStray s t x → SameLeaves s t →
 stray-differ s t x h e = clash (sym (e x) ∙ stray-leaf s t x h) (h .outside)
 
 -- a refusal by its number
-told : (q : Refusal) (x : JobSolution) (p : Refusal) → x ≡ turned p → x ≡ turned q → numberOf (p .reason) ≡ numberOf (q .reason)
+told : (q : Refusal) (x : Outcome Reply) (p : Refusal) → x ≡ refused p → x ≡ refused q → numberOf (p .reason) ≡ numberOf (q .reason)
 told q x p e f = let g : p ≡ q = cc in ap (λ (r : Refusal). numberOf (r .reason)) g
 
-verdict-no-twelve : (d : Edition) (s : Tree) (xs ys : List Token) (v : Verdict) (q : Refusal) → ofJudgement (judgementOf d s xs ys v) ≡ turned q
+verdict-no-twelve : (d : Edition) (s : Tree) (xs ys : List Token) (v : Verdict) (q : Refusal) → andThen (judgementOf d s xs ys v) claimReply ≡ refused q
     → numberOf (q .reason) ≡ 12 → ⊥
-unfolding judgementOf ofJudgement numberOf
+unfolding judgementOf andThen numberOf
 verdict-no-twelve d s xs ys (claimFirstLacks m) q e n = omega (arith, told q _ _ refl e)
 verdict-no-twelve d s xs ys (claimSecondLacks m) q e n = omega (arith, told q _ _ refl e)
 verdict-no-twelve d s xs ys (claimLacks m) q e n = omega (arith, told q _ _ refl e)
@@ -44,7 +45,7 @@ verdict-no-twelve d s xs ys claimSmall q e n = omega (arith, told q _ _ refl e)
 verdict-no-twelve d s xs ys (claimPasses m) q e n = let z : _≡_ {A = ℕ} 0 1 = cc in omega arith
 
 module _ (job : List ℕ) where
-  stopped : (x : JobSolution) → JobOutcome job x → (q : Refusal) → x ≡ turned q → numberOf (q .reason) ≡ 12 → Stopped job
+  stopped : (x : Outcome Reply) → JobOutcome job x → (q : Refusal) → x ≡ refused q → numberOf (q .reason) ≡ 12 → Stopped job
   unfolding numberOf
   stopped x (too-long h) q e n = absurd (omega (arith, told q x _ refl e))
   stopped x (no-contents h never) q e n = absurd (omega (arith, told q x _ refl e))
@@ -71,18 +72,18 @@ module _ (job : List ℕ) where
   stopped x (largest-set d s t xs asks X o) q e n = let z : _≡_ {A = ℕ} 0 1 = cc in absurd (omega arith)
   stopped x (judged d s t xs ys asks clear v o) q e n = absurd (verdict-no-twelve d s xs ys v q e n)
 
-  stops : Stopped job → (q : Refusal) × (solveJob job ≡ turned q) × (numberOf (q .reason) ≡ 12)
+  stops : Stopped job → (q : Refusal) × (solveJob job ≡ refused q) × (numberOf (q .reason) ≡ 12)
   unfolding numberOf
   stops w = go (strayOf (keyed (editionIn (w .bodies)) (w .s)) (keyed (editionIn (w .bodies)) (w .t))) (stray-promise (keyed (editionIn (w .bodies)) (w .s)) (keyed (editionIn (w .bodies)) (w .t)) _ .0 refl)
     where
-      go : (r : Stray) → Told (keyed (editionIn (w .bodies)) (w .s)) (keyed (editionIn (w .bodies)) (w .t)) r → (q : Refusal) × (solveJob job ≡ turned q) × (numberOf (q .reason) ≡ 12)
+      go : (r : Stray) → Told (keyed (editionIn (w .bodies)) (w .s)) (keyed (editionIn (w .bodies)) (w .t)) r → (q : Refusal) × (solveJob job ≡ refused q) × (numberOf (q .reason) ≡ 12)
       go (inFirst x) h =
           (_, outcome-exactly job _ .1 (stray-first (w .bodies) (w .held) (w .strict) (w .s) (w .t) (w .first) (w .second) x h), refl)
       go (inSecond x) h =
           (_, outcome-exactly job _ .1 (stray-second (w .bodies) (w .held) (w .strict) (w .s) (w .t) (w .first) (w .second) x (h .0) (h .1)), refl)
       go nowhere h = absurd (w .differ h)
 
-  pub twelve-exactly : ((q : Refusal) × (solveJob job ≡ turned q) × (numberOf (q .reason) ≡ 12)) ↔ Stopped job
+  pub twelve-exactly : ((q : Refusal) × (solveJob job ≡ refused q) × (numberOf (q .reason) ≡ 12)) ↔ Stopped job
   twelve-exactly = (λ k. stopped (solveJob job) (outcome-exactly job (solveJob job) .0 refl) (k .0) (k .1) (k .2), stops)
 
 -- where both trees hold the same leaves the line changes nothing

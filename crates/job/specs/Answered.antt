@@ -2,27 +2,26 @@
 -- printed lines (`printedOf`). 01, "Job and printed result" and "Why a job is turned down".
 use Prim.Native.Nat.{ℕ, _+_}
 use mathlib.Core.Bool.{Bool, cond}
-use mathlib.Core.List.{List, [], _++_, map}
-use lib.Dec.{leb}
+use mathlib.Core.List.{List, [], _++_}
+use lib.Dec.{eqb, leb}
 use lib.ListN.{length, take, drop}
-use Rattle.trees.specs.declared.Reason.the-variants.{TooShort as TooShortReason}
-use Rattle.trees.specs.declared.Body.the-variants.{S, K, C, O}
+use Rattle.trees.specs.declared.Body.{Body}
+use Rattle.trees.specs.declared.Body.the-variants.{S, K, C}
 use Rattle.trees.specs.declared.Refusal.{Refusal}
+use Rattle.trees.specs.Refusals.{letterOf}
 use Rattle.trees.specs.Label.{Label, labelLimit}
 use Rattle.trees.specs.Stored.{partOf}
-use Rattle.trees.specs.declared.Edition.{Edition}
-use Rattle.trees.specs.Edition.{folded}
-use Rattle.trees.specs.Token.{Token, spelling}
-use Rattle.trees.specs.Tree.{Tree}
-use Rattle.lists.specs.ReadList.{foldedList}
+use Rattle.trees.specs.Token.{spelling}
 use Rattle.contents.specs.Contents.{layoutOf, bodyPlace}
-use Rattle.agreement.specs.Places.{placeIn, tokenIn, placeOfLabel, nameIn}
+use Rattle.mast.specs.declared.Named.{Named}
+use Rattle.mast.specs.declared.NamedLabel.{NamedLabel}
+use Rattle.pairs.specs.Outcome.{Outcome, refused, naming, found}
+use Rattle.mast.specs.NamedLabels.{namedOf}
+use Rattle.mast.specs.Largest.{tooShort}
 use Rattle.job.specs.declared.Begin.{Begin}
 use Rattle.job.specs.declared.JobAnswer.{JobAnswer}
 use Rattle.job.specs.declared.JobAnswer.the-variants as job-answer
-use Rattle.job.specs.declared.Named.{Named}
-use Rattle.job.specs.declared.NamedLabel.{NamedLabel}
-use Rattle.job.specs.Printed.{JobSolution, solved, passed, clashed, apart, turned, threeLine, claimLine, recordLines, solveJob}
+use Rattle.job.specs.Printed.{Reply, namingLine, threeLine, replyLines, solveJob}
 use Rattle.job.specs.declared.LineAnswer.{LineAnswer}
 use Rattle.job.specs.declared.LineAnswer.the-variants.{Written, TooShort}
 
@@ -30,13 +29,9 @@ use Rattle.job.specs.declared.LineAnswer.the-variants.{Written, TooShort
 abbrev pub fits : List ℕ → ℕ → Bool
 fits text room = leb (length text) room
 
--- number 9, "O 0"
-abbrev pub outputShort : Refusal
-outputShort = record { reason = TooShortReason; body = O; place = 0 }
-
--- a text for an output of `room` bytes
+-- a text for an output of `room` bytes, or number 9, "O 0"
 unfoldable pub lineAnswer : List ℕ → ℕ → LineAnswer
-lineAnswer text room = cond (fits text room) (Written (length text)) (TooShort outputShort)
+lineAnswer text room = cond (fits text room) (Written (length text)) (TooShort tooShort)
 
 -- the output holds the text, further bytes unchanged; if it is too short, it keeps every byte
 unfoldable pub lineOutput : List ℕ → List ℕ → List ℕ
@@ -54,7 +49,7 @@ labelIn text start size = take labelLimit (spelling (partOf start size text))
 
 -- the line of a refusal, number 8 or 14, with the labels that places and sizes in the job name
 unfoldable pub namedLine : List ℕ → Refusal → Named → List ℕ
-unfolding threeLine labelIn
+unfolding namingLine labelIn
 namedLine job q n =
     threeLine q (labelIn job (n .first .start) (n .first .size)) (labelIn job (n .second .start) (n .second .size))
     (labelIn job (n .third .start) (n .third .size))
@@ -72,34 +67,31 @@ recordAnswer lines room = linesAnswer (lineAnswer lines room)
 abbrev pub beginIn : List ℕ → Begin
 beginIn job = record { tree = bodyPlace S (layoutOf job); list = bodyPlace K (layoutOf job); claim = bodyPlace C (layoutOf job) }
 
--- A label of a list that begins at `base` in the job: its place there, and its place and size in the first tree, which begins at `origin`.
--- "the part of the text shown for it has both quotes"
-unfoldable pub namedLabel : ℕ → ℕ → Edition → Tree → List Token → Label → NamedLabel
-unfolding placeOfLabel placeIn tokenIn
-namedLabel origin base e s xs x =
-    record {
-      place = base + placeOfLabel (foldedList e xs) 0 x;
-      start = origin + placeIn (folded e s) 0 x;
-      size = length (tokenIn (folded e s) x);
-    }
+-- whether a letter is that of the claim
+unfoldable pub ofClaim : Body → Bool
+unfolding letterOf
+ofClaim body = eqb (letterOf body) (letterOf C)
 
-unfoldable pub namedThree : ℕ → ℕ → Edition → Tree → List Token → Label → Label → Label → Named
-unfolding namedLabel
-namedThree origin base e s xs a b c =
-    record {
-      first = namedLabel origin base e s xs a;
-      second = namedLabel origin base e s xs b;
-      third = namedLabel origin base e s xs c;
-    }
+-- where the list of a refusal that names labels begins: the claim for 14, with letter C, and the required list for 8, with letter K
+unfoldable pub baseOf : Begin → Body → ℕ
+unfolding ofClaim
+baseOf at body = cond (ofClaim body) (at .claim) (at .list)
+
+-- a named label by places in a job: its list begins at `base`, the first tree at `origin`
+unfoldable pub movedLabel : ℕ → ℕ → NamedLabel → NamedLabel
+movedLabel origin base x = record { place = base + x .place; start = origin + x .start; size = x .size }
+
+unfoldable pub movedBy : ℕ → ℕ → Named → Named
+unfolding movedLabel
+movedBy origin base n =
+    record { first = movedLabel origin base (n .first); second = movedLabel origin base (n .second); third = movedLabel origin base (n .third) }
 
 -- the answer to a job with bodies that begin there, for an output of `room` bytes
-unfoldable pub answered : Begin → ℕ → JobSolution → JobAnswer
-unfolding recordAnswer namedThree recordLines claimLine
-answered at room (solved e s X text) = recordAnswer (recordLines (map (nameIn e s) X) text) room
-answered at room (passed n) = recordAnswer (claimLine n) room
-answered at room (clashed e s xs a b c) = job-answer.Disagree (namedThree (at .tree) (at .list) e s xs a b c)
-answered at room (apart e s ys a b c) = job-answer.Apart (namedThree (at .tree) (at .claim) e s ys a b c)
-answered at room (turned q) = job-answer.Refused q
+unfoldable pub answered : Begin → ℕ → Outcome Reply → JobAnswer
+unfolding recordAnswer replyLines movedBy baseOf namedOf
+answered at room (found x) = recordAnswer (replyLines x) room
+answered at room (naming q n) = job-answer.Naming q (movedBy (at .tree) (baseOf at (q .body)) (namedOf n))
+answered at room (refused q) = job-answer.Refused q
 
 -- the answer to a job, for an output of `room` bytes
 unfoldable pub answerTo : List ℕ → ℕ → JobAnswer
@@ -107,10 +99,8 @@ unfolding answered solveJob bodyPlace layoutOf
 answerTo job room = answered (beginIn job) room (solveJob job)
 
 -- what the output then holds: the answer's lines, further bytes unchanged; "On refusal .. an output keeps every byte."
-unfoldable pub jobOutput : JobSolution → List ℕ → List ℕ
-unfolding lineOutput recordLines claimLine
-jobOutput (solved e s X text) out = lineOutput (recordLines (map (nameIn e s) X) text) out
-jobOutput (passed n) out = lineOutput (claimLine n) out
-jobOutput (clashed e s xs a b c) out = out
-jobOutput (apart e s ys a b c) out = out
-jobOutput (turned q) out = out
+unfoldable pub jobOutput : Outcome Reply → List ℕ → List ℕ
+unfolding lineOutput replyLines
+jobOutput (found x) out = lineOutput (replyLines x) out
+jobOutput (naming q n) out = out
+jobOutput (refused q) out = out

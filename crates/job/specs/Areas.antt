@@ -5,7 +5,7 @@ use mathlib.Core.List.{List, [], _∷_, _++_}
 use lib.ListN.{length, getD, take, drop}
 use Rattle.trees.specs.Label.{Label}
 use Rattle.trees.specs.Token.{Token}
-use Rattle.job.specs.declared.Named.{Named}
+use Rattle.mast.specs.declared.Named.{Named}
 use Rattle.job.specs.Answered.{labelIn}
 
 -- A text was put into an area from `at` on. The next byte goes to `next`, and the bytes before `at` are unchanged.
@@ -27,20 +27,11 @@ labelsIn text starts sizes zero = []
 labelsIn text starts sizes (suc n) =
     labelsIn text starts sizes n ++ (labelIn text (getD starts n 0) (getD sizes n 0) ∷ [])
 
--- three labels at places of a list, which begins at `base` in the job, and of the first tree, which begins at `origin`
-unfoldable pub namedAt : ℕ → ℕ → List ℕ → List ℕ → ℕ → ℕ → ℕ → Named
-namedAt origin base starts sizes a b c =
-    record {
-      first = record { place = base + a; start = origin + getD starts 0 0; size = getD sizes 0 0 };
-      second = record { place = base + b; start = origin + getD starts 1 0; size = getD sizes 1 0 };
-      third = record { place = base + c; start = origin + getD starts 2 0; size = getD sizes 2 0 };
-    }
-
--- these places are places of a job
-pub record Near (limit origin base : ℕ) (starts : List ℕ) (a b c : ℕ) : Type 0 where
-  pub one : base + a ≤ limit
-  pub two : base + b ≤ limit
-  pub three : base + c ≤ limit
-  pub first : origin + getD starts 0 0 ≤ limit
-  pub second : origin + getD starts 1 0 ≤ limit
-  pub third : origin + getD starts 2 0 ≤ limit
+-- these places, moved, are places of a job
+pub record Near (limit origin base : ℕ) (n : Named) : Type 0 where
+  pub one : base + n .first .place ≤ limit
+  pub two : base + n .second .place ≤ limit
+  pub three : base + n .third .place ≤ limit
+  pub first : origin + n .first .start ≤ limit
+  pub second : origin + n .second .start ≤ limit
+  pub third : origin + n .third .start ≤ limit

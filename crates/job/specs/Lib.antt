@@ -1,7 +1,7 @@
 pub mod Answered
 pub mod Areas
-pub mod Outcome
+pub mod JobOutcome
+pub mod PaperNumbers
 pub mod PaperTable
 pub mod Printed
-pub mod Rows
 pub mod Sides

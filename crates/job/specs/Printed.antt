@@ -6,24 +6,27 @@ use mathlib.Core.List.{List, [], _∷_, _++_, map}
 use mathlib.Core.Option.{Option, some, none}
 use lib.Dec.{leb}
 use lib.ListN.{length}
-use Rattle.trees.specs.declared.Reason.the-variants.{Disagree, Contents, JobTooLong, ClaimDisagrees}
-use Rattle.trees.specs.declared.Body.the-variants.{K, C, J}
+use Rattle.trees.specs.declared.Reason.the-variants.{Contents, JobTooLong}
+use Rattle.trees.specs.declared.Body.the-variants.{J}
 use Rattle.trees.specs.declared.Refusal.{Refusal}
 use Rattle.trees.specs.Refusals.{numberOf, letterOf}
 use Rattle.trees.specs.declared.Edition.{Edition}
+use Rattle.trees.specs.Edition.{normalIn, rewritten}
 use Rattle.trees.specs.Label.{Label}
-use Rattle.trees.specs.Text.{treeRoom}
+use Rattle.trees.specs.Text.{textOf, treeRoom}
 use Rattle.trees.specs.Token.{Token, tokenOf, tokenLimit}
-use Rattle.trees.specs.Tree.{Tree, leafLimit}
+use Rattle.trees.specs.Tree.{Tree, leafLimit, relabel}
 use Rattle.trees.specs.Words.{bytesOf}
 use Rattle.lists.specs.ReadList.{joined}
 use Rattle.decimals.specs.Decimal.{digitRoom, decimalOf}
-use Rattle.agreement.specs.Places.{nameIn}
+use Rattle.agreement.specs.Sets.{setOf}
+use Rattle.agreement.specs.Restrict.{restrictIn}
+use Rattle.agreement.specs.Places.{spelledIn}
 use Rattle.contents.specs.Contents.{Bodies, editionOf, firstText, secondText, listText, claimText, bodiesOf, line}
-use Rattle.mast.specs.Largest.{Solution, Task, task, solve}
-use Rattle.mast.specs.Largest as mast
-use Rattle.claims.specs.Judge.{Judgement, judge}
-use Rattle.claims.specs.Judge as claims
+use Rattle.pairs.specs.Outcome.{Outcome, refused, naming, found, andThen, Trio}
+use Rattle.mast.specs.Query.{Task, task, eight}
+use Rattle.mast.specs.Largest.{Solution, solve}
+use Rattle.claims.specs.Judge.{fourteen, judge}
 
 -- "the job limit becomes 16,384 bytes" (C-14)
 abbrev pub jobLimit : ℕ
@@ -54,48 +57,37 @@ recordRoom = 17 + 2 + (leafLimit * itemRoom - 1) + treeRoom
 abbrev pub taskOf : Bodies → Task
 taskOf b = task (record { strict = b .head .strict; edition = editionOf (b .head .stated) }) (firstText b) (secondText b) (listText b)
 
--- the result of a job, with or without a claim: the engine's solution or the judgement of the claim, in one type
-pub data JobSolution : Type 0 where
-  -- the edition; the first tree, which spells all that is printed; the set in label order, by its keys; the normal text of its common
-  -- restriction
-  solved : Edition → Tree → List Label → List ℕ → JobSolution
-  -- C-16: the claim passes; its size
-  passed : ℕ → JobSolution
-  -- number 8: the edition, the first tree, the required list and three of its labels, by their keys
-  clashed : Edition → Tree → List Token → Label → Label → Label → JobSolution
-  -- number 14: the same with the claim
-  apart : Edition → Tree → List Token → Label → Label → Label → JobSolution
-  turned : Refusal → JobSolution
+-- ---- what a job comes to
 
--- a job without a claim has the engine's solution
-unfoldable pub ofSolution : Solution → JobSolution
-ofSolution (mast.solved e s X text) = solved e s X text
-ofSolution (mast.clashed e s xs a b c) = clashed e s xs a b c
-ofSolution (mast.turned q) = turned q
+-- what is found for a job: the engine's set, or that its claim passes (C-16), with its size
+pub data Reply : Type 0 where
+  solved : Solution → Reply
+  passed : ℕ → Reply
 
--- a job with a claim has its judgement
-unfoldable pub ofJudgement : Judgement → JobSolution
-ofJudgement (claims.passes n) = passed n
-ofJudgement (claims.disagrees e s xs a b c) = clashed e s xs a b c
-ofJudgement (claims.apart e s ys a b c) = apart e s ys a b c
-ofJudgement (claims.declined q) = turned q
+abbrev pub setReply : Solution → Outcome Reply
+setReply r = found (solved r)
+
+abbrev pub claimReply : ℕ → Outcome Reply
+claimReply n = found (passed n)
 
 -- C-16: "that is the job's answer: what 01 and demands 1 and 3 say of the set as the answer is about jobs without C"
-unfoldable pub solveTask : Task → Option (List ℕ) → JobSolution
-unfolding solve ofSolution judge ofJudgement
-solveTask q none = ofSolution (solve q treeRoom)
-solveTask q (some claim) = ofJudgement (judge q claim)
+unfoldable pub solveTask : Task → Option (List ℕ) → Outcome Reply
+unfolding andThen solve judge
+solveTask q none = andThen (solve q treeRoom) setReply
+solveTask q (some claim) = andThen (judge q claim) claimReply
 
-unfoldable pub solveBodies : Option Bodies → JobSolution
+unfoldable pub solveBodies : Option Bodies → Outcome Reply
 unfolding solveTask
-solveBodies none = turned (record { reason = Contents; body = J; place = 0 })
+solveBodies none = refused (record { reason = Contents; body = J; place = 0 })
 solveBodies (some b) = solveTask (taskOf b) (claimText b)
 
 -- "Order: .. 11, 10, S, T, K, then 6 or 7, then 8", with 12 before K, and C right after K
-unfoldable pub solveJob : List ℕ → JobSolution
+unfoldable pub solveJob : List ℕ → Outcome Reply
 unfolding solveBodies bodiesOf
 solveJob job =
-    cond (leb (length job) jobLimit) (solveBodies (bodiesOf job)) (turned (record { reason = JobTooLong; body = J; place = 0 }))
+    cond (leb (length job) jobLimit) (solveBodies (bodiesOf job)) (refused (record { reason = JobTooLong; body = J; place = 0 }))
+
+-- ---- lines
 
 -- "A refusal is one line, `refused`, number, body letter, place"
 unfoldable pub refusedWords : Refusal → List ℕ
@@ -103,25 +95,28 @@ unfolding bytesOf numberOf letterOf decimalOf
 refusedWords q =
     bytesOf "refused " ++ (decimalOf (numberOf (q .reason)) ++ (32 ∷ letterOf (q .body) ∷ 32 ∷ decimalOf (q .place)))
 
--- "They are the count of leaves, the set in label order, and the normal text of the common restriction.": the set by its labels as they are
--- spelled
-unfoldable pub recordLines : List Label → List ℕ → List ℕ
-unfolding bytesOf decimalOf joined line
-recordLines X text =
-    line (bytesOf "size " ++ decimalOf (length X)) ++ (line (bytesOf "set " ++ joined (map tokenOf X)) ++ line (bytesOf "tree " ++ text))
-
--- a refusal that names labels: "adds a space and its three labels joined by commas.", as they are spelled
-unfoldable pub threeLine : Refusal → Label → Label → Label → List ℕ
+-- a refusal that names labels: "adds a space and its three labels joined by commas."
+unfoldable pub namingLine : Refusal → List Token → List ℕ
 unfolding refusedWords joined line
-threeLine q a b c = line (refusedWords q ++ (32 ∷ joined (map tokenOf (a ∷ b ∷ c ∷ []))))
+namingLine q X = line (refusedWords q ++ (32 ∷ joined X))
 
--- "three required leaves have different closer pairs", K 0
-abbrev pub eight : Refusal
-eight = record { reason = Disagree; body = K; place = 0 }
+-- "They are the count of leaves, the set in label order, and the normal text of the common restriction."
+unfoldable pub setLines : List Token → List ℕ → List ℕ
+unfolding bytesOf decimalOf joined line
+setLines X text =
+    line (bytesOf "size " ++ decimalOf (length X)) ++ (line (bytesOf "set " ++ joined X) ++ line (bytesOf "tree " ++ text))
 
--- C-16: "14 for three claimed leaves that disagree, named as 8 names them", "at C 0"
-abbrev pub fourteen : Refusal
-fourteen = record { reason = ClaimDisagrees; body = C; place = 0 }
+-- C-16: "The program then prints only `claim ok`, a blank and the size"
+unfoldable pub claimLine : ℕ → List ℕ
+unfolding bytesOf decimalOf line
+claimLine n = line (bytesOf "claim ok " ++ decimalOf n)
+
+-- these lines for labels in their written forms
+abbrev pub recordLines : List Label → List ℕ → List ℕ
+recordLines X text = setLines (map tokenOf X) text
+
+abbrev pub threeLine : Refusal → Label → Label → Label → List ℕ
+threeLine q a b c = namingLine q (map tokenOf (a ∷ b ∷ c ∷ []))
 
 abbrev pub eightLine : Label → Label → Label → List ℕ
 eightLine = threeLine eight
@@ -129,18 +124,56 @@ eightLine = threeLine eight
 abbrev pub fourteenLine : Label → Label → Label → List ℕ
 fourteenLine = threeLine fourteen
 
--- C-16: "The program then prints only `claim ok`, a blank and the size"
-unfoldable pub claimLine : ℕ → List ℕ
-unfolding bytesOf decimalOf line
-claimLine n = line (bytesOf "claim ok " ++ decimalOf n)
+-- ---- what is shown, and how its labels are named
 
-unfoldable pub printedOf : JobSolution → List ℕ
-unfolding refusedWords recordLines claimLine threeLine line
-printedOf (solved e s X text) = recordLines (map (nameIn e s) X) text
-printedOf (passed n) = claimLine n
-printedOf (clashed e s xs a b c) = eightLine (nameIn e s a) (nameIn e s b) (nameIn e s c)
-printedOf (apart e s ys a b c) = fourteenLine (nameIn e s a) (nameIn e s b) (nameIn e s c)
-printedOf (turned q) = line (refusedWords q)
+-- the set in label order, as the first tree spells it; its common restriction, children in order
+pub record Shown : Type 0 where
+  pub set : List Token
+  pub tree : Option Tree
+
+abbrev pub Name : Type 0
+Name = Token → Token
+
+unfoldable pub inOrder : Edition → Option Tree → Option Tree
+unfolding normalIn
+inOrder e none = none
+inOrder e (some t) = some (normalIn e t)
+
+unfoldable pub shownOf : Solution → Shown
+unfolding spelledIn inOrder
+shownOf r =
+    record {
+      set = map (spelledIn (r .edition) (r .first)) (r .set);
+      tree = inOrder (r .edition) (restrictIn (r .edition) (setOf (r .set)) (r .first));
+    }
+
+-- three labels, as the first tree spells them
+unfoldable pub threeOf : Trio → List Token
+unfolding spelledIn
+threeOf n = map (spelledIn (n .edition) (n .first)) (n .labels .one ∷ n .labels .two ∷ n .labels .three ∷ [])
+
+unfoldable pub treeBy : Name → Option Tree → List ℕ
+unfolding textOf relabel
+treeBy name none = []
+treeBy name (some t) = textOf (relabel name t)
+
+-- every label through a name
+unfoldable pub linesBy : Name → Shown → List ℕ
+unfolding setLines treeBy
+linesBy name r = setLines (map name (r .set)) (treeBy name (r .tree))
+
+-- ---- what is printed
+
+unfoldable pub replyLines : Reply → List ℕ
+unfolding linesBy shownOf claimLine
+replyLines (solved r) = linesBy rewritten (shownOf r)
+replyLines (passed n) = claimLine n
+
+unfoldable pub printedOf : Outcome Reply → List ℕ
+unfolding replyLines namingLine threeOf refusedWords line
+printedOf (found x) = replyLines x
+printedOf (naming q n) = namingLine q (map rewritten (threeOf n))
+printedOf (refused q) = line (refusedWords q)
 
 unfoldable pub printed : List ℕ → List ℕ
 unfolding printedOf solveJob

@@ -5,7 +5,7 @@ use mathlib.Core.Option.{some}
 use Rattle.trees.specs.Tree.{Tree, Same}
 use Rattle.trees.specs.Text.{textOf}
 use Rattle.contents.specs.Contents.{Bodies, firstText, secondText, listText, claimText}
-use Rattle.job.specs.Outcome.{Holds, editionIn, TreeBody, Shared}
+use Rattle.job.specs.JobOutcome.{Holds, editionIn, TreeBody, Shared}
 
 -- the same lines and lists with the texts of other trees
 abbrev pub withTrees : Tree → Tree → Bodies → Bodies

@@ -8,7 +8,9 @@ use contents::Table;
 use decimals::DIGIT_ROOM;
 use lists::LabelPlaces;
 use mast::LargestAnswer;
-use mast::Options;
+use mast::Named;
+use mast::NamedLabel;
+use pairs::Options;
 use trees::Body;
 use trees::LEAF_LIMIT;
 use trees::Reason;
@@ -21,15 +23,16 @@ ghost use Prim.Native.Nat.{_+_, _≤_};
 ghost use lib.ListN.{replicate};
 ghost use Rattle.contents.specs.declared.Layout.the-variants as layout;
 ghost use Rattle.contents.specs.Contents.{layoutOf};
-ghost use Rattle.mast.specs.Largest.{task, solve};
-ghost use Rattle.claims.specs.Judge.{judge};
+ghost use mathlib.Core.Option.{some, none};
+ghost use Rattle.pairs.specs.Outcome.{refused};
+ghost use Rattle.mast.specs.Query.{task};
 ghost use Rattle.job.specs.declared.JobAnswer as JobAnswer;
 ghost use Rattle.trees.specs.declared.Body.the-variants.{J};
 ghost use Rattle.trees.specs.Text.{treeRoom};
 ghost use Rattle.trees.specs.Tree.{leafLimit};
-ghost use Rattle.job.specs.Printed.{turned, ofSolution, ofJudgement, printedOf, printed, recordLines, claimLine, solveJob, jobLimit};
-ghost use Rattle.job.specs.Areas.{labelsIn, namedAt, Near};
-ghost use Rattle.job.specs.Answered.{lineAnswer, lineOutput, writtenPart, namedLine, answered, answerTo, jobOutput, recordAnswer};
+ghost use Rattle.job.specs.Printed.{printedOf, printed, recordLines, claimLine, solveTask, solveJob, jobLimit};
+ghost use Rattle.job.specs.Areas.{labelsIn, Near};
+ghost use Rattle.job.specs.Answered.{lineAnswer, lineOutput, writtenPart, namedLine, baseOf, movedBy, answered, answerTo, jobOutput, recordAnswer};
 
 mod lines;
 
@@ -55,13 +58,6 @@ pub enum LineAnswer {
     TooShort(Refusal),
 }
 
-// A label of number 8 or 14: its place in the job's list or claim, and the part of the job that spells it, in the first tree.
-pub struct NamedLabel {
-    pub place: usize,
-    pub start: usize,
-    pub size: usize,
-}
-
 // Where the first tree, the list and the claim begin in a job.
 pub struct Begin {
     pub tree: usize,
@@ -69,18 +65,10 @@ pub struct Begin {
     pub claim: usize,
 }
 
-// Three labels, sorted.
-pub struct Named {
-    pub first: NamedLabel,
-    pub second: NamedLabel,
-    pub third: NamedLabel,
-}
-
-// The number of bytes written to the output; number 8 with its three labels; number 14 with those of the claim; or why the job was refused.
+// The number of bytes written to the output; number 8 or 14 with the three labels that it names, by places in the job; or another refusal.
 pub enum JobAnswer {
     Written(usize),
-    Disagree(Named),
-    Apart(Named),
+    Naming(Refusal, Named),
     Refused(Refusal),
 }
 
@@ -104,11 +92,12 @@ pub fn written<'a>(out: &'a [u8], answer: LineAnswer) -> &'a [u8]
 
 // Writes the line of a refusal into `out`.
 pub fn refusal_line(refusal: Refusal, out: &mut [u8]) -> LineAnswer
-    ensures answer { λ r. ⌜ r ≡ lineAnswer (printedOf (turned refusal)) (length (now (out .entry))) ⌝ }
-    ensures output { λ _. ⌜ now (out .exit) ≡ lineOutput (printedOf (turned refusal)) (now (out .entry)) ⌝ }
+    ensures answer { λ r. ⌜ r ≡ lineAnswer (printedOf (refused refusal)) (length (now (out .entry))) ⌝ }
+    ensures output { λ _. ⌜ now (out .exit) ≡ lineOutput (printedOf (refused refusal)) (now (out .entry)) ⌝ }
 {
     let mut line = [0u8; LINE_ROOM];
-    let n = lines::put_refusal_line(refusal, &mut line);
+    let end = lines::put_refusal(refusal, &mut line);
+    let n = lines::put_byte(b'\n', &mut line, end);
     lines::hand_over(&line[..n], out)
 }
 
@@ -124,7 +113,7 @@ pub fn disagreement_line(job: &[u8], refusal: Refusal, named: Named, out: &mut [
 }
 
 // The refusals that the job itself gives: their place is J 0.
-fn refused(reason: Reason) -> JobAnswer
+fn job_refusal(reason: Reason) -> JobAnswer
     ensures { λ r. ⌜ r ≡ JobAnswer.Refused (record { reason = reason; body = J; place = 0 }) ⌝ }
 {
     JobAnswer::Refused(Refusal {
@@ -176,35 +165,40 @@ fn answer_size(size: usize, out: &mut [u8]) -> JobAnswer
     hand_lines(&line[..n], out)
 }
 
-// A label of the list, which begins at `base` in the job, as it is spelled in the first tree, which begins at `origin`.
-fn spelled_label(origin: usize, base: usize, place: usize, start: u16, size: u8) -> NamedLabel
-    requires { ⌜ (base + place ≤ jobLimit) × (origin + start ≤ jobLimit) ⌝ }
-    ensures { λ r. ⌜ r ≡ record { place = base + place; start = origin + start; size = size } ⌝ }
+// Where the list of a refusal that names labels begins: that of the claim for the letter C, otherwise the required one.
+fn base_of(at: Begin, body: Body) -> usize
+    ensures { λ r. ⌜ r ≡ baseOf at body ⌝ }
 {
-    NamedLabel {
-        place: base + place,
-        start: origin + trees::wide_place(start),
-        size: trees::wide(size),
+    if trees::letter(body) == b'C' {
+        return at.claim;
     }
+    at.list
 }
 
-// Three labels of a list that begins at `base` in the job, by their places there and in the first tree, which begins at `origin`.
-fn named_labels(
-    origin: usize,
-    base: usize,
-    starts: &[u16; 80],
-    sizes: &[u8; 80],
-    a: usize,
-    b: usize,
-    c: usize,
-) -> Named
-    requires { ⌜ Near jobLimit origin base (now starts) a b c ⌝ }
-    ensures { λ r. ⌜ r ≡ namedAt origin base (now (starts .entry)) (now (sizes .entry)) a b c ⌝ }
+// Three labels by places in a job: their list begins at `base`, the first tree at `origin`.
+fn named_in(origin: usize, base: usize, named: Named) -> Named
+    requires { ⌜ Near jobLimit origin base named ⌝ }
+    ensures { λ r. ⌜ r ≡ movedBy origin base named ⌝ }
 {
+    let one = named.first;
+    let two = named.second;
+    let three = named.third;
     Named {
-        first: spelled_label(origin, base, a, starts[0], sizes[0]),
-        second: spelled_label(origin, base, b, starts[1], sizes[1]),
-        third: spelled_label(origin, base, c, starts[2], sizes[2]),
+        first: NamedLabel {
+            place: base + one.place,
+            start: origin + one.start,
+            size: one.size,
+        },
+        second: NamedLabel {
+            place: base + two.place,
+            start: origin + two.start,
+            size: two.size,
+        },
+        third: NamedLabel {
+            place: base + three.place,
+            start: origin + three.start,
+            size: three.size,
+        },
     }
 }
 
@@ -220,10 +214,10 @@ fn answer_bodies(
     requires { ⌜ (at .list + length (now list) ≤ jobLimit) × (at .tree + length (now first) ≤ jobLimit) ⌝ }
     ensures answer { λ r.
         ⌜ r ≡ answered at (length (now (out .entry)))
-        (ofSolution (solve (task options (now (first .entry)) (now (second .entry)) (now (list .entry))) treeRoom)) ⌝ }
+        (solveTask (task options (now (first .entry)) (now (second .entry)) (now (list .entry))) none) ⌝ }
     ensures output { λ _.
         ⌜ now (out .exit) ≡ jobOutput
-        (ofSolution (solve (task options (now (first .entry)) (now (second .entry)) (now (list .entry))) treeRoom))
+        (solveTask (task options (now (first .entry)) (now (second .entry)) (now (list .entry))) none)
         (now (out .entry)) ⌝ }
 {
     let mut tree = [0u8; TREE_ROOM];
@@ -232,10 +226,9 @@ fn answer_bodies(
     let set = result.set;
     match answer {
         LargestAnswer::Found(_, bytes) => answer_set(first, set, &tree[..bytes], out),
-        LargestAnswer::Disagree(a, b, c) => {
-            let starts = set.start;
-            let sizes = set.size;
-            JobAnswer::Disagree(named_labels(at.tree, at.list, &starts, &sizes, a, b, c))
+        LargestAnswer::Naming(refusal, named) => {
+            let body = refusal.body;
+            JobAnswer::Naming(refusal, named_in(at.tree, base_of(at, body), named))
         }
         LargestAnswer::Refused(refusal) => JobAnswer::Refused(refusal),
     }
@@ -255,24 +248,18 @@ fn answer_claim(
     requires { ⌜ at .claim + length (now claim) ≤ jobLimit ⌝ }
     ensures answer { λ r.
         ⌜ r ≡ answered at (length (now (out .entry)))
-        (ofJudgement (judge (task options (now (first .entry)) (now (second .entry)) (now (list .entry))) (now (claim .entry)))) ⌝ }
+        (solveTask (task options (now (first .entry)) (now (second .entry)) (now (list .entry))) (some (now (claim .entry)))) ⌝ }
     ensures output { λ _.
         ⌜ now (out .exit) ≡ jobOutput
-        (ofJudgement (judge (task options (now (first .entry)) (now (second .entry)) (now (list .entry))) (now (claim .entry))))
+        (solveTask (task options (now (first .entry)) (now (second .entry)) (now (list .entry))) (some (now (claim .entry))))
         (now (out .entry)) ⌝ }
 {
-    let result = claims::judge(options, first, second, list, claim);
-    let answer = result.answer;
-    let set = result.set;
-    let starts = set.start;
-    let sizes = set.size;
+    let answer = claims::judge(options, first, second, list, claim);
     match answer {
         ClaimAnswer::Passed(size) => answer_size(size, out),
-        ClaimAnswer::Disagree(a, b, c) => {
-            JobAnswer::Disagree(named_labels(at.tree, at.list, &starts, &sizes, a, b, c))
-        }
-        ClaimAnswer::Apart(a, b, c) => {
-            JobAnswer::Apart(named_labels(at.tree, at.claim, &starts, &sizes, a, b, c))
+        ClaimAnswer::Naming(refusal, named) => {
+            let body = refusal.body;
+            JobAnswer::Naming(refusal, named_in(at.tree, base_of(at, body), named))
         }
         ClaimAnswer::Refused(refusal) => JobAnswer::Refused(refusal),
     }
@@ -317,11 +304,11 @@ pub fn answer_job(job: &[u8], out: &mut [u8]) -> JobAnswer
     ensures output { λ _. ⌜ now (out .exit) ≡ jobOutput (solveJob (now (job .entry))) (now (out .entry)) ⌝ }
 {
     if JOB_LIMIT < job.len() {
-        return refused(Reason::JobTooLong);
+        return job_refusal(Reason::JobTooLong);
     }
     let layout = contents::contents(job);
     let Layout::Laid(table) = layout else {
-        return refused(Reason::Contents);
+        return job_refusal(Reason::Contents);
     };
     answer_laid(job, table, out)
 }
@@ -334,22 +321,7 @@ pub fn print_job(job: &[u8], out: &mut [u8]) -> LineAnswer
     let answer = answer_job(job, out);
     match answer {
         JobAnswer::Written(n) => LineAnswer::Written(n),
-        JobAnswer::Disagree(named) => {
-            let eight = Refusal {
-                reason: Reason::Disagree,
-                body: Body::K,
-                place: 0,
-            };
-            disagreement_line(job, eight, named, out)
-        }
-        JobAnswer::Apart(named) => {
-            let fourteen = Refusal {
-                reason: Reason::ClaimDisagrees,
-                body: Body::C,
-                place: 0,
-            };
-            disagreement_line(job, fourteen, named, out)
-        }
+        JobAnswer::Naming(refusal, named) => disagreement_line(job, refusal, named, out),
         JobAnswer::Refused(refusal) => {
             let reason = refusal.reason;
             if trees::number(reason) == 9 {

@@ -1,6 +1,6 @@
 // Lines put together in an area, part by part, and copied to a lent output.
 use crate::LineAnswer;
-use crate::Named;
+use mast::Named;
 use trees::Body;
 use trees::Edition;
 use trees::Reason;
@@ -17,7 +17,7 @@ ghost use Rattle.trees.specs.Text.{treeRoom};
 ghost use Rattle.trees.specs.Token.{tokenOf};
 ghost use Rattle.trees.specs.Tree.{leafLimit};
 ghost use Rattle.lists.specs.ReadList.{joined};
-ghost use Rattle.job.specs.Printed.{turned, refusedWords, recordLines, claimLine, printedOf, itemRoom, wordsRoom, claimRoom, lineRoom, recordRoom};
+ghost use Rattle.job.specs.Printed.{refusedWords, recordLines, claimLine, itemRoom, wordsRoom, claimRoom, lineRoom, recordRoom};
 ghost use Rattle.job.specs.Answered.{lineAnswer, lineOutput, labelIn, namedLine};
 ghost use Rattle.job.specs.Areas.{Put, item, labelsIn};
 
@@ -142,15 +142,6 @@ pub(crate) fn put_refusal(refusal: Refusal, area: &mut [u8]) -> usize
     let d = put_byte(trees::letter(body), area, c);
     let e = put_byte(b' ', area, d);
     put_number(refusal.place, area, e)
-}
-
-// The line of a refusal.
-pub(crate) fn put_refusal_line(refusal: Refusal, area: &mut [u8]) -> usize
-    requires { ⌜ wordsRoom + 1 ≤ length (now area) ⌝ }
-    ensures { λ r. ⌜ Put (now (area .entry)) 0 (printedOf (turned refusal)) r (now (area .exit)) ⌝ }
-{
-    let end = put_refusal(refusal, area);
-    put_byte(b'\n', area, end)
 }
 
 // The line of a refusal that names three labels.

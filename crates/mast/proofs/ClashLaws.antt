@@ -17,20 +17,28 @@ use Rattle.lists.specs.declared.LabelPlaces.{LabelPlaces}
 use Rattle.agreement.specs.Sets.{increasing, sorted, common}
 use Rattle.agreement.specs.Answer.{Three, firstClash, answer, disagree, largest, largestSet}
 use Rattle.agreement.specs.Demand.{Clash}
-use Rattle.agreement.specs.Places.{placeOfLabel}
+use Rattle.agreement.specs.Places.{placeOfLabel, placeIn, tokenIn}
 use Rattle.agreement.proofs.SetLaws.{in-sorted, length-sorted, sorted-inc, inc-distinct, number-of}
 use Rattle.agreement.proofs.AnswerLaws.{FirstThree}
 use Rattle.agreement.proofs.DemandLaws.{required-clash, clash-answer, set-answered}
-use Rattle.leaves.specs.Numbered.{LeafIs, Numbered}
+use Rattle.leaves.specs.Numbered.{LeafIs}
 use Rattle.triples.specs.declared.Three as Ranks
 use Rattle.triples.specs.Clash.{rankOf, clashRanks, RankedTree}
 use Rattle.triples.proofs.Ranks.{place-of}
 use Rattle.triples.proofs.RowLaws.{rank-at}
-use Rattle.mast.specs.Required.{ranksFrom, Entries}
-use Rattle.mast.specs.Asked.{RankedArrays, AskedOf, placesOfThree}
+use Rattle.pairs.specs.declared.CommonOrder.{CommonOrder}
+use Rattle.mast.specs.declared.NamedLabel.{NamedLabel}
+use Rattle.mast.specs.ListMarks.{ranksFrom, Entries, Nameable, namedAt}
+use Rattle.mast.specs.RankedQuery.{RankedArrays, AskedOf}
+use Rattle.pairs.proofs.RankLaws.{proper-nodes}
+use Rattle.pairs.proofs.LeafPlaces.{own-start, own-size}
 use Rattle.mast.proofs.RequiredLaws.{rank-label, rank-low, ranks-count}
 
--- a required label by its rank among the required ones
+label-is : (a b c p q r : ℕ) → a ≡ p → b ≡ q → c ≡ r
+    → _≡_ {A = NamedLabel} (record { place = a; start = b; size = c }) (record { place = p; start = q; size = r })
+label-is a b c p q r e f g = rw (e, f, g) refl
+
+-- a label of the list by its rank among the marked ones
 pub record PlacedAt (K : List Token) (x : Label) (starts number ranks : List ℕ) (i : ℕ) : Type 0 where
   pub small : i < 80
   pub rank-small : getD ranks i 0 < 81
@@ -38,9 +46,9 @@ pub record PlacedAt (K : List Token) (x : Label) (starts number ranks : List ℕ
   pub number-small : getD number (getD ranks i 0) 0 ≤ 80
   pub place : getD starts (getD number (getD ranks i 0) 0 - 1) 0 ≡ placeOfLabel K 0 x
 
-module _ (s t : Tree) (K : List Token) (tree1 tree2 : TreeArrays) (order1 order2 : List ℕ) (m : ℕ) (number : List ℕ)
-    (places : LabelPlaces) (h : AskedOf s t K tree1 tree2 order1 order2 m number places) (ranks : List ℕ)
-    (entries : Entries (ranksFrom number 0 m) ranks) where
+module _ (s t : Tree) (K : List Token) (tree1 tree2 : TreeArrays) (order : CommonOrder) (number : List ℕ)
+    (places : LabelPlaces) (h : AskedOf s t K tree1 tree2 order number places) (ranks : List ℕ)
+    (entries : Entries (ranksFrom number 0 (order .count)) ranks) where
   abbrev C : List Label
   C = common (decoded s) (decoded t)
 
@@ -50,13 +58,13 @@ module _ (s t : Tree) (K : List Token) (tree1 tree2 : TreeArrays) (order1 order2
   count-map : length (map spelling K) ≡ length K
   count-map = length-map K spelling
 
-  R-is : ranksFrom number 0 m ≡ ranksFrom number 0 (length (common (decoded s) (decoded t)))
+  R-is : ranksFrom number 0 (order .count) ≡ ranksFrom number 0 (length (common (decoded s) (decoded t)))
   R-is = ap (ranksFrom number 0) (h .asked .one .count)
 
   abbrev ds : distinct (leaves (decoded s)) ≡ true
   ds = valid-decoded s (h .asked .one .valid) .different
 
-  rank-count : length (ranksFrom number 0 m) ≡ length L
+  rank-count : length (ranksFrom number 0 (order .count)) ≡ length L
   rank-count =
       ap (length {A = ℕ}) R-is
       ∙ ranks-count (decoded s) (decoded t) L number ds (h .asked .different) (h .asked .held) (h .asked .marked)
@@ -104,23 +112,26 @@ module _ (s t : Tree) (K : List Token) (tree1 tree2 : TreeArrays) (order1 order2
       omega (arith, rank, i .below, length-sorted L)
 
   module _ (leaf1 leaf2 : List ℕ) (three : Ranks.Three)
-      (at1 : (i : ℕ) → i < places .count → getD leaf1 i 0 ≡ getD order1 (getD ranks i 0) 0)
-      (at2 : (i : ℕ) → i < places .count → getD leaf2 i 0 ≡ getD order2 (getD ranks i 0) 0)
+      (at1 : (i : ℕ) → i < places .count → i < 80 → getD leaf1 i 0 ≡ getD (order .first) (getD ranks i 0) 0)
+      (at2 : (i : ℕ) → i < places .count → i < 80 → getD leaf2 i 0 ≡ getD (order .second) (getD ranks i 0) 0)
       (told : (s t : Tree) (xs : List Label) → increasing xs ≡ true → places .count ≡ length xs → places .count ≤ 80
       → RankedTree s xs (tree1 .left) (tree1 .nodes) leaf1 → RankedTree t xs (tree2 .left) (tree2 .nodes) leaf2
       → three ≡ clashRanks xs (firstClash s t xs)) where
-    ranked : (v : Tree) (tree : TreeArrays) (order leaf : List ℕ) → RankedArrays v C tree order m
-        → ((i : ℕ) → i < places .count → getD leaf i 0 ≡ getD order (getD ranks i 0) 0)
+    ranked : (v : Tree) (tree : TreeArrays) (nodes leaf : List ℕ) → RankedArrays v C tree nodes (order .count)
+        → ((i : ℕ) → i < places .count → i < 80 → getD leaf i 0 ≡ getD nodes (getD ranks i 0) 0)
         → RankedTree (decoded v) (sorted L) (tree .left) (tree .nodes) leaf
     unfolding arraysOf
-    ranked v tree order leaf r at = record {
+    ranked v tree nodes leaf r at = record {
       proper = valid-decoded v (r .valid);
       children = ap (λ q. q .left) (r .arrays-is) ∙ sym (decoded-left v);
       size = ap (λ q. q .nodes) (r .arrays-is) ∙ sym (decoded-nodes v);
       numbered = λ i l.
           let low : i < length L = omega (arith, length-sorted L) in
           let q = common-rank i low in
-          rw (at i (omega (arith, h .asked .count-is, count-map)), ← q .1) (r .numbered (getD ranks i 0) (q .0));
+          rw (
+            at i (omega (arith, h .asked .count-is, count-map)) (omega (arith, h .asked .few, count-map)),
+            ← q .1,
+          ) (r .numbered (getD ranks i 0) (q .0));
     }
 
     -- the first three that clash, if any do
@@ -134,8 +145,8 @@ module _ (s t : Tree) (K : List Token) (tree1 tree2 : TreeArrays) (order1 order2
     three-found =
         told (decoded s) (decoded t) (sorted L) (sorted-inc L (h .asked .different))
         (omega (arith, h .asked .count-is, length-sorted L, count-map))
-        (omega (arith, h .asked .count-is, h .asked .few)) (ranked s tree1 order1 leaf1 (h .asked .one) at1)
-        (ranked t tree2 order2 leaf2 (h .asked .two) at2)
+        (omega (arith, h .asked .count-is, h .asked .few)) (ranked s tree1 (order .first) leaf1 (h .asked .one) at1)
+        (ranked t tree2 (order .second) leaf2 (h .asked .two) at2)
 
     -- none
     pub none-clash : places .count ≤ three .first → (X : List Label) × (answer (decoded s) (decoded t) L ≡ largest X)
@@ -181,41 +192,42 @@ module _ (s t : Tree) (K : List Token) (tree1 tree2 : TreeArrays) (order1 order2
       pub named : answer (decoded s) (decoded t) L ≡ disagree (r .one) (r .two) (r .three)
       named = clash-answer (decoded s) (decoded t) L ds (h .asked .different) (h .asked .held) r first-three
 
-      pub first-placed : PlacedAt K (r .one) (places .start) number ranks (three .first)
-      first-placed =
-          subst (λ (i : ℕ). PlacedAt K (r .one) (places .start) number ranks i) (sym (ap (λ q. q .first) three-is))
-          (placed-at (r .one) (first-three .0 .inOne))
-
-      pub second-placed : PlacedAt K (r .two) (places .start) number ranks (three .second)
-      second-placed =
-          subst (λ (i : ℕ). PlacedAt K (r .two) (places .start) number ranks i) (sym (ap (λ q. q .second) three-is))
-          (placed-at (r .two) (first-three .0 .inTwo))
-
-      pub third-placed : PlacedAt K (r .three) (places .start) number ranks (three .third)
-      third-placed =
-          subst (λ (i : ℕ). PlacedAt K (r .three) (places .start) number ranks i) (sym (ap (λ q. q .third) three-is))
-          (placed-at (r .three) (first-three .0 .inThree))
-
-      -- their leaves in the first tree
+      -- the leaf of each in the first tree
       leaf-of : (x : Label) → isIn x L ≡ true → LeafIs (decoded s) (getD leaf1 (rankOf (sorted L) x) 0) x
       leaf-of x k =
           let i = number-of (sorted L) x (in-sorted x L ∙ k) in
           let rank : rankOf (sorted L) x ≡ i .at = ap (rankOf (sorted L)) (sym (i .is)) ∙ rank-at (sorted L) (i .at) sorted-distinct (i .below) in
-          let l = ranked s tree1 order1 leaf1 (h .asked .one) at1 .numbered (i .at) (i .below) in
+          let l = ranked s tree1 (order .first) leaf1 (h .asked .one) at1 .numbered (i .at) (i .below) in
           rw rank (subst (λ (y : Label). LeafIs (decoded s) (getD leaf1 (i .at) 0) y) (i .is) l)
 
-      module _ (leaves : List ℕ) (is : (getD leaves 0 0 ≡ getD leaf1 (three .first) 0) × (getD leaves 1 0 ≡ getD leaf1 (three .second) 0)
-          × (getD leaves 2 0 ≡ getD leaf1 (three .third) 0)) where
-        one-leaf : (i n : ℕ) (x : Label) → getD leaves i 0 ≡ getD leaf1 n 0 → n ≡ rankOf (sorted L) x → isIn x L ≡ true
-            → LeafIs (decoded s) (getD leaves i 0) x
-        one-leaf i n x d e k = rw (d, e) (leaf-of x k)
+      named-of : (x : Label) (i : ℕ) → i ≡ rankOf (sorted L) x → isIn x L ≡ true
+          → Nameable number ranks leaf1 i × (namedAt (places .start) number ranks (tree1 .start) (tree1 .size) leaf1 i
+          ≡ record { place = placeOfLabel K 0 x; start = placeIn s 0 x; size = length (tokenIn s x) })
+      named-of x i e k =
+          let p = placed-at x k in
+          let l = leaf-of x k in
+          let v = h .asked .one .valid in
+          let a = h .asked .one .arrays-is in
+          rw e (
+            record {
+              small = p .small;
+              rank-small = p .rank-small;
+              some-number = p .some-number;
+              number-small = p .number-small;
+              leaf-small = omega (arith, l .below, proper-nodes (decoded s) (valid-decoded s v));
+            },
+            label-is _ _ _ _ _ _ (p .place) (ap (λ q. getD (q .start) (getD leaf1 (rankOf (sorted L) x) 0) 0) a ∙ own-start s v _ x l)
+                (ap (λ q. getD (q .size) (getD leaf1 (rankOf (sorted L) x) 0) 0) a ∙ own-size s v _ x l),
+          )
 
-        pub leaves-numbered : Numbered (decoded s) (r .one ∷ r .two ∷ r .three ∷ []) leaves
-        leaves-numbered zero l = one-leaf 0 (three .first) (r .one) (is .0) (ap (λ q. q .first) three-is) (first-three .0 .inOne)
-        leaves-numbered (suc zero) l = one-leaf 1 (three .second) (r .two) (is .1) (ap (λ q. q .second) three-is) (first-three .0 .inTwo)
-        leaves-numbered (suc (suc zero)) l = one-leaf 2 (three .third) (r .three) (is .2) (ap (λ q. q .third) three-is) (first-three .0 .inThree)
-        leaves-numbered (suc (suc (suc n))) l = absurd (omega arith)
+      pub first-named : Nameable number ranks leaf1 (three .first) × (namedAt (places .start) number ranks (tree1 .start) (tree1 .size) leaf1 (three .first)
+          ≡ record { place = placeOfLabel K 0 (r .one); start = placeIn s 0 (r .one); size = length (tokenIn s (r .one)) })
+      first-named = named-of (r .one) (three .first) (ap (λ q. q .first) three-is) (first-three .0 .inOne)
 
-pub three-places : (K : List Token) (a b c : Label) (p q r : ℕ) → p ≡ placeOfLabel K 0 a → q ≡ placeOfLabel K 0 b → r ≡ placeOfLabel K 0 c
-    → _≡_ {A = Ranks.Three} (record { first = p; second = q; third = r }) (placesOfThree K a b c)
-three-places K a b c p q r e f g = rw (e, f, g) refl
+      pub second-named : Nameable number ranks leaf1 (three .second) × (namedAt (places .start) number ranks (tree1 .start) (tree1 .size) leaf1 (three .second)
+          ≡ record { place = placeOfLabel K 0 (r .two); start = placeIn s 0 (r .two); size = length (tokenIn s (r .two)) })
+      second-named = named-of (r .two) (three .second) (ap (λ q. q .second) three-is) (first-three .0 .inTwo)
+
+      pub third-named : Nameable number ranks leaf1 (three .third) × (namedAt (places .start) number ranks (tree1 .start) (tree1 .size) leaf1 (three .third)
+          ≡ record { place = placeOfLabel K 0 (r .three); start = placeIn s 0 (r .three); size = length (tokenIn s (r .three)) })
+      third-named = named-of (r .three) (three .third) (ap (λ q. q .third) three-is) (first-three .0 .inThree)

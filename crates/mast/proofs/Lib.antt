@@ -1,10 +1,12 @@
-pub mod BodyLaws
 pub mod ClashLaws
-pub mod CompareLaws
 pub mod FinishLaws
+pub mod MarkLaws
+pub mod MissingLaws
 pub mod OutcomeLaws
 pub mod Promises
-pub mod RankLaws
+pub mod ReadLaws
 pub mod RequiredLaws
+pub mod SettleLaws
+pub mod ShownLaws
 pub mod SolutionLaws
-pub mod StrayLaws
+pub mod WayLaws

@@ -1,173 +1,325 @@
--- The solution that belongs to each answer, and what a solution tells of the answer. Assumes nothing.
+-- What a solution tells of the answer that it belongs to. Assumes nothing.
 use Prim.Native.Nat.{ℕ, _<_, _≤_}
-use mathlib.Core.Path.{_≡_, refl, sym, _∙_, ap}
+use mathlib.Core.Path.{_≡_, refl, sym, _∙_, ap, subst}
 use mathlib.Core.Bool.{true, false}
 use mathlib.Core.Logic.{_⊎_, inl, inr, _↔_}
-use mathlib.Core.List.{List}
+use mathlib.Core.List.{List, []}
+use mathlib.Core.Option.{some, none}
 use native.Mathlib.Omega.{arith}
 use lib.Dec.{leb}
-use lib.ListN.{length}
+use lib.ListN.{length, getD}
 use borrow.Author.Tests.{leb-true, leb-false, le-leb, lt-leb}
 use Rattle.trees.specs.declared.Reason.the-variants.{FirstLacks, SecondLacks, TooShort}
-use Rattle.trees.specs.declared.Body.the-variants.{K}
-use Rattle.trees.specs.Label.{Label, distinct}
+use Rattle.trees.specs.declared.Refusal.{Refusal}
 use Rattle.trees.specs.declared.Edition.{Edition}
-use Rattle.trees.specs.Edition.{inEdition, folded, keyed, ValidIn}
+use Rattle.trees.specs.Label.{Label, isIn, distinct}
+use Rattle.trees.specs.Edition.{folded, keyed, ValidIn}
 use Rattle.trees.specs.Token.{Token}
 use Rattle.trees.specs.Tree.{Tree, Proper}
+use Rattle.trees.specs.Reading.{good}
 use Rattle.trees.proofs.Bools.{bool-cases}
-use Rattle.agreement.specs.Sets.{setOf}
-use Rattle.agreement.specs.Restrict.{restrictIn}
-use Rattle.agreement.specs.Places.{keptTextIn}
-use Rattle.agreement.specs.Answer.{Answer, firstLacks, secondLacks, disagree, largest, answer}
-use Rattle.mast.specs.Largest.{Solution, solved, clashed, turned, tooShort, solutionOf, fitted, Task, solve}
-use Rattle.trees.specs.declared.Reason.{Reason}
 use Rattle.trees.proofs.TokenLaws.{valid-decoded}
 use Rattle.trees.proofs.EditionLaws.{valid-folded}
 use Rattle.newick.proofs.EditionReads.{accepts-in}
-use Rattle.lists.specs.ReadList.{keysOf}
+use Rattle.lists.specs.ReadList.{readListIn, keysOf}
 use Rattle.lists.proofs.EditionLists.{list-accepts-in}
+use Rattle.agreement.specs.Sets.{setOf}
+use Rattle.agreement.specs.Answer.{Three, Answer, firstLacks, secondLacks, disagree, largest, answer}
 use Rattle.agreement.specs.Closer.{Common}
 use Rattle.agreement.specs.Demand.{IsAnswer, Clash}
-use Rattle.agreement.specs.Outcome.{Outcome}
+use Rattle.agreement.specs.RightAnswer.{RightAnswer}
 use Rattle.agreement.proofs.EditionText.{one-text-in}
-use Rattle.mast.specs.Given.{Reads, SetGiven}
-use Rattle.mast.proofs.BodyLaws.{solve-reads}
 use Rattle.agreement.proofs.Promises as agreement
+use Rattle.pairs.specs.Outcome.{Outcome, Trio, refused, naming, found, trio}
+use Rattle.mast.specs.NamedLabels.{namedOf}
+use Rattle.mast.specs.Query.{Task, apart, together, answerTo, heldBy, eight, requiredOf}
+use Rattle.mast.specs.Largest.{Solution, solution, solutionText, tooShort, fitted, solutionOf, solveList, solve, largestOf}
+use Rattle.mast.specs.declared.Named.{Named}
+use Rattle.mast.specs.Compare.{Comparison, clashOf, comparison, compareOther, compareAnswers, compareLists, compare, namedIf}
+use Rattle.mast.specs.Reads.{Reads, SetGiven}
+use Rattle.mast.specs.Shown.{HeldAndListed, ShownInTree, NamesShown}
+use Rattle.mast.proofs.ShownLaws.{set-is-shown, names-are-shown}
+use Rattle.mast.proofs.WayLaws.{solve-reads, compare-reads, size-first}
 
--- the normal text of the restriction of s to the leaves whose keys are in X
-abbrev pub textFor : Edition → Tree → List Label → List ℕ
-textFor e s X = keptTextIn e (restrictIn e (setOf X) s)
+-- the text fits, or number 9
+abbrev FitsOrShort : ℕ → Solution → Type 0
+FitsOrShort room r =
+    ((length (solutionText r) ≤ room) × (fitted room r ≡ found r)) ⊎ ((room < length (solutionText r)) × (fitted room r ≡ refused tooShort))
 
--- the solution that belongs to each answer
-pub data Belongs (e : Edition) (s : Tree) (xs : List Token) (room : ℕ) : Answer → Solution → Type 0 where
-  lacks-first : (n : ℕ) (p : ℕ) → Belongs e s xs room (firstLacks n) (turned (record { reason = FirstLacks; body = K; place = p }))
-  lacks-second : (n : ℕ) (p : ℕ) → Belongs e s xs room (secondLacks n) (turned (record { reason = SecondLacks; body = K; place = p }))
-  clash : (a b c : Label) → Belongs e s xs room (disagree a b c) (clashed e s xs a b c)
-  fits : (X : List Label) → length (textFor e s X) ≤ room → Belongs e s xs room (largest X) (solved e s X (textFor e s X))
-  short : (X : List Label) → room < length (textFor e s X) → Belongs e s xs room (largest X) (turned tooShort)
-
-pub belongs : (e : Edition) (s : Tree) (xs : List Token) (room : ℕ) (A : Answer) → Belongs e s xs room A (solutionOf e s xs room A)
-unfolding solutionOf
-belongs e s xs room (firstLacks n) = lacks-first n _
-belongs e s xs room (secondLacks n) = lacks-second n _
-belongs e s xs room (disagree a b c) = clash a b c
-belongs e s xs room (largest X) = go (bool-cases (leb (length (textFor e s X)) room))
+fits-or-short : (room : ℕ) (r : Solution) → FitsOrShort room r
+unfolding fitted
+fits-or-short room r = go (bool-cases (leb (length (solutionText r)) room))
   where
-    go : (leb (length (textFor e s X)) room ≡ true) ⊎ (leb (length (textFor e s X)) room ≡ false)
-        → Belongs e s xs room (largest X) (solutionOf e s xs room (largest X))
-    go (inl h) = rw h (fits X (leb-true (length (textFor e s X)) room h))
-    go (inr h) = rw h (short X (leb-false (length (textFor e s X)) room h))
+    go : (leb (length (solutionText r)) room ≡ true) ⊎ (leb (length (solutionText r)) room ≡ false) → FitsOrShort room r
+    go (inl h) = inl (leb-true (length (solutionText r)) room h, rw h refl)
+    go (inr h) = inr (leb-false (length (solutionText r)) room h, rw h refl)
 
-reasonOf : Solution → Reason
-reasonOf (solved e s X text) = TooShort
-reasonOf (clashed e s xs a b c) = TooShort
-reasonOf (turned q) = q .reason
+-- the parts of an outcome
 
-module _ {e : Edition} {s : Tree} {xs : List Token} {room : ℕ} where
-  pub clashed-only : {A : Answer} {x : Solution} (a b c : Label) → Belongs e s xs room A x → x ≡ clashed e s xs a b c → A ≡ disagree a b c
-  clashed-only a b c (lacks-first n p) d = cc
-  clashed-only a b c (lacks-second n p) d = cc
-  clashed-only a b c (clash x y z) d = cc
-  clashed-only a b c (fits X h) d = cc
-  clashed-only a b c (short X h) d = cc
+same-trio : {A : Type 0} {p q : Refusal} {m n : Trio} → _≡_ {A = Outcome A} (naming p m) (naming q n) → m ≡ n
+same-trio d = cc
 
-  pub solved-only : {A : Answer} {x : Solution} (X : List Label) (text : List ℕ) → Belongs e s xs room A x → x ≡ solved e s X text
-      → (A ≡ largest X) × (text ≡ textFor e s X) × (length text ≤ room)
-  solved-only X text (lacks-first n p) d = let z : _≡_ {A = ℕ} 0 1 = cc in absurd (omega arith)
-  solved-only X text (lacks-second n p) d = let z : _≡_ {A = ℕ} 0 1 = cc in absurd (omega arith)
-  solved-only X text (clash x y z) d = let z : _≡_ {A = ℕ} 0 1 = cc in absurd (omega arith)
-  solved-only X text (fits Y h) d =
-      let k : Y ≡ X = cc in
-      let l : textFor e s Y ≡ text = cc in
-      (ap largest k, sym l ∙ ap (textFor e s) k, rw l at h)
-  solved-only X text (short Y h) d = let z : _≡_ {A = ℕ} 0 1 = cc in absurd (omega arith)
+same-found : {A : Type 0} {x y : A} → found x ≡ found y → x ≡ y
+same-found d = cc
 
-  pub short-only : {A : Answer} {x : Solution} → Belongs e s xs room A x → x ≡ turned tooShort
-      → (X : List Label) × (A ≡ largest X) × (room < length (textFor e s X))
-  unfolding reasonOf
-  short-only (lacks-first n p) d =
-      let w : FirstLacks ≡ TooShort = ap reasonOf d in
+same-some : {r u : Three} → some r ≡ some u → r ≡ u
+same-some d = cc
+
+same-refusal : {A : Type 0} {p q : Refusal} → _≡_ {A = Outcome A} (refused p) (refused q) → p ≡ q
+same-refusal d = cc
+
+refused-naming : {A G : Type 0} {p q : Refusal} {n : Trio} → _≡_ {A = Outcome A} (refused p) (naming q n) → G
+refused-naming d = let z : _≡_ {A = ℕ} 0 1 = cc in absurd (omega arith)
+
+found-naming : {A G : Type 0} {x : A} {q : Refusal} {n : Trio} → found x ≡ naming q n → G
+found-naming d = let z : _≡_ {A = ℕ} 0 1 = cc in absurd (omega arith)
+
+refused-found : {A G : Type 0} {x : A} {q : Refusal} → refused q ≡ found x → G
+refused-found d = let z : _≡_ {A = ℕ} 0 1 = cc in absurd (omega arith)
+
+-- what an outcome tells of the answer
+module _ (e : Edition) (s : Tree) (xs : List Token) (room : ℕ) where
+  abbrev Of : Answer → Outcome Solution
+  Of A = solutionOf e s xs room A
+
+  set-of : (X : List Label) → Of (largest X) ≡ fitted room (solution e s X)
+  unfolding solutionOf requiredOf heldBy
+  set-of X = refl
+
+  pub named-only : (A : Answer) (q : Refusal) (n : Trio) → Of A ≡ naming q n
+      → (a : Label) × (b : Label) × (c : Label) × (A ≡ disagree a b c) × (q ≡ eight) × (n ≡ trio e s xs a b c)
+  unfolding solutionOf requiredOf heldBy
+  named-only (firstLacks k) q n d = refused-naming d
+  named-only (secondLacks k) q n d = refused-naming d
+  named-only (disagree a b c) q n d = (a, b, c, refl, cc, sym (same-trio d))
+  named-only (largest X) q n d = go (fits-or-short room (solution e s X))
+    where
+      go : FitsOrShort room (solution e s X)
+          → (a : Label) × (b : Label) × (c : Label) × (largest X ≡ disagree a b c) × (q ≡ eight) × (n ≡ trio e s xs a b c)
+      go (inl h) = found-naming (sym (h .1) ∙ sym (set-of X) ∙ d)
+      go (inr h) = refused-naming (sym (h .1) ∙ sym (set-of X) ∙ d)
+
+  clashed-only : (A : Answer) (a b c : Label) → Of A ≡ naming eight (trio e s xs a b c) → A ≡ disagree a b c
+  clashed-only A a b c d =
+      let k = named-only A eight (trio e s xs a b c) d in
+      let w : trio e s xs a b c ≡ trio e s xs (k .0) (k .1) (k .2) = k .5 in
+      let x : k .0 ≡ a = sym (ap (λ (n : Trio). n .labels .one) w) in
+      let y : k .1 ≡ b = sym (ap (λ (n : Trio). n .labels .two) w) in
+      let z : k .2 ≡ c = sym (ap (λ (n : Trio). n .labels .three) w) in
+      k .3 ∙ (rw (x, y, z) refl)
+
+  pub set-only : (A : Answer) (X : List Label) → Of A ≡ found (solution e s X)
+      → (A ≡ largest X) × (length (solutionText (solution e s X)) ≤ room)
+  unfolding solutionOf requiredOf heldBy
+  set-only (firstLacks k) X d = refused-found d
+  set-only (secondLacks k) X d = refused-found d
+  set-only (disagree a b c) X d = found-naming (sym d)
+  set-only (largest Y) X d = go (fits-or-short room (solution e s Y))
+    where
+      go : FitsOrShort room (solution e s Y)
+          → (largest Y ≡ largest X) × (length (solutionText (solution e s X)) ≤ room)
+      go (inl h) =
+          let k : Y ≡ X = ap (λ (r : Solution). r .set) (same-found (sym (h .1) ∙ sym (set-of Y) ∙ d)) in
+          (ap largest k, rw k at (h .0))
+      go (inr h) = refused-found (sym (h .1) ∙ sym (set-of Y) ∙ d)
+
+  pub short-only : (A : Answer) → Of A ≡ refused tooShort
+      → (X : List Label) × (A ≡ largest X) × (room < length (solutionText (solution e s X)))
+  unfolding solutionOf requiredOf heldBy
+  short-only (firstLacks k) d =
+      let w : FirstLacks ≡ TooShort = ap (λ (q : Refusal). q .reason) (same-refusal d) in
       let z : _≡_ {A = ℕ} 0 1 = cc in
       absurd (omega arith)
-  short-only (lacks-second n p) d =
-      let w : SecondLacks ≡ TooShort = ap reasonOf d in
+  short-only (secondLacks k) d =
+      let w : SecondLacks ≡ TooShort = ap (λ (q : Refusal). q .reason) (same-refusal d) in
       let z : _≡_ {A = ℕ} 0 1 = cc in
       absurd (omega arith)
-  short-only (clash x y z) d = let z : _≡_ {A = ℕ} 0 1 = cc in absurd (omega arith)
-  short-only (fits Y h) d = let z : _≡_ {A = ℕ} 0 1 = cc in absurd (omega arith)
-  short-only (short Y h) d = (Y, refl, h)
+  short-only (disagree a b c) d = refused-naming (sym d)
+  short-only (largest Y) d = go (fits-or-short room (solution e s Y))
+    where
+      go : FitsOrShort room (solution e s Y)
+          → (X : List Label) × (largest Y ≡ largest X) × (room < length (solutionText (solution e s X)))
+      go (inl h) = refused-found (sym d ∙ set-of Y ∙ h .1)
+      go (inr h) = (Y, refl, h .0)
+
+-- what a comparison tells of the answers to both lists
+module _ (e : Edition) (s : Tree) (xs ys : List Token) where
+  other-named : {G : Type 0} (n : ℕ) (B : Answer) (q : Refusal) (r : Trio) → compareOther e s xs ys n B ≡ naming q r → G
+  unfolding compareOther heldBy
+  other-named n (firstLacks k) q r d = refused-naming d
+  other-named n (secondLacks k) q r d = refused-naming d
+  other-named n (disagree a b c) q r d = found-naming d
+  other-named n (largest X) q r d = found-naming d
+
+  pub compared-named : (A B : Answer) (q : Refusal) (n : Trio) → compareAnswers e s xs ys A B ≡ naming q n
+      → (a : Label) × (b : Label) × (c : Label) × (A ≡ disagree a b c) × (q ≡ eight) × (n ≡ trio e s xs a b c)
+  unfolding compareAnswers requiredOf heldBy
+  compared-named (firstLacks k) B q n d = refused-naming d
+  compared-named (secondLacks k) B q n d = refused-naming d
+  compared-named (disagree a b c) B q n d = (a, b, c, refl, cc, sym (same-trio d))
+  compared-named (largest X) B q n d = other-named (length X) B q n d
+
+  -- three labels of the further list, by the comparison's own parts
+  abbrev Apart : Answer → Comparison → Three → Type 0
+  Apart B c r =
+      (B ≡ disagree (r .one) (r .two) (r .three))
+      × (namedIf (c .edition) (c .first) (c .further) (c .clash) ≡ namedOf (trio e s ys (r .one) (r .two) (r .three)))
+
+  other-apart : (n : ℕ) (B : Answer) (c : Comparison) (r : Three) → compareOther e s xs ys n B ≡ found c → c .clash ≡ some r → Apart B c r
+  unfolding compareOther heldBy comparison clashOf namedIf
+  other-apart n (firstLacks k) c r d h = refused-found d
+  other-apart n (secondLacks k) c r d h = refused-found d
+  other-apart n (disagree x y z) c r d h =
+      let w : comparison e s xs ys n (apart (record { one = x; two = y; three = z })) ≡ c = same-found d in
+      let k : record { one = x; two = y; three = z } ≡ r = same-some (ap (λ (p : Comparison). p .clash) w ∙ h) in (
+        ap (λ (p : Three). disagree (p .one) (p .two) (p .three)) k,
+        ap (λ (p : Comparison). namedIf (p .edition) (p .first) (p .further) (p .clash)) (sym w)
+            ∙ ap (λ (p : Three). namedOf (trio e s ys (p .one) (p .two) (p .three))) k,
+      )
+  other-apart n (largest X) c r d h =
+      let w : comparison e s xs ys n (together X) ≡ c = same-found d in
+      let k : none ≡ some r = ap (λ (p : Comparison). p .clash) w ∙ h in
+      let z : _≡_ {A = ℕ} 0 1 = cc in
+      absurd (omega arith)
+
+  pub compared-apart : (A B : Answer) (c : Comparison) (r : Three) → compareAnswers e s xs ys A B ≡ found c → c .clash ≡ some r
+      → Apart B c r
+  unfolding compareAnswers requiredOf heldBy
+  compared-apart (firstLacks k) B c r d h = refused-found d
+  compared-apart (secondLacks k) B c r d h = refused-found d
+  compared-apart (disagree x y z) B c r d h = found-naming (sym d)
+  compared-apart (largest X) B c r d h = other-apart (length X) B c r d h
 
 -- the same of texts that are read
-module _ (q : Task) (room : ℕ) (s t : Tree) (xs : List Token) (reads : Reads q s t xs) where
+module _ (q : Task) (s t : Tree) (xs : List Token) (reads : Reads q s t xs) where
   abbrev E : Edition
   E = q .options .edition
 
   abbrev L : List Label
   L = keysOf E xs
 
-  valid1 : ValidIn E s
-  valid1 = accepts-in E (q .first) s (reads .first-is) .1
+  abbrev ANS : Answer
+  ANS = answer (keyed E s) (keyed E t) L
 
-  valid2 : ValidIn E t
-  valid2 = accepts-in E (q .second) t (reads .second-is) .1
+  pub valid-first : ValidIn E s
+  valid-first = accepts-in E (q .first) s (reads .first-is) .1
+
+  valid-second : ValidIn E t
+  valid-second = accepts-in E (q .second) t (reads .second-is) .1
 
   proper : Proper (keyed E s)
-  proper = valid-decoded (folded E s) (valid-folded E s valid1)
+  proper = valid-decoded (folded E s) (valid-folded E s valid-first)
 
   different : distinct (keysOf E xs) ≡ true
   different = list-accepts-in E (q .required) xs (reads .list-is) .different
 
-  belonging : Belongs E s xs room (answer (keyed E s) (keyed E t) L) (solve q room)
-  belonging = rw (solve-reads q room s t xs reads) (belongs E s xs room (answer (keyed E s) (keyed E t) L))
+  -- three labels of a list with different closer pairs, by their places in the texts
+  three-shown : (text : List ℕ) (ys : List Token) → readListIn E text ≡ good ys → (a b c : Label)
+      → answer (keyed E s) (keyed E t) (keysOf E ys) ≡ disagree a b c
+      → NamesShown E (q .first) text (namedOf (trio E s ys a b c)) (record { one = a; two = b; three = c })
+  three-shown text ys g a b c d =
+      let l = list-accepts-in E text ys g in
+      let w = agreement.answer-promise (keyed E s) (keyed E t) (keysOf E ys) proper (l .different) (disagree a b c) .0 d in
+      let in-both : (x : Label) → isIn x (keysOf E ys) ≡ true → HeldAndListed (trio E s ys a b c) x =
+      λ x h. record { held = w .0 x h .0; listed = h } in
+      rw (accepts-in E (q .first) s (reads .first-is) .0, l .is)
+      (names-are-shown (trio E s ys a b c) valid-first (in-both a (w .1 .clash .inOne)) (in-both b (w .1 .clash .inTwo))
+      (in-both c (w .1 .clash .inThree)))
 
-  pub outcome-decides : (A : Answer) → Outcome (keyed E s) (keyed E t) L A → solve q room ≡ solutionOf E s xs room A
-  outcome-decides A h =
-      solve-reads q room s t xs reads
-      ∙ ap (solutionOf E s xs room) (agreement.answer-promise (keyed E s) (keyed E t) L proper different A .1 h)
+  required-shown : (a b c : Label) → ANS ≡ disagree a b c → (n : Trio) → n ≡ trio E s xs a b c
+      → NamesShown E (q .first) (q .required) (namedOf n) (n .labels)
+  required-shown a b c d n k =
+      subst (λ (m : Trio). NamesShown E (q .first) (q .required) (namedOf m) (m .labels)) (sym k)
+      (three-shown (q .required) xs (reads .list-is) a b c d)
 
-  pub eight-exactly : Common (keyed E s) (keyed E t) (setOf L)
-      → ((a : Label) × (b : Label) × (c : Label) × Clash (keyed E s) (keyed E t) L a b c)
-      ↔ ((a : Label) × (b : Label) × (c : Label) × (solve q room ≡ clashed E s xs a b c))
-  unfolding solutionOf
-  eight-exactly held = (
-    λ k.
-        let e = agreement.eight-promise (keyed E s) (keyed E t) L proper different held .0 k in
-        (e .0, e .1, e .2, solve-reads q room s t xs reads ∙ ap (solutionOf E s xs room) (e .3)),
-    λ k.
-        agreement.eight-promise (keyed E s) (keyed E t) L proper different held .1
-        (k .0, k .1, k .2, clashed-only (k .0) (k .1) (k .2) belonging (k .3)),
-  )
+  module _ (room : ℕ) where
+    solve-answer : solve q room ≡ solutionOf E s xs room ANS
+    unfolding solveList answerTo
+    solve-answer = solve-reads q room s t xs reads
 
-  pub set-exactly : (X : List Label) (text : List ℕ) → (solve q room ≡ solved E s X text) ↔ SetGiven E s t xs X text room
-  unfolding solutionOf fitted
-  set-exactly X text = (
-    λ e.
-        let k = solved-only X text belonging e in
-        let a = agreement.set-promise (keyed E s) (keyed E t) L proper different X .0 (k .0) in
-        record {
-          isAnswer = a;
-          first-text = k .1;
-          second-text =
-              ap (inEdition E) (k .1)
-              ∙ one-text-in E s t (setOf X) valid1 valid2 (a .allowedSet .commonLeaves) (a .allowedSet .agreed);
-          fit = k .2;
-        },
-    λ g.
-        solve-reads q room s t xs reads
-        ∙ ap (solutionOf E s xs room) (agreement.set-promise (keyed E s) (keyed E t) L proper different X .1 (g .isAnswer))
-        ∙ (rw (← g .first-text, le-leb (length text) room (g .fit)) refl),
-  )
+    pub outcome-decides : (A : Answer) → RightAnswer (keyed E s) (keyed E t) L A → solve q room ≡ solutionOf E s xs room A
+    outcome-decides A h =
+        solve-answer ∙ ap (solutionOf E s xs room) (agreement.answer-promise (keyed E s) (keyed E t) L proper different A .1 h)
 
-  pub nine-exactly : (solve q room ≡ turned tooShort)
-      ↔ ((X : List Label) × IsAnswer (keyed E s) (keyed E t) L X × (room < length (keptTextIn E (restrictIn E (setOf X) s))))
-  unfolding solutionOf fitted
-  nine-exactly = (
-    λ e.
-        let k = short-only belonging e in
-        (k .0, agreement.set-promise (keyed E s) (keyed E t) L proper different (k .0) .0 (k .1), k .2),
-    λ k.
-        solve-reads q room s t xs reads
-        ∙ ap (solutionOf E s xs room) (agreement.set-promise (keyed E s) (keyed E t) L proper different (k .0) .1 (k .1))
-        ∙ (rw (lt-leb (length (keptTextIn E (restrictIn E (setOf (k .0)) s))) room (k .2)) refl),
-  )
+    pub eight-exactly : Common (keyed E s) (keyed E t) (setOf L)
+        → ((a : Label) × (b : Label) × (c : Label) × Clash (keyed E s) (keyed E t) L a b c)
+        ↔ ((a : Label) × (b : Label) × (c : Label) × (solve q room ≡ naming eight (trio E s xs a b c)))
+    unfolding solutionOf requiredOf heldBy
+    eight-exactly held = (
+      λ k.
+          let e = agreement.eight-promise (keyed E s) (keyed E t) L proper different held .0 k in
+          (e .0, e .1, e .2, solve-answer ∙ ap (solutionOf E s xs room) (e .3)),
+      λ k.
+          agreement.eight-promise (keyed E s) (keyed E t) L proper different held .1
+          (k .0, k .1, k .2, clashed-only E s xs room ANS (k .0) (k .1) (k .2) (sym solve-answer ∙ k .3)),
+    )
+
+    set-fitted : (X : List Label) → IsAnswer (keyed E s) (keyed E t) L X → solve q room ≡ fitted room (solution E s X)
+    set-fitted X h =
+        solve-answer ∙ ap (solutionOf E s xs room) (agreement.set-promise (keyed E s) (keyed E t) L proper different X .1 h)
+        ∙ set-of E s xs room X
+
+    pub set-exactly : (X : List Label) → (solve q room ≡ found (solution E s X)) ↔ SetGiven E s t xs X room
+    unfolding fitted solutionText
+    set-exactly X = (
+      λ d.
+          let k = set-only E s xs room ANS X (sym solve-answer ∙ d) in
+          let a = agreement.set-promise (keyed E s) (keyed E t) L proper different X .0 (k .0) in
+          record {
+            isAnswer = a;
+            second-text = one-text-in E s t (setOf X) valid-first valid-second (a .allowedSet .commonLeaves) (a .allowedSet .agreed);
+            fit = k .1;
+          },
+      λ g. set-fitted X (g .isAnswer) ∙ (rw (le-leb (length (solutionText (solution E s X))) room (g .fit)) refl),
+    )
+
+    pub nine-exactly : (solve q room ≡ refused tooShort)
+        ↔ ((X : List Label) × IsAnswer (keyed E s) (keyed E t) L X × (room < length (solutionText (solution E s X))))
+    unfolding fitted
+    nine-exactly = (
+      λ d.
+          let k = short-only E s xs room ANS (sym solve-answer ∙ d) in
+          (k .0, agreement.set-promise (keyed E s) (keyed E t) L proper different (k .0) .0 (k .1), k .2),
+      λ k. set-fitted (k .0) (k .1) ∙ (rw (lt-leb (length (solutionText (solution E s (k .0)))) room (k .2)) refl),
+    )
+
+    pub set-given-shown : (X : List Label) → solve q room ≡ found (solution E s X) → (r : ℕ) → r < largestOf (solve q room) .set .count
+        → ShownInTree E (q .first) (getD (largestOf (solve q room) .set .start) r 0) (getD (largestOf (solve q room) .set .size) r 0)
+        (getD X r [])
+    set-given-shown X d r =
+        let held = set-exactly X .0 d .isAnswer .allowedSet .commonLeaves in
+        set-is-shown E s X valid-first (λ x h. held x h .0) r (q .first) (accepts-in E (q .first) s (reads .first-is) .0) (solve q room) d
+
+    pub names-given-shown : (p : Refusal) (n : Trio) → solve q room ≡ naming p n
+        → (p ≡ eight) × NamesShown E (q .first) (q .required) (namedOf n) (n .labels)
+    names-given-shown p n d =
+        let k = named-only E s xs room ANS p n (sym solve-answer ∙ d) in
+        (k .4, required-shown (k .0) (k .1) (k .2) (k .3) n (k .5))
+
+  -- a further list beside the set
+  module _ (other : List ℕ) (ys : List Token) (g : readListIn E other ≡ good ys) where
+    abbrev FURTHER : Answer
+    FURTHER = answer (keyed E s) (keyed E t) (keysOf E ys)
+
+    compare-answer : compare q other ≡ compareAnswers E s xs ys ANS FURTHER
+    unfolding compareLists answerTo
+    compare-answer = compare-reads q other s t xs ys reads g
+
+    pub compare-decides : (X : List Label) → IsAnswer (keyed E s) (keyed E t) L X
+        → compare q other ≡ compareOther E s xs ys (length X) FURTHER
+    compare-decides X h =
+        compare-answer
+        ∙ size-first E s xs ys ANS FURTHER X (agreement.set-promise (keyed E s) (keyed E t) L proper different X .1 h)
+
+    pub compare-names-shown : (p : Refusal) (n : Trio) → compare q other ≡ naming p n
+        → (p ≡ eight) × NamesShown E (q .first) (q .required) (namedOf n) (n .labels)
+    compare-names-shown p n d =
+        let k = compared-named E s xs ys ANS FURTHER p n (sym compare-answer ∙ d) in
+        (k .4, required-shown (k .0) (k .1) (k .2) (k .3) n (k .5))
+
+    pub further-names-shown : (c : Comparison) (r : Three) → compare q other ≡ found c → c .clash ≡ some r
+        → NamesShown E (q .first) other (namedIf (c .edition) (c .first) (c .further) (c .clash)) r
+    further-names-shown c r d h =
+        let k = compared-apart E s xs ys ANS FURTHER c r (sym compare-answer ∙ d) h in
+        subst (λ (n : Named). NamesShown E (q .first) other n r) (sym (k .1))
+        (three-shown other ys g (r .one) (r .two) (r .three) (k .0))

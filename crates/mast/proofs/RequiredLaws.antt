@@ -28,10 +28,11 @@ use Rattle.triples.proofs.Ranks.{part-at}
 use Rattle.triples.proofs.RowLaws.{rank-at}
 use Rattle.leaves.specs.Find.{foundLeaf}
 use Rattle.leaves.specs.Numbered.{Numbered}
-use Rattle.mast.specs.Engine.{OwnLeaves, OwnList}
-use Rattle.mast.specs.Required.{FoundRank, Marks, ranksFrom, Entries, Added}
+use Rattle.pairs.specs.OwnLeaves.{OwnLeaves}
+use Rattle.mast.specs.ListRead.{OwnList}
+use Rattle.mast.specs.ListMarks.{FoundRank, Marks, ranksFrom, Entries, Added}
 use Rattle.table.specs.Choice.{Marked}
-use Rattle.mast.proofs.RankLaws.{own-nodes, own-part, search-found, search-missing, inc-differ}
+use Rattle.pairs.proofs.RankLaws.{own-nodes, own-part, search-found, search-missing, inc-differ}
 
 -- the search tells whether the tree holds a label
 pub search-holds : {t : Tree} {text left start size : List ℕ} {nodes : ℕ} → OwnLeaves t text left start size nodes → (x : Label)
@@ -274,19 +275,3 @@ module _ (s t : Tree) (K : List Label) (number : List ℕ) (ds : distinct (leave
 
   pub rank-low : (i : ℕ) → i < length K → getD R i 0 < length C
   rank-low i h = omega (arith, ranks-low number 0 (length C) i (omega (arith, ranks-count)))
-
--- entries at places
-
-pub record EntriesTo (n : ℕ) (ranks order leaf : List ℕ) : Type 0 where
-  pub size : length leaf ≡ 80
-  pub each : (i : ℕ) → i < n → getD leaf i 0 ≡ getD order (getD ranks i 0) 0
-
-pub entries-none : (ranks order : List ℕ) → EntriesTo 0 ranks order (replicate 80 0)
-entries-none ranks order = record { size = length-replicate {A = ℕ} 80 0; each = λ i h. absurd (omega arith) }
-
-pub entries-next : (n : ℕ) (ranks order leaf : List ℕ) (u : ℕ) → n < 80 → u ≡ getD order (getD ranks n 0) 0 → EntriesTo n ranks order leaf
-    → EntriesTo (n + 1) ranks order (set leaf n u)
-entries-next n ranks order leaf u small e t = record {
-  size = length-set leaf n u ∙ t .size;
-  each = store-next (λ i x. x ≡ getD order (getD ranks i 0) 0) leaf n u (omega (arith, t .size)) (t .each) e;
-}

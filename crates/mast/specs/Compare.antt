@@ -1,40 +1,39 @@
--- Comparing a further list of labels with the largest set; a claimed set is judged by this. C-16: "A body with letter C, listed and read
--- right after K and written like K, holds the claimed set." Trees and lists are of tokens; agreement is about their keys.
+-- A further list of labels beside the largest set; a claimed set is judged by this. C-16: "A body with letter C, listed and read right after K
+-- and written like K, holds the claimed set."
 use Prim.Native.Nat.{ℕ, suc, _<_}
 use mathlib.Core.Path.{_≡_}
 use mathlib.Core.Bool.{Bool, true, false, cond}
 use mathlib.Core.List.{List, [], _∷_}
 use mathlib.Core.Option.{Option, some, none}
 use lib.ListN.{length, getD}
-use Rattle.trees.specs.declared.Reason.the-variants.{FirstLacks, SecondLacks}
 use Rattle.trees.specs.declared.Body.the-variants.{K, C}
-use Rattle.trees.specs.declared.Refusal.{Refusal}
 use Rattle.trees.specs.declared.Edition.{Edition}
-use Rattle.trees.specs.Edition.{folded, keyed}
 use Rattle.trees.specs.Label.{Label, isIn}
 use Rattle.trees.specs.Token.{Token}
 use Rattle.trees.specs.Tree.{Tree}
-use Rattle.trees.specs.Reading.{Reading, good, refused}
-use Rattle.newick.specs.ReadTree.{readTreeIn}
-use Rattle.lists.specs.declared.LabelPlaces.{LabelPlaces}
-use Rattle.lists.specs.ReadList.{readListIn, placesOf, foldedList, keysOf}
-use Rattle.agreement.specs.Answer.{Three, Answer, firstLacks, secondLacks, disagree, largest, answer}
-use Rattle.agreement.specs.Places.{placeOfNumber, placeOfLabel}
-use Rattle.triples.specs.declared.Three as places
+use Rattle.lists.specs.ReadList.{keysOf}
+use Rattle.agreement.specs.Answer.{Three, Answer}
+use Rattle.agreement.specs.Places.{placeOfNumber}
+use Rattle.mast.specs.declared.Named.{Named}
+use Rattle.mast.specs.declared.CompareAnswer.{CompareAnswer}
 use Rattle.mast.specs.declared.CompareAnswer.the-variants as compare-answer
-use Rattle.mast.specs.declared.CompareResult.{CompareResult}
-use Rattle.mast.specs.Largest.{treesThen, Task, setPlaces}
+use Rattle.pairs.specs.Outcome.{Outcome, refused, naming, found, andThen, trio}
+use Rattle.pairs.specs.TwoTrees.{Trees, treesOf}
+use Rattle.mast.specs.NamedLabels.{namedOf}
+use Rattle.mast.specs.Query.{Task, AllHeld, apart, together, listOf, answerTo, heldBy, requiredOf}
 
--- the result of comparing, for two trees, the required list and a further list
-pub data Comparison : Type 0 where
-  -- why a text or a list was refused
-  stopped : Refusal → Comparison
-  -- number 8: the edition, the first tree, the required list and three of its labels, by their keys
-  clashing : Edition → Tree → List Token → Label → Label → Label → Comparison
-  -- In this order: the edition; the first tree, which spells all that is printed; the required list; the further list; the size of the
-  -- largest set; the index in the required list, from 0, of its first label that the further list lacks; the further list's first three
-  -- labels with different closer pairs.
-  compared : Edition → Tree → List Token → List Token → ℕ → Option ℕ → Option Three → Comparison
+pub record Comparison : Type 0 where
+  pub edition : Edition
+  -- the first tree, which spells all that is printed
+  pub first : Tree
+  pub required : List Token
+  pub further : List Token
+  -- of the largest set
+  pub size : ℕ
+  -- the index in the required list, from 0, of its first label that the further list lacks
+  pub missed : Option ℕ
+  -- the further list's first three labels with different closer pairs
+  pub clash : Option Three
 
 -- "the first required label missing from the claim": its index in list order
 unfoldable pub missing : List Label → List Label → ℕ → Option ℕ
@@ -47,43 +46,45 @@ pub record IsMissing (K Y : List Label) (n : ℕ) : Type 0 where
   pub earlier : (m : ℕ) → m < n → isIn (getD K m []) Y ≡ true
   pub lacked : isIn (getD K n []) Y ≡ false
 
--- The further list, if the largest set has `size` labels: "A label of C absent from a tree takes 6 or 7 with letter C", and its first three
--- labels with different closer pairs.
-unfoldable pub compareOther : Edition → Tree → List Token → List Token → ℕ → Answer → Comparison
-unfolding missing
-compareOther e s xs ys size (firstLacks n) = stopped (record { reason = FirstLacks; body = C; place = placeOfNumber ys n })
-compareOther e s xs ys size (secondLacks n) = stopped (record { reason = SecondLacks; body = C; place = placeOfNumber ys n })
-compareOther e s xs ys size (disagree a b c) =
-    compared e s xs ys size (missing (keysOf e xs) (keysOf e ys) 0) (some (record { one = a; two = b; three = c }))
-compareOther e s xs ys size (largest Y) = compared e s xs ys size (missing (keysOf e xs) (keysOf e ys) 0) none
+-- three labels with different closer pairs, if there are such
+unfoldable pub clashOf : AllHeld → Option Three
+clashOf (apart r) = some r
+clashOf (together X) = none
+
+unfoldable pub comparison : Edition → Tree → List Token → List Token → ℕ → AllHeld → Comparison
+unfolding missing clashOf
+comparison e s xs ys size h =
+    record {
+      edition = e;
+      first = s;
+      required = xs;
+      further = ys;
+      size = size;
+      missed = missing (keysOf e xs) (keysOf e ys) 0;
+      clash = clashOf h;
+    }
+
+-- "A label of C absent from a tree takes 6 or 7 with letter C": from the answer to the further list, if the largest set has `size` labels
+unfoldable pub compareOther : Edition → Tree → List Token → List Token → ℕ → Answer → Outcome Comparison
+unfolding andThen heldBy comparison
+compareOther e s xs ys size B = andThen (heldBy C ys B) (λ h. found (comparison e s xs ys size h))
 
 -- "after number 8": 6, 7 and 8 of the required list come first
-unfoldable pub compareAnswers : Edition → Tree → List Token → List Token → Answer → Answer → Comparison
-unfolding compareOther
-compareAnswers e s xs ys (firstLacks n) other = stopped (record { reason = FirstLacks; body = K; place = placeOfNumber xs n })
-compareAnswers e s xs ys (secondLacks n) other = stopped (record { reason = SecondLacks; body = K; place = placeOfNumber xs n })
-compareAnswers e s xs ys (disagree a b c) other = clashing e s xs a b c
-compareAnswers e s xs ys (largest X) other = compareOther e s xs ys (length X) other
+unfoldable pub compareAnswers : Edition → Tree → List Token → List Token → Answer → Answer → Outcome Comparison
+unfolding andThen requiredOf compareOther
+compareAnswers e s xs ys A B = andThen (requiredOf e s xs A) (λ X. compareOther e s xs ys (length X) B)
 
--- "A body that fails to read ends the job there.": the further list, with its letter
-unfoldable pub compareLists : Edition → Tree → Tree → List Token → Reading (List Token) → Comparison
-unfolding compareAnswers
-compareLists e s t xs (good ys) =
-    compareAnswers e s xs ys (answer (keyed e s) (keyed e t) (keysOf e xs)) (answer (keyed e s) (keyed e t) (keysOf e ys))
-compareLists e s t xs (refused r i) = stopped (record { reason = r; body = C; place = i })
-
--- "read right after K"
-unfoldable pub compareRead : Edition → Tree → Tree → Reading (List Token) → Reading (List Token) → Comparison
-unfolding compareLists
-compareRead e s t (good xs) other = compareLists e s t xs other
-compareRead e s t (refused r i) other = stopped (record { reason = r; body = K; place = i })
+unfoldable pub compareLists : Edition → Trees → List Token → List Token → Outcome Comparison
+unfolding compareAnswers answerTo
+compareLists e p xs ys = compareAnswers e (p .first) xs ys (answerTo e p xs) (answerTo e p ys)
 
 -- S, T, then 12, then both lists
-unfoldable pub compare : Task → List ℕ → Comparison
-unfolding treesThen compareRead
+unfoldable pub compare : Task → List ℕ → Outcome Comparison
+unfolding andThen treesOf listOf compareLists
 compare q other =
-    treesThen stopped (q .options) (readTreeIn (q .options .edition) (q .first)) (readTreeIn (q .options .edition) (q .second))
-    (λ s t. compareRead (q .options .edition) s t (readListIn (q .options .edition) (q .required)) (readListIn (q .options .edition) other))
+    andThen (treesOf (q .options) (q .first) (q .second))
+    (λ p. andThen (listOf (q .options .edition) K (q .required))
+    (λ xs. andThen (listOf (q .options .edition) C other) (compareLists (q .options .edition) p xs)))
 
 -- ---- what is returned
 
@@ -97,36 +98,31 @@ unfoldable pub placeIf : List Token → Option ℕ → ℕ
 placeIf xs none = 0
 placeIf xs (some n) = placeOfNumber xs n
 
--- the places of three labels in a list, 0 if there are none
-unfoldable pub threeAt : List Token → Option Three → places.Three
-threeAt ys none = record { first = 0; second = 0; third = 0 }
-threeAt ys (some r) = record { first = placeOfLabel ys 0 (r .one); second = placeOfLabel ys 0 (r .two); third = placeOfLabel ys 0 (r .three) }
-
--- and their places in the first tree, none if there are none
-unfoldable pub threeIn : Tree → Option Three → LabelPlaces
-unfolding setPlaces
-threeIn s none = placesOf []
-threeIn s (some r) = setPlaces s (r .one ∷ r .two ∷ r .three ∷ [])
-
--- The sizes, the place of the first missing label, and the places of the three labels in their list and in the first tree; number 8 with
--- its places; or the refusal.
-unfoldable pub comparedOf : Comparison → CompareResult
-unfolding setPlaces isThere placeIf threeAt threeIn
-comparedOf (stopped q) = record { answer = compare-answer.Refused q; set = placesOf [] }
-comparedOf (clashing e s xs a b c) =
+abbrev pub noName : Named
+noName =
     record {
-      answer = compare-answer.Disagree (placeOfLabel (foldedList e xs) 0 a) (placeOfLabel (foldedList e xs) 0 b) (placeOfLabel (foldedList e xs) 0 c);
-      set = setPlaces (folded e s) (a ∷ b ∷ c ∷ []);
+      first = record { place = 0; start = 0; size = 0 };
+      second = record { place = 0; start = 0; size = 0 };
+      third = record { place = 0; start = 0; size = 0 };
     }
-comparedOf (compared e s xs ys size missed clash) =
-    record {
-      answer = compare-answer.Compared (record {
-        size = size;
-        count = length ys;
-        lacks = isThere missed;
-        missing = placeIf xs missed;
-        apart = isThere clash;
-        three = threeAt (foldedList e ys) clash;
-      });
-      set = threeIn (folded e s) clash;
-    }
+
+-- three labels of a list by their places; noughts if there are none
+unfoldable pub namedIf : Edition → Tree → List Token → Option Three → Named
+unfolding namedOf
+namedIf e s ys none = noName
+namedIf e s ys (some r) = namedOf (trio e s ys (r .one) (r .two) (r .three))
+
+-- the sizes, the place of the first missing label, and the three labels; or a refusal
+unfoldable pub comparedOf : Outcome Comparison → CompareAnswer
+unfolding isThere placeIf namedIf namedOf
+comparedOf (found c) =
+    compare-answer.Compared (record {
+      size = c .size;
+      count = length (c .further);
+      lacks = isThere (c .missed);
+      missing = placeIf (c .required) (c .missed);
+      apart = isThere (c .clash);
+      named = namedIf (c .edition) (c .first) (c .further) (c .clash);
+    })
+comparedOf (naming q n) = compare-answer.Naming q (namedOf n)
+comparedOf (refused q) = compare-answer.Refused q

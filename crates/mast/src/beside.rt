@@ -2,87 +2,32 @@
 //
 // Names that end in 1 are of the first tree, in 2 of the second; `list` is the required one, `other` the further one.
 ghost use mathlib.Core.Path.{_≡_};
-ghost use mathlib.Core.Bool.{true, false, cond};
-ghost use mathlib.Core.List.{List, map};
+ghost use mathlib.Core.Bool.{cond};
+ghost use mathlib.Core.List.{List};
+ghost use Prim.Native.Nat.{ℕ, _≤_};
 ghost use lib.Dec.{ltb};
 ghost use lib.ListN.{length, getD};
-ghost use Rattle.trees.specs.Edition.{folded, keyed};
-ghost use Rattle.trees.specs.Label.{Label};
-ghost use Rattle.trees.specs.Token.{Token, spelling};
-ghost use Rattle.trees.specs.Tree.{Tree, decoded};
-ghost use Rattle.lists.specs.ReadList.{foldedList, keysOf};
-ghost use Rattle.agreement.specs.Answer.{answer, disagree};
-ghost use Rattle.table.specs.Choice.{SizeTold};
-ghost use Rattle.mast.specs.Asked.{Asked, AskedOf, SomeTree, SomeAsked};
-ghost use Rattle.mast.specs.Compare.{stopped, clashing, compareOther, compareAnswers, comparedOf};
-ghost use Rattle.mast.specs.Comparing.{ClashIs, BothLists};
+ghost use Rattle.mast.specs.Query.{answerTo};
+ghost use Rattle.mast.specs.Compare.{compareLists, compareOther, comparedOf};
+ghost use Rattle.pairs.specs.PairRead.{OwnTrees, treesIn};
+ghost use Rattle.mast.specs.ListRead.{OwnLabels};
+ghost use Rattle.mast.specs.ListMarks.{leastMissing};
+ghost use Rattle.mast.specs.Settled.{lackedAt, chosenOf, AgreedOn};
 use crate::CompareAnswer;
-use crate::CompareResult;
 use crate::Compared;
-use crate::bodies::ClashTold;
-use crate::bodies::clash_in;
-use crate::bodies::lacks;
-use crate::bodies::order_in;
-use crate::finish::no_places;
-use crate::ranks::NO_RANK;
-use crate::ranks::rank_leaves;
-use crate::required::first_missing;
-use crate::required::mark_required;
+use crate::clash::clash_in;
+use crate::marks::first_missing;
+use crate::marks::mark_list;
+use crate::settle::Fate;
+use crate::settle::Settled;
+use crate::settle::settle;
 use lists::LabelPlaces;
+use pairs::CommonOrder;
+use pairs::Way;
 use table::RANKS;
-use table::Size;
-use table::largest_size;
 use trees::Body;
 use trees::Edition;
-use trees::LEAF_LIMIT;
-use trees::NODE_LIMIT;
-use trees::Refusal;
 use trees::TreeArrays;
-
-// A refusal, with no label beside it.
-pub(crate) fn stopped(refusal: Refusal) -> CompareResult
-    ensures { λ r. ⌜ r ≡ comparedOf (stopped refusal) ⌝ }
-{
-    CompareResult {
-        answer: CompareAnswer::Refused(refusal),
-        set: no_places(),
-    }
-}
-
-// Number 8: the first three labels of the required list that clash.
-fn eight(told: ClashTold) -> CompareResult
-    ensures { λ r. ⌜ ((e : Edition) (s : Tree) (xs : List Token) (a b c : Label)
-        → ClashIs e s xs (disagree a b c) (told .apart) (told .three) (told .set) → r ≡ comparedOf (clashing e s xs a b c)) ⌝ }
-{
-    let three = told.three;
-    let set = told.set;
-    CompareResult {
-        answer: CompareAnswer::Disagree(three.first, three.second, three.third),
-        set,
-    }
-}
-
-// Whether the trees agree on the list, of `count` labels; if so, the size of the largest set.
-fn find_size(
-    tree1: TreeArrays,
-    tree2: TreeArrays,
-    order1: &[usize; LEAF_LIMIT],
-    order2: &[usize; LEAF_LIMIT],
-    m: usize,
-    number: &[u8; RANKS],
-    count: usize,
-) -> Size
-    requires { ⌜ SomeTree tree1 (now order1) m × SomeTree tree2 (now order2) m ⌝ }
-    ensures { λ r. ⌜ ((s t : Tree) (xs : List Token)
-        → Asked s t xs tree1 tree2 (now (order1 .entry)) (now (order2 .entry)) m (now (number .entry)) count
-        → SizeTold (decoded s) (decoded t) (map spelling xs) (r .found) (r .size)) ⌝ }
-{
-    let mut rank1 = [NO_RANK; NODE_LIMIT];
-    let mut rank2 = [NO_RANK; NODE_LIMIT];
-    rank_leaves(order1, m, &mut rank1);
-    rank_leaves(order2, m, &mut rank2);
-    largest_size(tree1, tree2, &rank1, &rank2, m, number, count)
-}
 
 // Where label k of a list stands in it; 0 if it has no such label.
 fn place_if(places: LabelPlaces, k: usize) -> usize
@@ -95,96 +40,98 @@ fn place_if(places: LabelPlaces, k: usize) -> usize
     0
 }
 
-// What the further list is beside a largest set of `size` labels, where both trees hold the labels of both lists.
-fn set_beside(
-    told: ClashTold,
-    size: usize,
-    places: LabelPlaces,
-    others: LabelPlaces,
+// Whether a further list lacks a required label, and where the first such label stands in the required list.
+struct Lacked {
+    lacks: bool,
     missing: usize,
-) -> CompareResult
-    ensures { λ r. ⌜ r ≡ record {
-      answer = CompareAnswer.Compared (record {
-        size = size;
-        count = others .count;
-        lacks = ltb missing (places .count);
-        missing = cond (ltb missing (places .count)) (getD (places .start) missing 0) 0;
-        apart = told .apart;
-        three = told .three;
-      });
-      set = told .set;
-    } ⌝ }
+}
+
+// The first required label that a further list lacks; both lists are given by their marks.
+fn lacked_label(number: &[u8; RANKS], other: &[u8; RANKS], m: usize, places: LabelPlaces) -> Lacked
+    requires { ⌜ m ≤ 80 ⌝ }
+    ensures { λ r. ⌜ r ≡ lackedAt places (leastMissing (now (number .entry)) (now (other .entry)) m (places .count)) ⌝ }
 {
-    let three = told.three;
-    let set = told.set;
-    CompareResult {
-        answer: CompareAnswer::Compared(Compared {
-            size,
-            count: others.count,
-            lacks: missing < places.count,
-            missing: place_if(places, missing),
-            apart: told.apart,
-            three,
-        }),
-        set,
+    let k = first_missing(number, other, m, places.count);
+    Lacked {
+        lacks: k < places.count,
+        missing: place_if(places, k),
     }
 }
 
-// The comparison over two trees and two lists that were read; no more than `most` labels are common.
-pub(crate) fn compare_bodies(
+// The further list beside the largest set, which the settled list has.
+fn beside(
     edition: Edition,
     first: &[u8],
     tree1: TreeArrays,
     tree2: TreeArrays,
-    partner: &[usize; NODE_LIMIT],
+    order: CommonOrder,
+    settled: Settled,
+    places: LabelPlaces,
+    other: &[u8],
+    others: LabelPlaces,
+) -> CompareAnswer
+    requires { ⌜ OwnTrees edition (now first) tree1 tree2 order × OwnLabels edition (now other) others ⌝ }
+    ensures { λ r. ⌜ ((list : List ℕ) (b : OwnTrees edition (now (first .entry)) tree1 tree2 order) (l : OwnLabels edition list places)
+        (k : OwnLabels edition (now (other .entry)) others) → AgreedOn b l settled
+        → r ≡ comparedOf
+        (compareOther edition (b .s) (l .xs) (k .xs) (length (chosenOf edition (b .s) (b .t) (settled .chosen)))
+        (answerTo edition (treesIn b) (k .xs)))) ⌝ }
+{
+    let marks = mark_list(edition, first, tree1, order, other, others, Body::C);
+    let claimed = marks.number;
+    let way = marks.way;
+    if let Way::Stopped(refusal) = way {
+        return CompareAnswer::Refused(refusal);
+    }
+    let number = settled.number;
+    let lacked = lacked_label(&number, &claimed, order.count, places);
+    let clash = clash_in(tree1, tree2, order, &claimed, others);
+    let named = clash.named;
+    CompareAnswer::Compared(Compared {
+        size: settled.size,
+        count: others.count,
+        lacks: lacked.lacks,
+        missing: lacked.missing,
+        apart: clash.apart,
+        named,
+    })
+}
+
+// The comparison over two trees and two lists that were read.
+pub(crate) fn compare_lists(
+    edition: Edition,
+    first: &[u8],
+    tree1: TreeArrays,
+    tree2: TreeArrays,
+    order: CommonOrder,
     list: &[u8],
     places: LabelPlaces,
     other: &[u8],
     others: LabelPlaces,
-    most: usize,
-) -> CompareResult
-    requires { ⌜ BothLists edition (now first) (now list) (now other) tree1 tree2 (now partner) places others most ⌝ }
-    ensures { λ r. ⌜ ((b : BothLists edition (now (first .entry)) (now (list .entry)) (now (other .entry)) tree1 tree2
-        (now (partner .entry)) places others most)
-        → r ≡ comparedOf (compareAnswers edition (b .bodies .s) (b .bodies .K) (b .Y)
-        (answer (keyed edition (b .bodies .s)) (keyed edition (b .bodies .t)) (keysOf edition (b .bodies .K)))
-        (answer (keyed edition (b .bodies .s)) (keyed edition (b .bodies .t)) (keysOf edition (b .Y))))) ⌝ }
+) -> CompareAnswer
+    requires { ⌜ OwnTrees edition (now first) tree1 tree2 order × OwnLabels edition (now list) places
+        × OwnLabels edition (now other) others ⌝ }
+    ensures { λ r. ⌜ ((b : OwnTrees edition (now (first .entry)) tree1 tree2 order)
+        (l : OwnLabels edition (now (list .entry)) places) (k : OwnLabels edition (now (other .entry)) others)
+        → r ≡ comparedOf (compareLists edition (treesIn b) (l .xs) (k .xs))) ⌝ }
 {
-    let mut order1 = [0usize; LEAF_LIMIT];
-    let mut order2 = [0usize; LEAF_LIMIT];
-    let m = order_in(
-        edition,
-        first,
-        tree1,
-        partner,
-        &mut order1,
-        &mut order2,
-        most,
-    );
-    let mut number = [0u8; RANKS];
-    let n = mark_required(edition, first, tree1, &order1, m, list, places, &mut number);
-    if n < places.count {
-        return stopped(lacks(edition, first, tree1, list, places, Body::K, n));
+    let settled = settle(edition, first, tree1, tree2, order, list, places);
+    let fate = settled.fate;
+    match fate {
+        Fate::Agreed => {
+            beside(
+                edition,
+                first,
+                tree1,
+                tree2,
+                order,
+                settled,
+                places,
+                other,
+                others,
+            )
+        }
+        Fate::Naming(refusal, named) => CompareAnswer::Naming(refusal, named),
+        Fate::Refused(refusal) => CompareAnswer::Refused(refusal),
     }
-    let largest = find_size(tree1, tree2, &order1, &order2, m, &number, places.count);
-    if !largest.found {
-        return eight(clash_in(tree1, tree2, &order1, &order2, m, &number, places));
-    }
-    let mut claimed = [0u8; RANKS];
-    let k = mark_required(
-        edition,
-        first,
-        tree1,
-        &order1,
-        m,
-        other,
-        others,
-        &mut claimed,
-    );
-    if k < others.count {
-        return stopped(lacks(edition, first, tree1, other, others, Body::C, k));
-    }
-    let missing = first_missing(&number, &claimed, m, places.count);
-    let told = clash_in(tree1, tree2, &order1, &order2, m, &claimed, others);
-    set_beside(told, largest.size, places, others, missing)
 }

@@ -13,11 +13,16 @@ ghost use Rattle.trees.specs.Arrays.{arraysOf};
 ghost use Rattle.leaves.specs.Numbered.{Numbered};
 ghost use Rattle.table.specs.Choice.{chosenFrom};
 ghost use Rattle.lists.specs.ReadList.{placesOf};
-ghost use Rattle.mast.specs.Largest.{setPlaces, largestOf, outputOf};
-ghost use Rattle.mast.specs.Finish.{InRange, placesFrom, Stored, Flagged, ByRank, fittedSet, resultFrom};
+ghost use Rattle.mast.specs.Largest.{solution, fitted, solveList, setPlaces, largestOf, outputOf};
+ghost use Rattle.pairs.specs.PairRead.{OwnTrees, treesIn};
+ghost use Rattle.mast.specs.ListRead.{OwnLabels};
+ghost use Rattle.mast.specs.SetByRank.{InRange, placesFrom, Stored, Flagged, ByRank, resultFrom};
 use crate::LargestAnswer;
 use crate::LargestResult;
+use crate::settle::Fate;
+use crate::settle::settle;
 use lists::LabelPlaces;
+use pairs::CommonOrder;
 use trees::Body;
 use trees::Edition;
 use trees::LEAF_LIMIT;
@@ -25,6 +30,7 @@ use trees::NODE_LIMIT;
 use trees::Reason;
 use trees::Refusal;
 use trees::TreeArrays;
+use trees::wide;
 use writer::WriteAnswer;
 
 // Stores a label's place behind n others if the label is chosen, and says how many there are then.
@@ -48,9 +54,9 @@ fn add_place(
     n + 1
 }
 
-// Where the labels of the set stand in the first tree's text, in label order; so too the three of number 8.
-pub(crate) fn set_places(
-    order1: &[usize; LEAF_LIMIT],
+// Where the labels of the set stand in the first tree's text, in label order.
+fn set_places(
+    order1: &[u8; LEAF_LIMIT],
     m: usize,
     chosen: &[bool; LEAF_LIMIT],
     start1: &[u16; NODE_LIMIT],
@@ -66,7 +72,7 @@ pub(crate) fn set_places(
     let mut count: usize = 0;
     let mut r: usize = 0;
     while r < m {
-        let u = order1[r];
+        let u = wide(order1[r]);
         count = add_place(chosen[r], start1[u], size1[u], &mut start, &mut size, count);
         r += 1;
     }
@@ -85,7 +91,7 @@ fn flag(chosen: bool, u: usize, kept: &mut [bool; NODE_LIMIT])
 
 // Flags of the first tree's leaves whose labels are in the set.
 fn kept_leaves(
-    order1: &[usize; LEAF_LIMIT],
+    order1: &[u8; LEAF_LIMIT],
     m: usize,
     chosen: &[bool; LEAF_LIMIT],
 ) -> [bool; NODE_LIMIT]
@@ -96,14 +102,14 @@ fn kept_leaves(
     let mut kept = [false; NODE_LIMIT];
     let mut r: usize = 0;
     while r < m {
-        flag(chosen[r], order1[r], &mut kept);
+        flag(chosen[r], wide(order1[r]), &mut kept);
         r += 1;
     }
     kept
 }
 
 // No label has no place.
-pub(crate) fn no_places() -> LabelPlaces
+fn no_places() -> LabelPlaces
     ensures { λ r. ⌜ r ≡ placesOf [] ⌝ }
 {
     LabelPlaces {
@@ -124,21 +130,21 @@ pub(crate) fn without_set(answer: LargestAnswer) -> LargestResult
 }
 
 // The answer with the set of the chosen labels, whose tree's text goes into `out`; or number 9, and `out` keeps every byte.
-pub(crate) fn solution(
+fn solution(
     edition: Edition,
     tree: TreeArrays,
     text: &[u8],
-    order1: &[usize; LEAF_LIMIT],
+    order1: &[u8; LEAF_LIMIT],
     m: usize,
     chosen: &[bool; LEAF_LIMIT],
     out: &mut [u8],
 ) -> LargestResult
     requires { ⌜ (m ≤ 80) × InRange (now order1) m ⌝ }
     ensures answer { λ r. ⌜ ((s : Tree) (C : List Label) → ByRank edition s C tree (now (text .entry)) (now (order1 .entry)) m
-        → r ≡ largestOf (fittedSet edition s (chosenFrom (now (chosen .entry)) 0 C) (length (now (out .entry))))) ⌝ }
+        → r ≡ largestOf (fitted (length (now (out .entry))) (solution edition s (chosenFrom (now (chosen .entry)) 0 C)))) ⌝ }
     ensures output { λ _. ⌜ ((s : Tree) (C : List Label) → ByRank edition s C tree (now (text .entry)) (now (order1 .entry)) m
         → now (out .exit)
-        ≡ outputOf (fittedSet edition s (chosenFrom (now (chosen .entry)) 0 C) (length (now (out .entry)))) (now (out .entry))) ⌝ }
+        ≡ outputOf (fitted (length (now (out .entry))) (solution edition s (chosenFrom (now (chosen .entry)) 0 C))) (now (out .entry))) ⌝ }
 {
     let kept = kept_leaves(order1, m, chosen);
     let written = writer::write_tree(edition, restriction::restrict_tree(tree, kept), text, out);
@@ -155,5 +161,37 @@ pub(crate) fn solution(
     LargestResult {
         answer: LargestAnswer::Found(set.count, bytes),
         set,
+    }
+}
+
+// The answer to two trees and a required list that were read.
+pub(crate) fn answer_list(
+    edition: Edition,
+    first: &[u8],
+    tree1: TreeArrays,
+    tree2: TreeArrays,
+    order: CommonOrder,
+    list: &[u8],
+    places: LabelPlaces,
+    out: &mut [u8],
+) -> LargestResult
+    requires { ⌜ OwnTrees edition (now first) tree1 tree2 order × OwnLabels edition (now list) places ⌝ }
+    ensures answer { λ r. ⌜ ((b : OwnTrees edition (now (first .entry)) tree1 tree2 order)
+        (l : OwnLabels edition (now (list .entry)) places)
+        → r ≡ largestOf (solveList edition (length (now (out .entry))) (treesIn b) (l .xs))) ⌝ }
+    ensures output { λ _. ⌜ ((b : OwnTrees edition (now (first .entry)) tree1 tree2 order)
+        (l : OwnLabels edition (now (list .entry)) places)
+        → now (out .exit) ≡ outputOf (solveList edition (length (now (out .entry))) (treesIn b) (l .xs)) (now (out .entry))) ⌝ }
+{
+    let settled = settle(edition, first, tree1, tree2, order, list, places);
+    let fate = settled.fate;
+    match fate {
+        Fate::Agreed => {
+            let order1 = order.first;
+            let chosen = settled.chosen;
+            solution(edition, tree1, first, &order1, order.count, &chosen, out)
+        }
+        Fate::Naming(refusal, named) => without_set(LargestAnswer::Naming(refusal, named)),
+        Fate::Refused(refusal) => without_set(LargestAnswer::Refused(refusal)),
     }
 }

@@ -1,51 +1,50 @@
 // The engine: the largest agreement set of two trees that holds a required list, the first in label order among equals.
 //
 // No public function has a `requires`.
-use crate::beside::compare_bodies;
-use crate::beside::stopped;
-use crate::bodies::answer_bodies;
+use crate::beside::compare_lists;
+use crate::finish::answer_list;
 use crate::finish::without_set;
-use crate::reading::Way;
-use crate::reading::read_pair;
-use crate::reading::unread;
+use crate::marks::read_labels;
 use lists::LabelPlaces;
-use lists::ListAnswer;
+use pairs::Options;
+use pairs::Way;
+use pairs::read_pair;
 use trees::Body;
-use trees::Edition;
 use trees::Refusal;
-use triples::Three;
 ghost use mathlib.Core.Path.{_≡_};
 ghost use lib.ListN.{length};
-ghost use Rattle.mast.specs.Largest.{turned, task, solve, largestOf, outputOf};
+ghost use Rattle.mast.specs.Query.{task};
+ghost use Rattle.mast.specs.Largest.{solve, largestOf, outputOf};
 ghost use Rattle.mast.specs.Compare.{compare, comparedOf};
-ghost use Rattle.mast.specs.Bodies.{unreadList};
 
 mod beside;
-mod bodies;
+mod clash;
 mod finish;
-mod ranks;
-mod reading;
-mod required;
-mod strict;
+mod marks;
+mod settle;
 
-// The options of a call.
-pub struct Options {
-    // A leaf in only one tree stops the job.
-    pub strict: bool,
-    // The edition by which labels are compared.
-    pub edition: Edition,
+// A label that a refusal names: its place in its list, and its place and size in the first tree's text.
+pub struct NamedLabel {
+    pub place: usize,
+    pub start: usize,
+    pub size: usize,
 }
 
-// The size of the set and the length of its tree's text. Number 8: the places in the list of three required labels with different closer
-// pairs. Or why the job was refused.
+// Three labels with different closer pairs, in label order.
+pub struct Named {
+    pub first: NamedLabel,
+    pub second: NamedLabel,
+    pub third: NamedLabel,
+}
+
+// The size of the set and the length of its tree's text. Number 8, with the three required labels that it names. Or another refusal.
 pub enum LargestAnswer {
     Found(usize, usize),
-    Disagree(usize, usize, usize),
+    Naming(Refusal, Named),
     Refused(Refusal),
 }
 
-// The answer, and the places of its labels in the first tree's text, in label order: those of the set, or the three of number 8. Any other
-// refusal has no label.
+// The answer, and the places of the set's labels in the first tree's text, in label order. A refusal has no set.
 pub struct LargestResult {
     pub answer: LargestAnswer,
     pub set: LabelPlaces,
@@ -53,45 +52,21 @@ pub struct LargestResult {
 
 // A further list compared with the largest set: the size of that set and the number of labels of the list; whether the list lacks a
 // required label, and the place of the first such label in the required list; whether three of its labels have different closer pairs, and
-// the places of the first such three in it, in label order.
+// the first such three.
 pub struct Compared {
     pub size: usize,
     pub count: usize,
     pub lacks: bool,
     pub missing: usize,
     pub apart: bool,
-    pub three: Three,
+    pub named: Named,
 }
 
-// The comparison of a further list. Number 8: the places in the required list of three labels with different closer pairs. Or why the job
-// was refused.
+// The comparison of a further list. Number 8, with the three required labels that it names. Or another refusal.
 pub enum CompareAnswer {
     Compared(Compared),
-    Disagree(usize, usize, usize),
+    Naming(Refusal, Named),
     Refused(Refusal),
-}
-
-// The answer, and the places of the three labels that it names in the first tree's text, in label order.
-pub struct CompareResult {
-    pub answer: CompareAnswer,
-    pub set: LabelPlaces,
-}
-
-// The refusal of a list.
-fn unread_list(answer: ListAnswer, body: Body) -> Refusal
-    ensures { λ r. ⌜ r ≡ unreadList answer body ⌝ }
-{
-    match answer {
-        ListAnswer::Labels(_) => unread(body),
-        ListAnswer::Refused(refusal) => refusal,
-    }
-}
-
-// A refusal, with no set.
-fn refused(refusal: Refusal) -> LargestResult
-    ensures { λ r. ⌜ r ≡ largestOf (turned refusal) ⌝ }
-{
-    without_set(LargestAnswer::Refused(refusal))
 }
 
 // The largest set of common leaves that contains the required ones and on which the trees agree, the first in label order among equals.
@@ -115,33 +90,23 @@ pub fn largest(
     let pair = read_pair(options, first, second);
     let way = pair.way;
     if let Way::Stopped(refusal) = way {
-        return refused(refusal);
+        return without_set(LargestAnswer::Refused(refusal));
     }
     let edition = options.edition;
-    let list = lists::read_list(edition, required, Body::K);
-    let answer3 = list.answer;
-    let ListAnswer::Labels(_) = answer3 else {
-        return refused(unread_list(answer3, Body::K));
-    };
-    let places = list.places;
+    let list = read_labels(edition, required, Body::K);
+    let way2 = list.way;
+    if let Way::Stopped(refusal) = way2 {
+        return without_set(LargestAnswer::Refused(refusal));
+    }
     let tree1 = pair.tree1;
     let tree2 = pair.tree2;
-    let partner = pair.partner;
-    answer_bodies(
-        edition,
-        first,
-        tree1,
-        tree2,
-        &partner,
-        required,
-        places,
-        pair.most,
-        out,
-    )
+    let order = pair.order;
+    let places = list.places;
+    answer_list(edition, first, tree1, tree2, order, required, places, out)
 }
 
 // Compares a further list with the largest set: whether it lacks a required label, whether three of its labels have different closer pairs,
-// and how large both are. No set is built. Refusals come in the order S, T, 12 if the options are strict, the required list, the further
+// and how large both are. No text is written. Refusals come in the order S, T, 12 if the options are strict, the required list, the further
 // one, 6 or 7 and 8 of the required list, 6 or 7 of the further one.
 pub fn compare(
     options: Options,
@@ -149,7 +114,7 @@ pub fn compare(
     second: &[u8],
     required: &[u8],
     other: &[u8],
-) -> CompareResult
+) -> CompareAnswer
     ensures { λ r.
         ⌜ r ≡ comparedOf
         (compare (task options (now (first .entry)) (now (second .entry)) (now (required .entry))) (now (other .entry))) ⌝ }
@@ -157,34 +122,33 @@ pub fn compare(
     let pair = read_pair(options, first, second);
     let way = pair.way;
     if let Way::Stopped(refusal) = way {
-        return stopped(refusal);
+        return CompareAnswer::Refused(refusal);
     }
     let edition = options.edition;
-    let listed = lists::read_list(edition, required, Body::K);
-    let answer3 = listed.answer;
-    let ListAnswer::Labels(_) = answer3 else {
-        return stopped(unread_list(answer3, Body::K));
-    };
-    let further = lists::read_list(edition, other, Body::C);
-    let answer4 = further.answer;
-    let ListAnswer::Labels(_) = answer4 else {
-        return stopped(unread_list(answer4, Body::C));
-    };
-    let places = listed.places;
-    let others = further.places;
+    let listed = read_labels(edition, required, Body::K);
+    let way2 = listed.way;
+    if let Way::Stopped(refusal) = way2 {
+        return CompareAnswer::Refused(refusal);
+    }
+    let further = read_labels(edition, other, Body::C);
+    let way3 = further.way;
+    if let Way::Stopped(refusal) = way3 {
+        return CompareAnswer::Refused(refusal);
+    }
     let tree1 = pair.tree1;
     let tree2 = pair.tree2;
-    let partner = pair.partner;
-    compare_bodies(
+    let order = pair.order;
+    let places = listed.places;
+    let others = further.places;
+    compare_lists(
         edition,
         first,
         tree1,
         tree2,
-        &partner,
+        order,
         required,
         places,
         other,
         others,
-        pair.most,
     )
 }

@@ -21,7 +21,7 @@ use Rattle.trees.proofs.PostorderLaws.{root-last, subtree-few, subtree-in, hold
 use Rattle.leaves.specs.Numbered.{LeafIs}
 use Rattle.agreement.specs.Closer.{holds, Common}
 use Rattle.agreement.specs.Sets.{common, sorted, setOf}
-use Rattle.agreement.specs.Weights.{best, forcing, forcedUnit}
+use Rattle.agreement.specs.Weights.{best, unitIn, requiredUnit}
 use Rattle.agreement.specs.Powers.{whole, power, telling, powerIn, decode}
 use Rattle.agreement.specs.Greatest.{Greatest}
 use Rattle.agreement.specs.Answer.{answer, disagree, largest}
@@ -33,7 +33,7 @@ use Rattle.agreement.proofs.Recurrence.{best-greatest}
 use Rattle.agreement.proofs.DemandLaws.{largest-exactly, eight-exactly}
 use Rattle.table.specs.Table.{valueAt, columnAt, nodesAt, weightPlace, Filling}
 use Rattle.table.specs.Weighing.{unitOf, WeightsPut, Powers, bitsOf, Bits}
-use Rattle.table.specs.Choice.{Marked, Given, Posed, chosenFrom, Solved, SizeTold}
+use Rattle.table.specs.Choice.{Marked, Given, Posed, chosenFrom, Solved}
 use Rattle.table.specs.Solving.{OwnColumns, TopIs, Weighed}
 use Rattle.table.proofs.WeighingLaws.{power-79, chosen-decoded}
 use Rattle.table.proofs.FillLaws.{power-mono, few-rows}
@@ -50,11 +50,11 @@ module _ (s t : Tree) (K : List Label) (proper : Proper s) where
   abbrev w : Label → ℕ
   w = telling leafLimit (sorted K) C
 
-  unit-marked : (number : List ℕ) → Marked C K number → (r : ℕ) → r < length C → unitOf (getD number r 0) ≡ forcing (sorted K) (getD C r [])
-  unfolding forcing
+  unit-marked : (number : List ℕ) → Marked C K number → (r : ℕ) → r < length C → unitOf (getD number r 0) ≡ unitIn (sorted K) (getD C r [])
+  unfolding unitIn
   unit-marked number marked r h = rw (in-sorted (getD C r []) K) (go (bool-cases (isIn (getD C r []) K)))
     where
-      go : (isIn (getD C r []) K ≡ true) ⊎ (isIn (getD C r []) K ≡ false) → unitOf (getD number r 0) ≡ cond (isIn (getD C r []) K) forcedUnit 1
+      go : (isIn (getD C r []) K ≡ true) ⊎ (isIn (getD C r []) K ≡ false) → unitOf (getD number r 0) ≡ cond (isIn (getD C r []) K) requiredUnit 1
       go (inl m) =
           let k = number-of K (getD C r []) m in
           rw (m, marked .held r (k .at) h (k .below) (sym (k .is)), ne-eqb (suc (k .at)) 0 (omega arith)) refl
@@ -69,10 +69,10 @@ module _ (s t : Tree) (K : List Label) (proper : Proper s) where
       rw (unit-marked number marked r h, e, power-rank leafLimit C r (common-inc s t (proper .different)) (common-few s t proper) h) refl
 
   pub telling-light : (x : Label) → w x ≤ 129 * whole
-  unfolding telling forcing
+  unfolding telling unitIn
   telling-light x = go (isIn x (sorted K))
     where
-      go : (b : Bool) → cond b forcedUnit 1 * whole + powerIn leafLimit C x ≤ 129 * whole
+      go : (b : Bool) → cond b requiredUnit 1 * whole + powerIn leafLimit C x ≤ 129 * whole
       go true = omega (arith, sum-small leafLimit C (sameLabel x), full-places)
       go false = omega (arith, sum-small leafLimit C (sameLabel x), full-places)
 
@@ -222,44 +222,37 @@ module _ (s t : Tree) (K : List Label) (tree1 tree2 : TreeArrays) (rank1 rank2 :
   own : Proper s
   own = posed .one .proper
 
-  pub solved-set : (chosen : List Bool) → top / whole / forcedUnit ≡ count → (Powers n high low → Bits n (top % whole) chosen)
-      → Solved s t K true chosen
-  solved-set chosen e bits = record {
-    set = λ k.
-        told-set s t K own (posed .different) (posed .required) top (w .great) (e ∙ posed .count-is)
-        ∙ ap largest (sym (chosen-decoded leafLimit (common s t) (top % whole) chosen 0 (common-few s t own) each));
-    eight = λ k. clash {b = true} refl k;
+  module _ (chosen : List Bool) (size : ℕ) (e : top / whole / requiredUnit ≡ count) (bits : Powers n high low → Bits n (top % whole) chosen)
+      (is : size ≡ top / whole / requiredUnit + top / whole % requiredUnit) where
+    each : (i : ℕ) → i < length (common s t) → getD chosen (0 + i) false ≡ getD (bitsOf leafLimit (top % whole)) i false
+    each i h =
+        let z : 0 + i ≡ i = omega arith in
+        ap (λ (j : ℕ). getD chosen j false) z ∙ bits (w .powers) .each i (omega (arith, ranks, posed .all, common-few s t own))
+
+    decoded : chosenFrom chosen 0 (common s t) ≡ decode leafLimit (common s t) (top % whole)
+    decoded = chosen-decoded leafLimit (common s t) (top % whole) chosen 0 (common-few s t own) each
+
+    pub solved-set : Solved s t K true size chosen
+    solved-set = record {
+      set = λ k.
+          told-set s t K own (posed .different) (posed .required) top (w .great) (e ∙ posed .count-is) ∙ ap largest (sym decoded);
+      count = λ k.
+          is ∙ sym (told-size s t K own (posed .different) (posed .required) top (w .great) (e ∙ posed .count-is))
+          ∙ ap (length {A = Label}) (sym decoded);
+      eight = λ k. clash {b = true} refl k;
+    }
+
+  pub solved-eight : (chosen : List Bool) → (top / whole / requiredUnit ≡ count → ⊥) → Solved s t K false 0 chosen
+  solved-eight chosen apart = record {
+    set = λ k. clash {b = false} k refl;
+    count = λ k. clash {b = false} k refl;
+    eight = λ k. told-eight s t K own (posed .different) (posed .required) top (w .great) (λ e. apart (e ∙ sym (posed .count-is)));
   }
-    where
-      each : (i : ℕ) → i < length (common s t) → getD chosen (0 + i) false ≡ getD (bitsOf leafLimit (top % whole)) i false
-      each i h =
-          let z : 0 + i ≡ i = omega arith in
-          ap (λ (j : ℕ). getD chosen j false) z ∙ bits (w .powers) .each i (omega (arith, ranks, posed .all, common-few s t own))
-
-  eight-known : (top / whole / forcedUnit ≡ count → ⊥) → (a : Label) × (b : Label) × (c : Label) × (answer s t K ≡ disagree a b c)
-  eight-known apart = told-eight s t K own (posed .different) (posed .required) top (w .great) (λ e. apart (e ∙ sym (posed .count-is)))
-
-  pub solved-eight : (chosen : List Bool) → (top / whole / forcedUnit ≡ count → ⊥) → Solved s t K false chosen
-  solved-eight chosen apart = record { set = λ k. clash {b = false} k refl; eight = λ k. eight-known apart }
-
-  pub sized-set : (size : ℕ) → top / whole / forcedUnit ≡ count → size ≡ top / whole / forcedUnit + top / whole % forcedUnit
-      → SizeTold s t K true size
-  sized-set size e is = record {
-    set = λ k. (
-      decode leafLimit (common s t) (top % whole),
-      told-set s t K own (posed .different) (posed .required) top (w .great) (e ∙ posed .count-is),
-      is ∙ sym (told-size s t K own (posed .different) (posed .required) top (w .great) (e ∙ posed .count-is)),
-    );
-    eight = λ k. clash {b = true} refl k;
-  }
-
-  pub sized-eight : (top / whole / forcedUnit ≡ count → ⊥) → SizeTold s t K false 0
-  sized-eight apart = record { set = λ k. clash {b = false} k refl; eight = λ k. eight-known apart }
 
 -- demand 3 of what comes back
 
-module _ (s t : Tree) (K : List Label) (proper : Proper s) (different : distinct K ≡ true) (found : Bool) (chosen : List Bool)
-    (solved : Solved s t K found chosen) where
+module _ (s t : Tree) (K : List Label) (proper : Proper s) (different : distinct K ≡ true) (found : Bool) (size : ℕ) (chosen : List Bool)
+    (solved : Solved s t K found size chosen) where
   pub set-told : found ≡ true → IsAnswer s t K (chosenFrom chosen 0 (common s t))
   set-told e = largest-exactly s t K (proper .different) different (chosenFrom chosen 0 (common s t)) .0 (solved .set e)
 
@@ -273,10 +266,3 @@ module _ (s t : Tree) (K : List Label) (proper : Proper s) (different : distinct
       apart : (found ≡ true) ⊎ (found ≡ false) → ((a : Label) × (b : Label) × (c : Label) × (answer s t K ≡ disagree a b c)) → found ≡ false
       apart (inr e) p = e
       apart (inl e) p = let f = solved .set e in let g = p .3 in let z : _≡_ {A = ℕ} 0 1 = cc in absurd (omega arith)
-
--- the size without the set
-pub size-told : (s t : Tree) (K : List Label) → Proper s → distinct K ≡ true → (found : Bool) (size : ℕ) → SizeTold s t K found size
-    → found ≡ true → (X : List Label) × IsAnswer s t K X × (size ≡ length X)
-size-told s t K proper different found size told e =
-    let w = told .set e in
-    (w .0, largest-exactly s t K (proper .different) different (w .0) .0 (w .1), w .2)

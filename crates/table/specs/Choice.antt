@@ -49,13 +49,9 @@ unfoldable pub chosenFrom : List Bool → ℕ → List Label → List Label
 chosenFrom chosen r [] = []
 chosenFrom chosen r (c ∷ cs) = cond (getD chosen r false) (c ∷ chosenFrom chosen (suc r) cs) (chosenFrom chosen (suc r) cs)
 
--- "Agreement", "Largest" and "first": the answer is the set of the labels chosen; or row 8, three required labels with different closer
--- pairs
-pub record Solved (s t : Tree) (K : List Label) (found : Bool) (chosen : List Bool) : Type 0 where
+-- "Agreement", "Largest" and "first": the answer is the set of the labels chosen, and the size is its count; or row 8, three required labels
+-- with different closer pairs
+pub record Solved (s t : Tree) (K : List Label) (found : Bool) (size : ℕ) (chosen : List Bool) : Type 0 where
   pub set : found ≡ true → answer s t K ≡ largest (chosenFrom chosen 0 (common s t))
-  pub eight : found ≡ false → (a : Label) × (b : Label) × (c : Label) × (answer s t K ≡ disagree a b c)
-
--- the same without the set: the answer's size; or row 8
-pub record SizeTold (s t : Tree) (K : List Label) (found : Bool) (size : ℕ) : Type 0 where
-  pub set : found ≡ true → (X : List Label) × (answer s t K ≡ largest X) × (size ≡ length X)
+  pub count : found ≡ true → size ≡ length (chosenFrom chosen 0 (common s t))
   pub eight : found ≡ false → (a : Label) × (b : Label) × (c : Label) × (answer s t K ≡ disagree a b c)

@@ -107,7 +107,7 @@ fn put_node(columns: &mut [u8; COLUMNS], u: usize, left: usize, right: usize, ra
 fn gathered(
     left: &[u8; NODE_LIMIT],
     right: &[u8; NODE_LIMIT],
-    rank: &[usize; NODE_LIMIT],
+    rank: &[u8; NODE_LIMIT],
     nodes: usize,
 ) -> [u8; COLUMNS]
     requires { ⌜ nodes ≤ 159 ⌝ }
@@ -122,7 +122,7 @@ fn gathered(
             u,
             trees::wide(left[u]),
             trees::wide(right[u]),
-            rank[u],
+            trees::wide(rank[u]),
         );
         u += 1;
     }
@@ -140,7 +140,7 @@ fn nodes_in(nodes: usize) -> usize
 }
 
 // The columns of a tree by its arrays and its leaves' ranks.
-pub(crate) fn columns_of(tree: TreeArrays, rank: &[usize; NODE_LIMIT]) -> [u8; COLUMNS]
+pub(crate) fn columns_of(tree: TreeArrays, rank: &[u8; NODE_LIMIT]) -> [u8; COLUMNS]
     ensures { λ r. ⌜ Rooted r ⌝ }
     ensures { λ r. ⌜ ((t : Tree) (C : List Label) → length C ≤ 80 → Given t C tree (now (rank .entry)) → OwnColumns t C r) ⌝ }
 {

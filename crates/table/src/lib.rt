@@ -10,7 +10,7 @@ ghost use lib.ListN.{getD};
 ghost use Rattle.trees.specs.Label.{Label};
 ghost use Rattle.trees.specs.Tree.{Tree};
 ghost use lib.ListN.{replicate};
-ghost use Rattle.table.specs.Choice.{Posed, Solved, SizeTold};
+ghost use Rattle.table.specs.Choice.{Posed, Solved};
 ghost use Rattle.table.specs.Solving.{Weighed};
 ghost use Rattle.table.specs.Table.{valueOf};
 ghost use Prim.Native.Nat.{min};
@@ -37,8 +37,8 @@ pub const RANKS: usize = LEAF_LIMIT + 1;
 fn weigh(
     tree1: TreeArrays,
     tree2: TreeArrays,
-    rank1: &[usize; NODE_LIMIT],
-    rank2: &[usize; NODE_LIMIT],
+    rank1: &[u8; NODE_LIMIT],
+    rank2: &[u8; NODE_LIMIT],
     n: usize,
     number: &[u8; RANKS],
     high: &mut [u32; AREA],
@@ -56,6 +56,12 @@ fn weigh(
     root_weight(&first, &second, high, low)
 }
 
+// Whether two trees agree on the required labels, and how many labels are chosen, 0 if they do not.
+pub struct Largest {
+    pub found: bool,
+    pub size: usize,
+}
+
 // Whether two trees agree on the required labels, of which there are `count`; if so, the labels chosen are the answer, by rank among
 // the m common ones. A tree is given by its arrays and, by node, its leaves' ranks; `number` has by rank a required label's number in
 // the list, counted from 1. One fill: the cell of both roots is the greatest weight, which tells it all. Arrays of no tree are taken
@@ -63,18 +69,18 @@ fn weigh(
 pub fn largest_set(
     tree1: TreeArrays,
     tree2: TreeArrays,
-    rank1: &[usize; NODE_LIMIT],
-    rank2: &[usize; NODE_LIMIT],
+    rank1: &[u8; NODE_LIMIT],
+    rank2: &[u8; NODE_LIMIT],
     m: usize,
     number: &[u8; RANKS],
     count: usize,
     chosen: &mut [bool; LEAF_LIMIT],
-) -> bool
-    ensures { λ found. ⌜ ((s t : Tree) (K : List Label)
+) -> Largest
+    ensures { λ r. ⌜ ((s t : Tree) (K : List Label)
         → Posed s t K tree1 tree2 (now (rank1 .entry)) (now (rank2 .entry)) m (now (number .entry)) count
-        → Solved s t K found (now (chosen .exit))) ⌝ }
-    ensures { λ found. ⌜ (found ≡ true → (r : ℕ) → m ≤ r → getD (now (chosen .exit)) r false ≡ false) ⌝ }
-    ensures { λ found. ⌜ (found ≡ false → now (chosen .exit) ≡ now (chosen .entry)) ⌝ }
+        → Solved s t K (r .found) (r .size) (now (chosen .exit))) ⌝ }
+    ensures { λ r. ⌜ (r .found ≡ true → (k : ℕ) → m ≤ k → getD (now (chosen .exit)) k false ≡ false) ⌝ }
+    ensures { λ r. ⌜ (r .found ≡ false → (r .size ≡ 0) × (now (chosen .exit) ≡ now (chosen .entry))) ⌝ }
 {
     let common = trees::least(m, LEAF_LIMIT);
     let mut high = [0u32; AREA];
@@ -90,52 +96,13 @@ pub fn largest_set(
         &mut low,
     );
     if held(top) != count {
-        return false;
-    }
-    read_set(&high, &low, top, common, chosen);
-    true
-}
-
-// Whether two trees agree on the required labels, and how many labels the answer has, 0 where there is none.
-pub struct Size {
-    pub found: bool,
-    pub size: usize,
-}
-
-// The same without the set: its size is what the greatest weight counts.
-pub fn largest_size(
-    tree1: TreeArrays,
-    tree2: TreeArrays,
-    rank1: &[usize; NODE_LIMIT],
-    rank2: &[usize; NODE_LIMIT],
-    m: usize,
-    number: &[u8; RANKS],
-    count: usize,
-) -> Size
-    ensures { λ r. ⌜ ((s t : Tree) (K : List Label)
-        → Posed s t K tree1 tree2 (now (rank1 .entry)) (now (rank2 .entry)) m (now (number .entry)) count
-        → SizeTold s t K (r .found) (r .size)) ⌝ }
-    ensures { λ r. ⌜ (r .found ≡ false → r .size ≡ 0) ⌝ }
-{
-    let mut high = [0u32; AREA];
-    let mut low = [0u64; AREA];
-    let top = weigh(
-        tree1,
-        tree2,
-        rank1,
-        rank2,
-        trees::least(m, LEAF_LIMIT),
-        number,
-        &mut high,
-        &mut low,
-    );
-    if held(top) != count {
-        return Size {
+        return Largest {
             found: false,
             size: 0,
         };
     }
-    Size {
+    read_set(&high, &low, top, common, chosen);
+    Largest {
         found: true,
         size: labels(top),
     }

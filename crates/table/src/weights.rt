@@ -8,7 +8,7 @@ ghost use Prim.Native.Nat.{ℕ, _+_, _-_, _/_, _%_, _<_, _≤_};
 ghost use lib.Dec.{leb};
 ghost use lib.ListN.{getD};
 ghost use Rattle.agreement.specs.Powers.{whole};
-ghost use Rattle.agreement.specs.Weights.{forcedUnit};
+ghost use Rattle.agreement.specs.Weights.{requiredUnit};
 ghost use Rattle.table.specs.Table.{valueOf, valueAt, weightPlace};
 ghost use Rattle.table.specs.Weighing.{unitOf, WeightsPut, Powers, Bits};
 use crate::RANKS;
@@ -70,14 +70,14 @@ pub(crate) fn put_weights(
 
 // How many required labels a weight counts.
 pub(crate) fn held(top: Weight) -> usize
-    ensures { λ r. ⌜ r ≡ valueOf top / whole / forcedUnit ⌝ }
+    ensures { λ r. ⌜ r ≡ valueOf top / whole / requiredUnit ⌝ }
 {
     (top.high / 65536 / REQUIRED) as usize
 }
 
 // How many labels a weight counts, where all required ones are among them.
 pub(crate) fn labels(top: Weight) -> usize
-    ensures { λ r. ⌜ r ≡ valueOf top / whole / forcedUnit + valueOf top / whole % forcedUnit ⌝ }
+    ensures { λ r. ⌜ r ≡ valueOf top / whole / requiredUnit + valueOf top / whole % requiredUnit ⌝ }
 {
     let units = top.high / 65536;
     (units / REQUIRED + units % REQUIRED) as usize

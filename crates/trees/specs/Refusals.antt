@@ -1,6 +1,7 @@
 -- The numbers of the reasons and the letters of the bodies. 01, "Why a job is turned down"; "Each number that a request adds
 -- is a row of 01's table" (C-11).
 use Prim.Native.Nat.{ℕ}
+use mathlib.Core.List.{List}
 use Rattle.trees.specs.declared.Refusal.{Refusal}
 use Rattle.trees.specs.declared.Reason.{Reason}
 use Rattle.trees.specs.declared.Reason.the-variants.{BadByte, EndsTooSoon, LabelTooLong, TooMany, Repeated, FirstLacks, SecondLacks}
@@ -37,11 +38,16 @@ letterOf J = 74
 letterOf O = 79
 
 -- what an answer means in 01's terms: a value, or a row of the table. "A refusal carries its number, and within it the body letter and a
--- place"
+-- place"; those that name three labels (8 and 14) carry these by places, or by places and sizes
 pub data Said (A : Type 0) : Type 0 where
   value : A → Said A
   row : (number letter place : ℕ) → Said A
+  rowNaming : (number letter place : ℕ) → List ℕ → Said A
 
 unfoldable pub rowOf : {A : Type 0} → Refusal → Said A
 unfolding numberOf letterOf
 rowOf r = row (numberOf (r .reason)) (letterOf (r .body)) (r .place)
+
+unfoldable pub rowNamingOf : {A : Type 0} → Refusal → List ℕ → Said A
+unfolding numberOf letterOf
+rowNamingOf r places = rowNaming (numberOf (r .reason)) (letterOf (r .body)) (r .place) places

@@ -8,7 +8,7 @@ use native.Mathlib.Omega.{arith}
 use Rattle.trees.specs.declared.Reason.{Reason}
 use Rattle.trees.specs.declared.Reason.the-variants.{FirstLacks, SecondLacks}
 use Rattle.trees.specs.declared.Body.the-variants.{S, T, K}
-use Rattle.trees.specs.Refusals.{numberOf}
+use Rattle.trees.specs.Refusals.{numberOf, row, rowNaming}
 use Rattle.trees.specs.Label.{Label, distinct}
 use Rattle.trees.specs.Token.{Token, spelling}
 use Rattle.trees.specs.Tree.{Tree, leaves, decoded}
@@ -32,7 +32,7 @@ use Rattle.agreement.proofs.AnswerLaws.{agree-no-clash}
 use Rattle.agreement.proofs.DemandLaws.{set-answered, disagree-exactly, largest-exactly, firstLacks-exactly}
 use Rattle.agreement.proofs.DemandLaws.{secondLacks-exactly, allowed-held}
 use Rattle.triples.specs.declared.Agreement.the-variants.{Agreed, Disagree, Refused}
-use Rattle.triples.specs.Verdict.{verdictOf, verdictOnList, verdictOnSecond, verdictOn, verdict, verdictIn, AllRead, row, toldBy}
+use Rattle.triples.specs.Verdict.{verdictOf, verdictOnList, verdictOnSecond, verdictOn, verdict, verdictIn, AllRead, saidOf}
 use Rattle.triples.proofs.Readings.{agreed-on}
 
 -- "Order: .. S, T, K, then 6 or 7, then 8"; "A body that fails to read ends the job there."
@@ -51,19 +51,19 @@ module _ (first second list : List ℕ) (r : Reason) (i : ℕ) where
   unfolding verdict verdictOn verdictOnSecond verdictOnList
   list-turned-down s t e d f = rw (e, d, f) refl
 
-  first-row : readTree first ≡ refused r i → toldBy (verdict first second list) ≡ row (numberOf r) 83 i []
-  unfolding toldBy
-  first-row e = ap toldBy (first-turned-down e)
+  first-row : readTree first ≡ refused r i → saidOf (verdict first second list) ≡ row (numberOf r) 83 i
+  unfolding saidOf
+  first-row e = ap saidOf (first-turned-down e)
 
   second-row : (s : Tree) → readTree first ≡ good s → readTree second ≡ refused r i
-      → toldBy (verdict first second list) ≡ row (numberOf r) 84 i []
-  unfolding toldBy
-  second-row s e d = ap toldBy (second-turned-down s e d)
+      → saidOf (verdict first second list) ≡ row (numberOf r) 84 i
+  unfolding saidOf
+  second-row s e d = ap saidOf (second-turned-down s e d)
 
   list-row : (s t : Tree) → readTree first ≡ good s → readTree second ≡ good t → readList list ≡ refused r i
-      → toldBy (verdict first second list) ≡ row (numberOf r) 75 i []
-  unfolding toldBy
-  list-row s t e d f = ap toldBy (list-turned-down s t e d f)
+      → saidOf (verdict first second list) ≡ row (numberOf r) 75 i
+  unfolding saidOf
+  list-row s t e d f = ap saidOf (list-turned-down s t e d f)
 
 module _ (first second list : List ℕ) (s t : Tree) (xs : List Token) (read1 : readTree first ≡ good s)
     (read2 : readTree second ≡ good t) (read3 : readList list ≡ good xs) where
@@ -121,19 +121,19 @@ module _ (first second list : List ℕ) (s t : Tree) (xs : List Token) (read1 : 
           let p = largest-exactly S′ T′ labels d1 d3 X .0 e .allowedSet in
           (allowed-held S′ T′ labels X p, λ a b c i j k. p .agreed a b c (p .required a i) (p .required b j) (p .required c k))
 
-  six-row : (n : ℕ) → IsFirstLacks S′ T′ labels n → toldBy (verdict first second list) ≡ row 6 75 (placeOfNumber xs n) []
-  unfolding toldBy
-  six-row n p = ap toldBy (six-told n p)
+  six-row : (n : ℕ) → IsFirstLacks S′ T′ labels n → saidOf (verdict first second list) ≡ row 6 75 (placeOfNumber xs n)
+  unfolding saidOf
+  six-row n p = ap saidOf (six-told n p)
 
-  seven-row : (n : ℕ) → IsSecondLacks S′ T′ labels n → toldBy (verdict first second list) ≡ row 7 75 (placeOfNumber xs n) []
-  unfolding toldBy
-  seven-row n p = ap toldBy (seven-told n p)
+  seven-row : (n : ℕ) → IsSecondLacks S′ T′ labels n → saidOf (verdict first second list) ≡ row 7 75 (placeOfNumber xs n)
+  unfolding saidOf
+  seven-row n p = ap saidOf (seven-told n p)
 
   eight-row : (a b c : Label) → Common S′ T′ (setOf labels) → IsDisagreement S′ T′ labels a b c
-      → toldBy (verdict first second list)
-      ≡ row 8 75 0 (placeOfLabel xs 0 a ∷ placeOfLabel xs 0 b ∷ placeOfLabel xs 0 c ∷ [])
-  unfolding toldBy
-  eight-row a b c h p = ap toldBy (eight-told a b c h p)
+      → saidOf (verdict first second list)
+      ≡ rowNaming 8 75 0 (placeOfLabel xs 0 a ∷ placeOfLabel xs 0 b ∷ placeOfLabel xs 0 c ∷ [])
+  unfolding saidOf
+  eight-row a b c h p = ap saidOf (eight-told a b c h p)
 
 agreed-bodies : (first second list : List ℕ) → verdict first second list ≡ Agreed
     → AllRead (readTree first) (readTree second) (readList list)
@@ -144,17 +144,17 @@ agreed-bodies first second list e = agreed-on (readTree first) (readTree second)
 
 module _ (e : Edition) (first second list : List ℕ) where
   module _ (r : Reason) (i : ℕ) where
-    pub first-row-in : readTreeIn e first ≡ refused r i → toldBy (verdictIn e first second list) ≡ row (numberOf r) 83 i []
+    pub first-row-in : readTreeIn e first ≡ refused r i → saidOf (verdictIn e first second list) ≡ row (numberOf r) 83 i
     first-row-in h = first-row (inEdition e first) (inEdition e second) (inEdition e list) r i (folded-refused e first r i h)
 
     pub second-row-in : (s : Tree) → readTreeIn e first ≡ good s → readTreeIn e second ≡ refused r i
-        → toldBy (verdictIn e first second list) ≡ row (numberOf r) 84 i []
+        → saidOf (verdictIn e first second list) ≡ row (numberOf r) 84 i
     second-row-in s h k =
         second-row (inEdition e first) (inEdition e second) (inEdition e list) r i (folded e s) (folded-read e first s h)
         (folded-refused e second r i k)
 
     pub list-row-in : (s t : Tree) → readTreeIn e first ≡ good s → readTreeIn e second ≡ good t → readListIn e list ≡ refused r i
-        → toldBy (verdictIn e first second list) ≡ row (numberOf r) 75 i []
+        → saidOf (verdictIn e first second list) ≡ row (numberOf r) 75 i
     list-row-in s t h k l =
         list-row (inEdition e first) (inEdition e second) (inEdition e list) r i (folded e s) (folded e t) (folded-read e first s h)
         (folded-read e second t k) (list-folded-refused e list r i l)
@@ -162,23 +162,23 @@ module _ (e : Edition) (first second list : List ℕ) where
   module _ (s t : Tree) (xs : List Token) (read1 : readTreeIn e first ≡ good s) (read2 : readTreeIn e second ≡ good t)
       (read3 : readListIn e list ≡ good xs) where
     pub six-row-in : (n : ℕ) → IsFirstLacks (keyed e s) (keyed e t) (keysOf e xs) n
-        → toldBy (verdictIn e first second list) ≡ row 6 75 (placeOfNumber xs n) []
+        → saidOf (verdictIn e first second list) ≡ row 6 75 (placeOfNumber xs n)
     six-row-in n p =
         six-row (inEdition e first) (inEdition e second) (inEdition e list) (folded e s) (folded e t) (foldedList e xs)
         (folded-read e first s read1) (folded-read e second t read2) (list-folded-read e list xs read3) n p
-        ∙ ap (λ (k : ℕ). row 6 75 k []) (number-folded e xs n)
+        ∙ ap (λ (k : ℕ). row 6 75 k) (number-folded e xs n)
 
     pub seven-row-in : (n : ℕ) → IsSecondLacks (keyed e s) (keyed e t) (keysOf e xs) n
-        → toldBy (verdictIn e first second list) ≡ row 7 75 (placeOfNumber xs n) []
+        → saidOf (verdictIn e first second list) ≡ row 7 75 (placeOfNumber xs n)
     seven-row-in n p =
         seven-row (inEdition e first) (inEdition e second) (inEdition e list) (folded e s) (folded e t) (foldedList e xs)
         (folded-read e first s read1) (folded-read e second t read2) (list-folded-read e list xs read3) n p
-        ∙ ap (λ (k : ℕ). row 7 75 k []) (number-folded e xs n)
+        ∙ ap (λ (k : ℕ). row 7 75 k) (number-folded e xs n)
 
     pub eight-row-in : (a b c : Label) → Common (keyed e s) (keyed e t) (setOf (keysOf e xs))
         → IsDisagreement (keyed e s) (keyed e t) (keysOf e xs) a b c
-        → toldBy (verdictIn e first second list)
-        ≡ row 8 75 0 (placeOfLabel (foldedList e xs) 0 a ∷ placeOfLabel (foldedList e xs) 0 b ∷ placeOfLabel (foldedList e xs) 0 c ∷ [])
+        → saidOf (verdictIn e first second list)
+        ≡ rowNaming 8 75 0 (placeOfLabel (foldedList e xs) 0 a ∷ placeOfLabel (foldedList e xs) 0 b ∷ placeOfLabel (foldedList e xs) 0 c ∷ [])
     eight-row-in =
         eight-row (inEdition e first) (inEdition e second) (inEdition e list) (folded e s) (folded e t) (foldedList e xs)
         (folded-read e first s read1) (folded-read e second t read2) (list-folded-read e list xs read3)

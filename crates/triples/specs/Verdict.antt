@@ -2,9 +2,9 @@
 use Prim.Native.Nat.{ℕ}
 use mathlib.Core.Path.{_≡_}
 use mathlib.Core.List.{List, [], _∷_, map}
-use Rattle.trees.specs.declared.Reason.the-variants.{FirstLacks, SecondLacks}
+use Rattle.trees.specs.declared.Reason.the-variants.{FirstLacks, SecondLacks, Disagree as DisagreeReason}
 use Rattle.trees.specs.declared.Body.the-variants.{S, T, K}
-use Rattle.trees.specs.Refusals.{numberOf, letterOf}
+use Rattle.trees.specs.Refusals.{Said, value, rowOf, rowNamingOf}
 use Rattle.trees.specs.Token.{Token, spelling}
 use Rattle.trees.specs.Tree.{Tree, decoded}
 use Rattle.trees.specs.declared.Edition.{Edition}
@@ -58,14 +58,9 @@ pub record AllRead (one two : Reading Tree) (three : Reading (List Token)) : Typ
   pub read2 : two ≡ good second
   pub read3 : three ≡ good labels
 
--- An answer in 01's terms: that the trees agree, or a row of "Why a job is turned down" with its number, the letter's byte, the place and,
--- for number 8, the places of its three labels in K.
-pub data Told : Type 0 where
-  agrees : Told
-  row : ℕ → ℕ → ℕ → List ℕ → Told
-
-unfoldable pub toldBy : Agreement → Told
-unfolding numberOf letterOf
-toldBy Agreed = agrees
-toldBy (Disagree a b c) = row 8 75 0 (a ∷ b ∷ c ∷ [])
-toldBy (Refused r) = row (numberOf (r .reason)) (letterOf (r .body)) (r .place) []
+-- An answer in 01's terms: that the trees agree, or a row of "Why a job is turned down"; 8 has the places of its three labels in K.
+unfoldable pub saidOf : Agreement → Said (Prim.Unit {0})
+unfolding rowOf rowNamingOf
+saidOf Agreed = value (Prim.tt {0})
+saidOf (Disagree a b c) = rowNamingOf (record { reason = DisagreeReason; body = K; place = 0 }) (a ∷ b ∷ c ∷ [])
+saidOf (Refused r) = rowOf r

@@ -27,7 +27,8 @@ use Rattle.trees.proofs.EditionLaws.{valid-spelled, one-text-in, one-normal, no
 use Rattle.trees.proofs.TokenLaws.{valid-decoded}
 use Rattle.trees.proofs.NormalLaws.{one-normal-text}
 use Rattle.writer.specs.declared.WriteAnswer.the-variants.{Written, Refused, NoTree}
-use Rattle.writer.specs.Write.{standingText, outputTooShort, textAnswer, writeAnswer, outputAfter, Lack, bytes, row, noRow, toldBy}
+use Rattle.trees.specs.Refusals.{value, row}
+use Rattle.writer.specs.Write.{standingText, outputTooShort, textAnswer, writeAnswer, outputAfter, Lack, saidOf}
 use Rattle.writer.specs.Write.{EditionTexts}
 use Rattle.writer.proofs.AgainLaws.{normal-text-twice}
 use Rattle.writer.proofs.WriteLaws.{Done, done-as, done-none, done-empty, done-short, done-fits}
@@ -68,13 +69,13 @@ module _ (e : Edition) (a : TreeArrays) (text : List ℕ) (t : Tree) (stands : t
 
 -- the same in 01's terms
 module _ (e : Edition) (a : TreeArrays) (text : List ℕ) (t : Tree) (stands : treeOf a text ≡ oneTree t) (out : List ℕ) where
-  pub bytes-told : length (normalTextIn e t) ≤ length out → toldBy (writeAnswer e (treeOf a text) (length out)) ≡ bytes (length (normalTextIn e t))
-  unfolding toldBy
-  bytes-told h = ap toldBy (written-count e a text t stands out h)
+  pub bytes-told : length (normalTextIn e t) ≤ length out → saidOf (writeAnswer e (treeOf a text) (length out)) ≡ value (some (length (normalTextIn e t)))
+  unfolding saidOf
+  bytes-told h = ap saidOf (written-count e a text t stands out h)
 
-  pub nine-told : length out < length (normalTextIn e t) → toldBy (writeAnswer e (treeOf a text) (length out)) ≡ row 9 79 0
-  unfolding toldBy outputTooShort
-  nine-told h = ap toldBy (too-short e a text t stands out h)
+  pub nine-told : length out < length (normalTextIn e t) → saidOf (writeAnswer e (treeOf a text) (length out)) ≡ row 9 79 0
+  unfolding saidOf outputTooShort
+  nine-told h = ap saidOf (too-short e a text t stands out h)
 
 real-lack : (o : Option (List ℕ)) (n : ℕ) (r : Refusal) → textAnswer o n ≡ Refused r → Lack o n r
 unfolding textAnswer
@@ -104,13 +105,13 @@ module _ (e : Edition) (out : List ℕ) where
   unfolding standingText
   none-done = done-as e noTree none out NoTree out refl (done-none out)
 
-  pub empty-told : (toldBy (writeAnswer e noLeaf (length out)) ≡ bytes 0) × (outputAfter e noLeaf out ≡ out)
-  unfolding toldBy
-  empty-told = (ap toldBy (sym (empty-done .0)), sym (empty-done .1))
+  pub empty-told : (saidOf (writeAnswer e noLeaf (length out)) ≡ value (some 0)) × (outputAfter e noLeaf out ≡ out)
+  unfolding saidOf
+  empty-told = (ap saidOf (sym (empty-done .0)), sym (empty-done .1))
 
-  pub none-told : (toldBy (writeAnswer e noTree (length out)) ≡ noRow) × (outputAfter e noTree out ≡ out)
-  unfolding toldBy
-  none-told = (ap toldBy (sym (none-done .0)), sym (none-done .1))
+  pub none-told : (saidOf (writeAnswer e noTree (length out)) ≡ value none) × (outputAfter e noTree out ≡ out)
+  unfolding saidOf
+  none-told = (ap saidOf (sym (none-done .0)), sym (none-done .1))
 
 -- ---- texts of trees
 

@@ -3,34 +3,34 @@
 use Prim.Native.Nat.{ℕ, _≤_, _<_}
 use mathlib.Core.Path.{_≡_, refl}
 use mathlib.Core.List.{List}
-use mathlib.Core.Option.{some, Option·map}
+use mathlib.Core.Option.{some, none, Option·map}
 use lib.ListN.{length, take, drop}
 use Rattle.trees.specs.declared.Edition.{Edition}
 use Rattle.trees.specs.declared.Edition.the-variants.{One}
 use Rattle.trees.specs.declared.Refusal.{Refusal}
 use Rattle.trees.specs.declared.TreeArrays.{TreeArrays}
-use Rattle.trees.specs.Refusals.{numberOf, letterOf}
+use Rattle.trees.specs.Refusals.{numberOf, letterOf, value, row}
 use Rattle.trees.specs.Tree.{Tree, relabel, decoded, Same, Valid}
 use Rattle.trees.specs.Text.{textOf, normalText}
 use Rattle.trees.specs.Edition.{inEdition, keyed, ValidIn, normalIn, rewritten, normalTextIn}
 use Rattle.trees.specs.Arrays.{Standing, noLeaf, oneTree, noTree, treeOf, arraysOf}
 use Rattle.writer.specs.declared.WriteAnswer.the-variants.{Written, Refused, NoTree}
-use Rattle.writer.specs.Write.{standingText, writeAnswer, outputAfter, Lack, bytes, row, noRow, toldBy, EditionTexts}
+use Rattle.writer.specs.Write.{standingText, writeAnswer, outputAfter, Lack, saidOf, EditionTexts}
 use Rattle.writer.proofs.AnswerLaws.{bytes-told, nine-told, written-text, written-rest, short-kept, lacking-text}
 use Rattle.writer.proofs.AnswerLaws.{empty-told, none-told, tree-text, text-again, text-alike, edition-texts, one-standing, one-text}
 
 -- Each answer is a number of bytes, a row of 01's table, or no row of it.
 pub answers-told : (n : ℕ) (r : Refusal)
-    → (toldBy (Written n) ≡ bytes n) × (toldBy (Refused r) ≡ row (numberOf (r .reason)) (letterOf (r .body)) (r .place))
-    × (toldBy NoTree ≡ noRow)
-unfolding toldBy
+    → (saidOf (Written n) ≡ value (some n)) × (saidOf (Refused r) ≡ row (numberOf (r .reason)) (letterOf (r .body)) (r .place))
+    × (saidOf NoTree ≡ value none)
+unfolding saidOf
 answers-told n r = (refl, refl, refl)
 
 -- If arrays represent tree t over the text, its normal text under the edition is written.
 module _ (e : Edition) (a : TreeArrays) (text : List ℕ) (t : Tree) (stands : treeOf a text ≡ oneTree t) (out : List ℕ) where
   -- "On success the output holds the normal text and its further bytes are unchanged"
   pub count-when-it-fits : length (normalTextIn e t) ≤ length out
-      → toldBy (writeAnswer e (treeOf a text) (length out)) ≡ bytes (length (normalTextIn e t))
+      → saidOf (writeAnswer e (treeOf a text) (length out)) ≡ value (some (length (normalTextIn e t)))
   count-when-it-fits = bytes-told e a text t stands out
 
   pub text-when-it-fits : length (normalTextIn e t) ≤ length out
@@ -42,7 +42,7 @@ module _ (e : Edition) (a : TreeArrays) (text : List ℕ) (t : Tree) (stands : t
   rest-when-it-fits = written-rest e a text t stands out
 
   -- "On refusal no set and no count is returned, and an output keeps every byte": number 9, O 0.
-  pub nine-when-too-short : length out < length (normalTextIn e t) → toldBy (writeAnswer e (treeOf a text) (length out)) ≡ row 9 79 0
+  pub nine-when-too-short : length out < length (normalTextIn e t) → saidOf (writeAnswer e (treeOf a text) (length out)) ≡ row 9 79 0
   nine-when-too-short = nine-told e a text t stands out
 
   pub output-kept-when-too-short : length out < length (normalTextIn e t) → outputAfter e (treeOf a text) out ≡ out
@@ -53,11 +53,11 @@ pub only-a-real-lack : (e : Edition) (s : Standing) (n : ℕ) (r : Refusal) → 
 only-a-real-lack = lacking-text
 
 -- "The empty set of leaves has a text of no bytes"
-pub empty-text : (e : Edition) (out : List ℕ) → (toldBy (writeAnswer e noLeaf (length out)) ≡ bytes 0) × (outputAfter e noLeaf out ≡ out)
+pub empty-text : (e : Edition) (out : List ℕ) → (saidOf (writeAnswer e noLeaf (length out)) ≡ value (some 0)) × (outputAfter e noLeaf out ≡ out)
 empty-text = empty-told
 
 -- For arrays that represent no tree, nothing is written.
-pub no-tree : (e : Edition) (out : List ℕ) → (toldBy (writeAnswer e noTree (length out)) ≡ noRow) × (outputAfter e noTree out ≡ out)
+pub no-tree : (e : Edition) (out : List ℕ) → (saidOf (writeAnswer e noTree (length out)) ≡ value none) × (outputAfter e noTree out ≡ out)
 no-tree = none-told
 
 -- The arrays of a valid tree over its text are written as its normal text.

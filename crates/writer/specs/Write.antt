@@ -11,7 +11,7 @@ use Rattle.trees.specs.declared.Edition.the-variants.{One, Two}
 use Rattle.trees.specs.declared.Refusal.{Refusal}
 use Rattle.trees.specs.declared.Reason.the-variants.{TooShort}
 use Rattle.trees.specs.declared.Body.the-variants.{O}
-use Rattle.trees.specs.Refusals.{numberOf, letterOf}
+use Rattle.trees.specs.Refusals.{Said, value, rowOf}
 use Rattle.trees.specs.Tree.{leaf, node}
 use Rattle.trees.specs.Edition.{normalTextIn}
 use Rattle.trees.specs.Arrays.{Standing, noLeaf, oneTree, noTree}
@@ -52,18 +52,13 @@ unfoldable pub outputAfter : Edition → Standing → List ℕ → List ℕ
 unfolding standingText textOutput
 outputAfter e s out = textOutput (standingText e s) out
 
--- An answer in 01's terms: so many bytes, or a row of "Why a job is turned down" with its number, the letter's byte and the place. Arrays
--- that represent no tree have no row there, since 01 speaks of texts alone.
-pub data Told : Type 0 where
-  bytes : ℕ → Told
-  row : ℕ → ℕ → ℕ → Told
-  noRow : Told
-
-unfoldable pub toldBy : WriteAnswer → Told
-unfolding numberOf letterOf
-toldBy (Written n) = bytes n
-toldBy (Refused r) = row (numberOf (r .reason)) (letterOf (r .body)) (r .place)
-toldBy NoTree = noRow
+-- An answer in 01's terms: so many bytes, or a row of "Why a job is turned down". Arrays that represent no tree have no row there, since
+-- 01 speaks of texts alone.
+unfoldable pub saidOf : WriteAnswer → Said (Option ℕ)
+unfolding rowOf
+saidOf (Written n) = value (some n)
+saidOf (Refused r) = rowOf r
+saidOf NoTree = value none
 
 -- "9 stands only for a real lack": a text belongs in the output, and is longer than it
 pub record Lack (o : Option (List ℕ)) (n : ℕ) (r : Refusal) : Type 0 where

@@ -3,7 +3,7 @@ use mathlib.Core.Path.{_∙_, sym, ap}
 use borrow.Author.Tests.{not-true, not-false, leb-true, leb-false}
 use Rattle.cabi.specs.Numbers.{claimNumbers, refusedWith}
 use Rattle.cabi.proofs.HostLaws.{claim-flags-refused, claim-flags-known}
-use Rattle.cabi.proofs.NumberLaws.{passed-numbers, eight-numbers, fourteen-numbers, declined-numbers}
+use Rattle.cabi.proofs.NumberLaws.{said-numbers}
 use borrow.Author.Needs.{needs}
 use Rattle.cabi.proofs.agree_claim.Statement.{statement}
 use Rattle.cabi.proofs.agree_claim.Tie as tie
@@ -13,7 +13,7 @@ unfolding claimNumbers
 returns c =
     let a = c .before .before .before .before .before .before .before .before .args in
     let l = leb-false (a .flags) 3 (sym (c .before .before .before .is-known .ensures) ∙ not-true _ (c .before .before .if1 .taken)) in
-    let e = claim-flags-refused (a .first .now) (a .second .now) (a .required .now) (a .claim .now) (a .flags) l in
+    let e = claim-flags-refused (a .flags) (a .first .now) (a .second .now) (a .required .now) (a .claim .now) l in
     c .refused-with .ensures ∙ ap refusedWith (c .before .unknown-flags .ensures) ∙ ap claimNumbers (sym e)
 
 options-of-requires : tie.Need-options-of-requires
@@ -23,26 +23,20 @@ options-of-requires c κs =
 returns-2 : tie.Need-returns-2
 returns-2 c =
     let a = c .before .before .before .before .before .before .before .before .before .before .before .before .args in
-    let e = claim-flags-known (a .first .now) (a .second .now) (a .required .now) (a .claim .now) (a .flags) _ (c .before .before .before .before .before .options-of .ensures) in
-    c .succeeded .ensures ∙ passed-numbers _ _ (ap (λ r. r .answer) (sym (c .before .before .before .before .judge .ensures)) ∙ c .before .before .answer .given .1) ∙ ap claimNumbers (sym e)
+    let e = claim-flags-known (a .flags) (a .first .now) (a .second .now) (a .required .now) (a .claim .now) _ (c .before .before .before .before .before .options-of .ensures) in
+    c .succeeded .ensures ∙ said-numbers _ _ (sym (c .before .before .answer .given .1) ∙ c .before .before .before .before .judge .ensures) ∙ ap claimNumbers (sym e)
 
 returns-3 : tie.Need-returns-3
 returns-3 c =
     let a = c .before .before .before .before .before .before .before .before .before .before .before .before .args in
-    let e = claim-flags-known (a .first .now) (a .second .now) (a .required .now) (a .claim .now) (a .flags) _ (c .before .before .before .before .before .options-of .ensures) in
-    c .disagreed .ensures ∙ eight-numbers _ _ _ _ (ap (λ r. r .answer) (sym (c .before .before .before .before .judge .ensures)) ∙ c .before .before .answer2 .given .1) ∙ ap claimNumbers (sym e)
+    let e = claim-flags-known (a .flags) (a .first .now) (a .second .now) (a .required .now) (a .claim .now) _ (c .before .before .before .before .before .options-of .ensures) in
+    c .named-with .ensures ∙ said-numbers _ _ (sym (c .before .before .answer2 .given .1) ∙ c .before .before .before .before .judge .ensures) ∙ ap claimNumbers (sym e)
 
 returns-4 : tie.Need-returns-4
 returns-4 c =
     let a = c .before .before .before .before .before .before .before .before .before .before .before .before .args in
-    let e = claim-flags-known (a .first .now) (a .second .now) (a .required .now) (a .claim .now) (a .flags) _ (c .before .before .before .before .before .options-of .ensures) in
-    c .disagreed2 .ensures ∙ fourteen-numbers _ _ _ _ (ap (λ r. r .answer) (sym (c .before .before .before .before .judge .ensures)) ∙ c .before .before .answer3 .given .1) ∙ ap claimNumbers (sym e)
-
-returns-5 : tie.Need-returns-5
-returns-5 c =
-    let a = c .before .before .before .before .before .before .before .before .before .before .before .before .args in
-    let e = claim-flags-known (a .first .now) (a .second .now) (a .required .now) (a .claim .now) (a .flags) _ (c .before .before .before .before .before .options-of .ensures) in
-    c .refused-with2 .ensures ∙ declined-numbers _ _ (ap (λ r. r .answer) (sym (c .before .before .before .before .judge .ensures)) ∙ c .before .before .answer4 .given .1) ∙ ap claimNumbers (sym e)
+    let e = claim-flags-known (a .flags) (a .first .now) (a .second .now) (a .required .now) (a .claim .now) _ (c .before .before .before .before .before .options-of .ensures) in
+    c .refused-with2 .ensures ∙ said-numbers _ _ (sym (c .before .before .answer3 .given .1) ∙ c .before .before .before .before .judge .ensures) ∙ ap claimNumbers (sym e)
 
 pub agree-claim-spec : {M : Type 1} → statement M
 agree-claim-spec =
@@ -60,9 +54,6 @@ agree-claim-spec =
     (λ c κs. search needs)
     (λ c. search needs)
     (λ c κs. search needs)
-    (λ c. search needs)
-    (λ c κs. search needs)
     returns-2
     returns-3
-    returns-4
-    returns-5)
+    returns-4)

@@ -15,19 +15,13 @@ returns-2 : tie.Need-returns-2
 unfolding jobNumbers
 returns-2 c =
     let e = c .before .before .before .before .before .before .answer-job .ensures in
-    (c .named-in .ensures ∙ ap jobNumbers (sym (c .before .before .answer2 .given .1) ∙ e .0), e .1)
+    (c .named-with .ensures ∙ ap jobNumbers (sym (c .before .before .answer2 .given .1) ∙ e .0), e .1)
 
 returns-3 : tie.Need-returns-3
 unfolding jobNumbers
 returns-3 c =
     let e = c .before .before .before .before .before .before .answer-job .ensures in
-    (c .named-in2 .ensures ∙ ap jobNumbers (sym (c .before .before .answer3 .given .1) ∙ e .0), e .1)
-
-returns-4 : tie.Need-returns-4
-unfolding jobNumbers
-returns-4 c =
-    let e = c .before .before .before .before .before .before .answer-job .ensures in
-    (c .refused-with .ensures ∙ ap jobNumbers (sym (c .before .before .answer4 .given .1) ∙ e .0), e .1)
+    (c .refused-with .ensures ∙ ap jobNumbers (sym (c .before .before .answer3 .given .1) ∙ e .0), e .1)
 
 pub agree-job-spec : {M : Type 1} → statement M
 agree-job-spec =
@@ -41,12 +35,8 @@ agree-job-spec =
     (λ c. search needs)
     (λ c κs. search needs)
     (λ c. search needs)
-    (λ c κs. search needs)
-    (λ c. search needs)
     returns
     (λ c. search needs)
     returns-2
     (λ c. search needs)
-    returns-3
-    (λ c. search needs)
-    returns-4)
+    returns-3)

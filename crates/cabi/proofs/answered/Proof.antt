@@ -1,5 +1,5 @@
 -- `cabi::answered` meets its contract: each answer of the engine has its numbers. Assumes nothing.
-use Rattle.cabi.proofs.NumberLaws.{found-numbers, clash-numbers, turned-numbers}
+use Rattle.cabi.proofs.NumberLaws.{largest-numbers}
 use mathlib.Core.Path.{sym, _∙_, ap}
 use borrow.Author.Needs.{needs}
 use Rattle.cabi.proofs.answered.Statement.{statement}
@@ -8,17 +8,17 @@ use Rattle.cabi.proofs.answered.Tie as tie
 returns : tie.Need-returns
 returns c =
     let e = c .before .before .before .before .before .before .largest .ensures in
-    (c .succeeded .ensures ∙ found-numbers _ _ _ (ap (λ r. r .answer) (sym (e .0)) ∙ c .before .before .answer .given .1), e .1)
+    (c .succeeded .ensures ∙ largest-numbers _ _ (sym (c .before .before .answer .given .1) ∙ ap (λ r. r .answer) (e .0)), e .1)
 
 returns-2 : tie.Need-returns-2
 returns-2 c =
     let e = c .before .before .before .before .before .before .largest .ensures in
-    (c .disagreed .ensures ∙ clash-numbers _ _ _ _ (ap (λ r. r .answer) (sym (e .0)) ∙ c .before .before .answer2 .given .1), e .1)
+    (c .named-with .ensures ∙ largest-numbers _ _ (sym (c .before .before .answer2 .given .1) ∙ ap (λ r. r .answer) (e .0)), e .1)
 
 returns-3 : tie.Need-returns-3
 returns-3 c =
     let e = c .before .before .before .before .before .before .largest .ensures in
-    (c .refused-with .ensures ∙ turned-numbers _ _ (ap (λ r. r .answer) (sym (e .0)) ∙ c .before .before .answer3 .given .1), e .1)
+    (c .refused-with .ensures ∙ largest-numbers _ _ (sym (c .before .before .answer3 .given .1) ∙ ap (λ r. r .answer) (e .0)), e .1)
 
 pub answered-spec : {M : Type 1} → statement M
 answered-spec =

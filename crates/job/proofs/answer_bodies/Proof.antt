@@ -1,10 +1,9 @@
 -- `job::answer_bodies` meets its contract: the engine's answer is that of the job. Assumes nothing.
-use Rattle.job.proofs.AnswerLaws.{blank, blank-room, found-set, found-eight, found-refusal, found-named, found-near}
-use Rattle.job.proofs.AnswerLaws.{answered-solved, output-solved, answered-clashed, output-clashed, answered-turned, output-turned}
+use Rattle.job.proofs.AnswerLaws.{blank, blank-room, told-as, list-base, names-near, names-answered}
+use Rattle.job.proofs.AnswerLaws.{answered-found, output-found, output-naming, answered-refused, output-refused}
 use Rattle.job.specs.Answered.{lineOutput, recordAnswer}
-use Rattle.job.specs.Printed.{recordLines, jobLimit}
-use Rattle.job.specs.declared.JobAnswer.the-variants as job-answer
-use mathlib.Core.Path.{_∙_, ap, ap₂}
+use Rattle.job.specs.Printed.{jobLimit, solved}
+use mathlib.Core.Path.{_∙_, ap}
 use mathlib.Core.List.{List}
 use lib.ListN.{length, length-take}
 use native.Mathlib.Omega.{arith}
@@ -16,52 +15,48 @@ use Rattle.job.proofs.answer_bodies.Tie as tie
 array-share-prefix-tree : tie.Need-array-share-prefix-tree
 array-share-prefix-tree c =
     let l = c .before .before .before .before .before .largest in
-    found-set _ blank _ _ blank-room (l .ensures .0) (l .ensures .1) _ _ (c .before .answer .given .1) .inside
+    told-as _ blank _ _ blank-room (l .ensures .0) (l .ensures .1) _ (c .before .answer .given .1) .inside
 
 slice-aggregate-answer-set : tie.Need-slice-aggregate-answer-set
 slice-aggregate-answer-set c =
     let l = c .before .before .before .before .before .before .largest in
-    let f = found-set _ blank _ _ blank-room (l .ensures .0) (l .ensures .1) _ _ (c .before .before .answer .given .1) in
+    let f = told-as _ blank _ _ blank-room (l .ensures .0) (l .ensures .1) _ (c .before .before .answer .given .1) in
     omega (arith, f .inside, length-take (c .before .before .answer .given .0 .1 .0) (l .last .1 .1 .1 .1 .0))
 
 answer-set-requires : tie.Need-answer-set-requires
 answer-set-requires c κs =
     let l = c .before .before .before .before .before .before .before .largest in
-    let f = found-set _ blank _ _ blank-room (l .ensures .0) (l .ensures .1) _ _ (c .before .before .before .answer .given .1) in
-    (f .few, omega (arith, f .short, ap (length {A = ℕ}) (f .front)))
+    let f = told-as _ blank _ _ blank-room (l .ensures .0) (l .ensures .1) _ (c .before .before .before .answer .given .1) in
+    (f .few, f .short)
 
-named-labels-requires : tie.Need-named-labels-requires
-named-labels-requires c κs =
-    let l = c .before .before .before .before .before .before .before .before .before .largest in
-    let f = found-eight _ blank _ _ blank-room (l .ensures .0) (l .ensures .1) _ _ _ (c .before .before .before .before .before .answer2 .given .1) in
-    let start = c .before .before .before .before .before .before .before .before .before .before .before .before .before .before .before in
-    found-near f (start .args .at .tree) (start .args .at .list) jobLimit (start .pre .0) (start .pre .1)
+named-in-requires : tie.Need-named-in-requires
+named-in-requires c κs =
+    let l = c .before .before .before .before .before .before .largest in
+    let f = told-as _ blank _ _ blank-room (l .ensures .0) (l .ensures .1) _ (c .before .before .answer2 .given .1) in
+    let start = c .before .before .before .before .before .before .before .before .before .before .before .before in
+    names-near (f .1) jobLimit (start .args .at .tree) _
+    (omega (arith, c .base-of .ensures ∙ list-base (start .args .at) _ (f .0), start .pre .0)) (start .pre .1)
 
 returns : tie.Need-returns
 returns c =
     let l = c .before .before .before .before .before .before .before .before .before .before .largest in
-    let f = found-set _ blank _ _ blank-room (l .ensures .0) (l .ensures .1) _ _ (c .before .before .before .before .before .before .answer .given .1) in
-    let p = ap₂ recordLines (f .labels) (f .front) in
+    let f = told-as _ blank _ _ blank-room (l .ensures .0) (l .ensures .1) _ (c .before .before .before .before .before .before .answer .given .1) in
     let out = c .before .before .before .before .before .before .before .before .before .before .before .before .before .before .before .before .args .out .now in (
-      c .before .before .answer-set .ensures .0 ∙ ap (λ (t : List ℕ). recordAnswer t (length out)) p ∙ answered-solved _ _ _ (f .e) (f .s) (f .X) (f .text) (f .solution),
-      c .before .before .answer-set .ensures .1 ∙ ap (λ (t : List ℕ). lineOutput t out) p ∙ output-solved _ out (f .e) (f .s) (f .X) (f .text) (f .solution),
+      c .before .before .answer-set .ensures .0 ∙ ap (λ (t : List ℕ). recordAnswer t (length out)) (f .lines) ∙ answered-found _ _ _ (solved (f .of)) (f .is),
+      c .before .before .answer-set .ensures .1 ∙ ap (λ (t : List ℕ). lineOutput t out) (f .lines) ∙ output-found _ out (solved (f .of)) (f .is),
     )
 
 returns-2 : tie.Need-returns-2
 returns-2 c =
-    let l = c .before .before .before .before .before .before .before .before .before .before .largest in
-    let f = found-eight _ blank _ _ blank-room (l .ensures .0) (l .ensures .1) _ _ _ (c .before .before .before .before .before .before .answer2 .given .1) in
-    let at = c .before .before .before .before .before .before .before .before .before .before .before .before .before .before .before .before .args .at in (
-      ap job-answer.Disagree (c .named-labels .ensures ∙ found-named f (at .tree) (at .list))
-          ∙ answered-clashed at _ _ (f .e) (f .s) (f .xs) (f .a) (f .b) (f .c) (f .solution),
-      output-clashed _ _ (f .e) (f .s) (f .xs) (f .a) (f .b) (f .c) (f .solution),
-    )
+    let l = c .before .before .before .before .before .before .before .largest in
+    let f = told-as _ blank _ _ blank-room (l .ensures .0) (l .ensures .1) _ (c .before .before .before .answer2 .given .1) in
+    (names-answered (f .1) (c .before .before .before .before .before .before .before .before .before .before .before .before .before .args .at) _ _ _ (c .named-in .ensures) (c .before .base-of .ensures), output-naming _ _ _ _ (f .1 .is))
 
 returns-3 : tie.Need-returns-3
 returns-3 c =
     let l = c .before .before .before .before .before .largest in
-    let f = found-refusal _ blank _ _ blank-room (l .ensures .0) (l .ensures .1) _ (c .before .answer3 .given .1) in
-    (answered-turned _ _ _ _ f, output-turned _ _ _ f)
+    let f = told-as _ blank _ _ blank-room (l .ensures .0) (l .ensures .1) _ (c .before .answer3 .given .1) in
+    (answered-refused _ _ _ _ f, output-refused _ _ _ f)
 
 pub answer-bodies-spec : {M : Type 1} → statement M
 answer-bodies-spec =
@@ -74,7 +69,8 @@ answer-bodies-spec =
     slice-aggregate-answer-set
     answer-set-requires
     (λ c. search needs)
-    named-labels-requires
+    (λ c κs. search needs)
+    named-in-requires
     (λ c. search needs)
     (λ c. search needs)
     returns

@@ -1,9 +1,6 @@
 -- `job::answer_laid` meets its contract: the parts of the job that its contents name, with the claim or without. Assumes nothing.
-use Rattle.job.proofs.AnswerLaws.{first-ends, list-ends, claim-ends, begin-is, bodies-base, job-solved, job-judged}
-use Rattle.job.specs.declared.Begin.{Begin}
-use Rattle.job.specs.Answered.{answered, answerTo, jobOutput}
-use Rattle.job.specs.Printed.{JobSolution}
-use mathlib.Core.Path.{_∙_, ap, ap₂}
+use Rattle.job.proofs.AnswerLaws.{first-ends, list-ends, claim-ends, begin-is, bodies-base, job-solved, job-judged, answer-is, output-is}
+use mathlib.Core.Path.{_∙_, ap}
 use native.Mathlib.Omega.{arith}
 use Prim.Native.Nat.{ℕ}
 use lib.ListN.{length}
@@ -37,7 +34,6 @@ answer-claim-requires c κs =
     )
 
 returns : tie.Need-returns
-unfolding answerTo
 returns c =
     let found = c .before .before .answer-bodies .ensures in
     let third = c .before .before .before .before .before .before in
@@ -49,12 +45,11 @@ returns c =
     (third .before .bytes-of2 .ensures) (third .bytes-of3 .ensures) (c .before .before .before .before .enum-told .given .1) in
     let at = begin-is (place .before .before .place-of .ensures) (place .before .place-of2 .ensures) (place .place-of3 .ensures)
     ∙ bodies-base (a .job .now) (a .table) (start .pre .1) in (
-      found .0 ∙ ap₂ (λ (b : Begin) (x : JobSolution). answered b (length (a .out .now)) x) at e,
-      found .1 ∙ ap (λ (x : JobSolution). jobOutput x (a .out .now)) e,
+      found .0 ∙ answer-is (a .job .now) (length (a .out .now)) at e,
+      found .1 ∙ output-is (a .job .now) (a .out .now) e,
     )
 
 returns-2 : tie.Need-returns-2
-unfolding answerTo
 returns-2 c =
     let found = c .before .before .answer-claim .ensures in
     let told = c .before .before .before .before .before in
@@ -67,8 +62,8 @@ returns-2 c =
     (third .before .bytes-of2 .ensures) (third .bytes-of3 .ensures) _ _ (told .enum-told2 .given .1) _ (c .before .before .before .before .bytes-of4 .ensures) in
     let at = begin-is (place .before .before .place-of .ensures) (place .before .place-of2 .ensures) (place .place-of3 .ensures)
     ∙ bodies-base (a .job .now) (a .table) (start .pre .1) in (
-      found .0 ∙ ap₂ (λ (b : Begin) (x : JobSolution). answered b (length (a .out .now)) x) at e,
-      found .1 ∙ ap (λ (x : JobSolution). jobOutput x (a .out .now)) e,
+      found .0 ∙ answer-is (a .job .now) (length (a .out .now)) at e,
+      found .1 ∙ output-is (a .job .now) (a .out .now) e,
     )
 
 pub answer-laid-spec : {M : Type 1} → statement M

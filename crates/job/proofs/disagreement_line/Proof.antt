@@ -4,12 +4,6 @@ use borrow.Author.Needs.{needs}
 use Rattle.job.proofs.disagreement_line.Statement.{statement}
 use Rattle.job.proofs.disagreement_line.Tie as tie
 
-slice-aggregate-put-disagreement : tie.Need-slice-aggregate-put-disagreement
-slice-aggregate-put-disagreement c = search needs
-
-put-disagreement-requires : tie.Need-put-disagreement-requires
-put-disagreement-requires c κs = search needs
-
 array-share-prefix-line : tie.Need-array-share-prefix-line
 array-share-prefix-line c =
     front-inside (c .before .put-disagreement .ensures)
@@ -17,12 +11,6 @@ array-share-prefix-line c =
 slice-aggregate-hand-over : tie.Need-slice-aggregate-hand-over
 slice-aggregate-hand-over c =
     front-length (c .before .before .put-disagreement .ensures)
-
-hand-over-requires : tie.Need-hand-over-requires
-hand-over-requires c κs = search needs
-
-same-length : tie.Need-same-length
-same-length c = search needs
 
 returns : tie.Need-returns
 returns c =
@@ -33,10 +21,10 @@ pub disagreement-line-spec : {M : Type 1} → statement M
 disagreement-line-spec =
     tie.close
     (tie.spec
-    slice-aggregate-put-disagreement
-    put-disagreement-requires
+    (λ c. search needs)
+    (λ c κs. search needs)
     array-share-prefix-line
     slice-aggregate-hand-over
-    hand-over-requires
-    same-length
+    (λ c κs. search needs)
+    (λ c. search needs)
     returns)

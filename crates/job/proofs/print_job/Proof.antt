@@ -3,52 +3,19 @@ use mathlib.Core.Path.{_∙_, sym, ap, ap₂}
 use lib.ListN.{length}
 use borrow.Author.Needs.{needs}
 use Rattle.job.specs.Answered.{lineAnswer, lineOutput}
-use Rattle.job.proofs.ClashLaws.{clash-line, apart-line}
+use Rattle.job.proofs.ClashLaws.{naming-line}
 use Rattle.job.proofs.PrintLaws.{printed-lines, output-named, printed-nine, printed-refusal}
 use Rattle.job.proofs.print_job.Statement.{statement}
 use Rattle.job.proofs.print_job.Tie as tie
-
-answer-job-requires : tie.Need-answer-job-requires
-answer-job-requires c κs = search needs
-
-enum-known-answer : tie.Need-enum-known-answer
-enum-known-answer c = search needs
-
-enum-known-answer-2 : tie.Need-enum-known-answer-2
-enum-known-answer-2 c = search needs
-
-disagreement-line-requires : tie.Need-disagreement-line-requires
-disagreement-line-requires c κs = search needs
-
-disagreement-line-requires-2 : tie.Need-disagreement-line-requires-2
-disagreement-line-requires-2 c κs = search needs
-
-enum-known-answer-3 : tie.Need-enum-known-answer-3
-enum-known-answer-3 c = search needs
-
-enum-known-answer-4 : tie.Need-enum-known-answer-4
-enum-known-answer-4 c = search needs
-
-number-requires : tie.Need-number-requires
-number-requires c κs = search needs
-
-same-length : tie.Need-same-length
-same-length c = search needs
 
 returns : tie.Need-returns
 returns c =
     let at-answer = c .before .before .before .before .before .before .before in
     let start = at-answer .before .before .before .before in
     let a = at-answer .answer-job in
-    let e = sym (a .ensures .0) ∙ c .before .before .before .answer4 .given .1 in
+    let e = sym (a .ensures .0) ∙ c .before .before .before .answer3 .given .1 in
     let p = printed-nine (start .args .job .now) (start .args .out .now) _ e (sym (c .before .number .ensures) ∙ c .if1 .taken) in
     (p .0, a .ensures .1 ∙ p .1)
-
-refusal-line-requires : tie.Need-refusal-line-requires
-refusal-line-requires c κs = search needs
-
-same-length-2 : tie.Need-same-length-2
-same-length-2 c = search needs
 
 returns-2 : tie.Need-returns-2
 returns-2 c =
@@ -58,9 +25,6 @@ returns-2 c =
     let p = printed-lines (start .args .job .now) (start .args .out .now) _ (sym (a .ensures .0) ∙ c .before .answer .given .1) in
     (p .0, a .ensures .1 ∙ p .1)
 
-same-length-3 : tie.Need-same-length-3
-same-length-3 c = search needs
-
 returns-3 : tie.Need-returns-3
 returns-3 c =
     let at-answer = c .before .before .before .before .before .before .before .before .before in
@@ -68,34 +32,17 @@ returns-3 c =
     let a = at-answer .answer-job in
     let line = c .before .before .disagreement-line in
     let e = sym (a .ensures .0) ∙ c .before .before .before .before .before .answer2 .given .1 in
-    let text = clash-line (start .args .job .now) (length (start .args .out .now)) _ e in
+    let text = naming-line (start .args .job .now) (length (start .args .out .now)) _ _ e in
     let same = a .ensures .1 ∙ output-named (start .args .job .now) (start .args .out .now) _ e tt in
     (line .ensures .0 ∙ ap₂ lineAnswer text (ap length same), line .ensures .1 ∙ ap₂ lineOutput text same)
-
-same-length-4 : tie.Need-same-length-4
-same-length-4 c = search needs
 
 returns-4 : tie.Need-returns-4
 returns-4 c =
-    let at-answer = c .before .before .before .before .before .before .before .before .before in
-    let start = at-answer .before .before .before .before in
-    let a = at-answer .answer-job in
-    let line = c .before .before .disagreement-line2 in
-    let e = sym (a .ensures .0) ∙ c .before .before .before .before .before .answer3 .given .1 in
-    let text = apart-line (start .args .job .now) (length (start .args .out .now)) _ e in
-    let same = a .ensures .1 ∙ output-named (start .args .job .now) (start .args .out .now) _ e tt in
-    (line .ensures .0 ∙ ap₂ lineAnswer text (ap length same), line .ensures .1 ∙ ap₂ lineOutput text same)
-
-same-length-5 : tie.Need-same-length-5
-same-length-5 c = search needs
-
-returns-5 : tie.Need-returns-5
-returns-5 c =
     let at-answer = c .before .before .before .before .before .before .before .before .before .before .before in
     let start = at-answer .before .before .before .before in
     let a = at-answer .answer-job in
     let line = c .before .before .refusal-line in
-    let e = sym (a .ensures .0) ∙ c .before .before .before .before .before .before .before .answer4 .given .1 in
+    let e = sym (a .ensures .0) ∙ c .before .before .before .before .before .before .before .answer3 .given .1 in
     let p = printed-refusal (start .args .job .now) (start .args .out .now) _ e (λ k. c .before .before .before .before .if1 .left (c .before .before .before .before .before .number .ensures ∙ k)) in
     let same = a .ensures .1 ∙ p .1 in
     (line .ensures .0 ∙ ap₂ lineAnswer (p .0) (ap length same), line .ensures .1 ∙ ap₂ lineOutput (p .0) same)
@@ -104,22 +51,18 @@ pub print-job-spec : {M : Type 1} → statement M
 print-job-spec =
     tie.close
     (tie.spec
-    answer-job-requires
-    enum-known-answer
-    enum-known-answer-2
-    disagreement-line-requires
-    enum-known-answer-3
-    disagreement-line-requires-2
-    enum-known-answer-4
-    number-requires
-    same-length
+    (λ c κs. search needs)
+    (λ c. search needs)
+    (λ c. search needs)
+    (λ c κs. search needs)
+    (λ c. search needs)
+    (λ c κs. search needs)
+    (λ c. search needs)
     returns
-    refusal-line-requires
-    same-length-2
+    (λ c κs. search needs)
+    (λ c. search needs)
     returns-2
-    same-length-3
+    (λ c. search needs)
     returns-3
-    same-length-4
-    returns-4
-    same-length-5
-    returns-5)
+    (λ c. search needs)
+    returns-4)

@@ -1,42 +1,36 @@
--- `job::refusal_line` meets its contract. Assumes nothing.
-use Rattle.job.proofs.LineLaws.{front-inside, front-length, front-answer, front-output}
+-- `job::refusal_line` meets its contract: the words and a line end. Assumes nothing.
+use Rattle.job.proofs.LineLaws.{words-fit, refusal-put, front-inside, front-length, front-answer, front-output}
 use borrow.Author.Needs.{needs}
 use Rattle.job.proofs.refusal_line.Statement.{statement}
 use Rattle.job.proofs.refusal_line.Tie as tie
 
-slice-aggregate-put-refusal-line : tie.Need-slice-aggregate-put-refusal-line
-slice-aggregate-put-refusal-line c = search needs
-
-put-refusal-line-requires : tie.Need-put-refusal-line-requires
-put-refusal-line-requires c κs = search needs
+put-byte-requires : tie.Need-put-byte-requires
+put-byte-requires c κs = words-fit (c .before .before .before .before .before .args .refusal) (c .before .before .put-refusal .ensures) (search needs)
 
 array-share-prefix-line : tie.Need-array-share-prefix-line
 array-share-prefix-line c =
-    front-inside (c .before .put-refusal-line .ensures)
+    front-inside (refusal-put (c .before .before .before .before .before .before .before .args .refusal) (c .before .before .before .before .put-refusal .ensures) (c .before .put-byte .ensures))
 
 slice-aggregate-hand-over : tie.Need-slice-aggregate-hand-over
 slice-aggregate-hand-over c =
-    front-length (c .before .before .put-refusal-line .ensures)
-
-hand-over-requires : tie.Need-hand-over-requires
-hand-over-requires c κs = search needs
-
-same-length : tie.Need-same-length
-same-length c = search needs
+    front-length (refusal-put (c .before .before .before .before .before .before .before .before .args .refusal) (c .before .before .before .before .before .put-refusal .ensures) (c .before .before .put-byte .ensures))
 
 returns : tie.Need-returns
 returns c =
-    let p = c .before .before .before .before .before .before .put-refusal-line .ensures in
-    (front-answer p _ _ (c .before .before .hand-over .ensures .0), front-output p _ _ (c .before .before .hand-over .ensures .1))
+    let p = refusal-put (c .before .before .before .before .before .before .before .before .before .before .before .before .args .refusal) (c .before .before .before .before .before .before .before .before .before .put-refusal .ensures) (c .before .before .before .before .before .before .put-byte .ensures) in
+    let h = c .before .before .hand-over .ensures in
+    (front-answer p _ _ (h .0), front-output p _ _ (h .1))
 
 pub refusal-line-spec : {M : Type 1} → statement M
 refusal-line-spec =
     tie.close
     (tie.spec
-    slice-aggregate-put-refusal-line
-    put-refusal-line-requires
+    (λ c. search needs)
+    (λ c κs. search needs)
+    (λ c. search needs)
+    put-byte-requires
     array-share-prefix-line
     slice-aggregate-hand-over
-    hand-over-requires
-    same-length
+    (λ c κs. search needs)
+    (λ c. search needs)
     returns)

@@ -11,12 +11,6 @@ returns c =
     let a = c .before .before .before .args in
     (answer-short (a .text .now) _ (omega arith), output-short (a .text .now) (a .out .now) (omega arith))
 
-put-bytes-requires : tie.Need-put-bytes-requires
-put-bytes-requires c κs = search needs
-
-same-length : tie.Need-same-length
-same-length c = search needs
-
 returns-2 : tie.Need-returns-2
 returns-2 c =
     let a = c .before .before .before .before .before .before .before .args in
@@ -24,4 +18,4 @@ returns-2 c =
     (answer-fits (a .text .now) _ _ (omega arith) (p .ends), handed (a .text .now) (a .out .now) _ _ p ∙ output-fits (a .text .now) (a .out .now) (omega arith))
 
 pub hand-over-spec : {M : Type 1} → statement M
-hand-over-spec = tie.close (tie.spec returns put-bytes-requires same-length returns-2)
+hand-over-spec = tie.close (tie.spec returns (λ c κs. search needs) (λ c. search needs) returns-2)

@@ -8,15 +8,6 @@ use borrow.Author.Needs.{needs}
 use Rattle.job.proofs.lines.label_in.Statement.{statement}
 use Rattle.job.proofs.lines.label_in.Tie as tie
 
-part-requires : tie.Need-part-requires
-part-requires c κs = search needs
-
-stored-requires : tie.Need-stored-requires
-stored-requires c κs = search needs
-
-shown-requires : tie.Need-shown-requires
-shown-requires c κs = search needs
-
 returns : tie.Need-returns
 returns c =
     let a = c .before .before .before .before .args in
@@ -25,4 +16,4 @@ returns c =
     ap shownBytes (c .shown .ensures ∙ ap (λ l. shownOf (storedBytes l)) f) ∙ shown-part (a .text .now) (a .start) (a .size)
 
 pub label-in-spec : {M : Type 1} → statement M
-label-in-spec = tie.close (tie.spec part-requires stored-requires shown-requires returns)
+label-in-spec = tie.close (tie.spec (λ c κs. search needs) (λ c κs. search needs) (λ c κs. search needs) returns)

@@ -8,15 +8,9 @@ use borrow.Author.Needs.{needs}
 use Rattle.job.proofs.lines.put_disagreement.Statement.{statement}
 use Rattle.job.proofs.lines.put_disagreement.Tie as tie
 
-put-refusal-requires : tie.Need-put-refusal-requires
-put-refusal-requires c κs = search needs
-
 put-byte-requires : tie.Need-put-byte-requires
 put-byte-requires c κs =
     omega (arith, c .before .before .before .put-refusal .ensures, words-short (c .before .before .before .before .before .before .before .args .refusal), c .before .before .before .before .before .before .before .pre)
-
-label-in-requires : tie.Need-label-in-requires
-label-in-requires c κs = search needs
 
 put-item-requires : tie.Need-put-item-requires
 put-item-requires c κs =
@@ -25,9 +19,6 @@ put-item-requires c κs =
     let s3 = s2 .before .before .before .before in
     let w = words-short (s3 .args .refusal) in
     omega (arith, s2 .put-refusal .ensures, s1 .put-byte .ensures, w, named-short _ _ _ (c .before .label-in .ensures), s3 .pre)
-
-label-in-requires-2 : tie.Need-label-in-requires-2
-label-in-requires-2 c κs = search needs
 
 put-item-requires-2 : tie.Need-put-item-requires-2
 put-item-requires-2 c κs =
@@ -38,9 +29,6 @@ put-item-requires-2 c κs =
     let s5 = s4 .before .before .before .before in
     let w = words-short (s5 .args .refusal) in
     omega (arith, s4 .put-refusal .ensures, s3 .put-byte .ensures, w, item-named 0 _ _ _ (s2 .label-in .ensures), s1 .put-item .ensures, named-short _ _ _ (c .before .label-in2 .ensures), s5 .pre)
-
-label-in-requires-3 : tie.Need-label-in-requires-3
-label-in-requires-3 c κs = search needs
 
 put-item-requires-3 : tie.Need-put-item-requires-3
 put-item-requires-3 c κs =
@@ -122,13 +110,13 @@ pub put-disagreement-spec : {M : Type 1} → statement M
 put-disagreement-spec =
     tie.close
     (tie.spec
-    put-refusal-requires
+    (λ c κs. search needs)
     put-byte-requires
-    label-in-requires
+    (λ c κs. search needs)
     put-item-requires
-    label-in-requires-2
+    (λ c κs. search needs)
     put-item-requires-2
-    label-in-requires-3
+    (λ c κs. search needs)
     put-item-requires-3
     put-byte-requires-2
     same-length

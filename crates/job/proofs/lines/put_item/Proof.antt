@@ -4,26 +4,11 @@ use borrow.Author.Needs.{needs}
 use Rattle.job.proofs.lines.put_item.Statement.{statement}
 use Rattle.job.proofs.lines.put_item.Tie as tie
 
-put-shown-requires : tie.Need-put-shown-requires
-put-shown-requires c κs = search needs
-
-same-length : tie.Need-same-length
-same-length c = search needs
-
 returns : tie.Need-returns
 returns c =
     let start = c .before .before .before .before .before .before in
     put-as _ _ (item-first (start .args .i) (shownBytes (start .args .x)) (c .before .before .before .before .if1 .taken))
     (c .before .before .put-shown .ensures)
-
-put-byte-requires : tie.Need-put-byte-requires
-put-byte-requires c κs = search needs
-
-put-shown-requires-2 : tie.Need-put-shown-requires-2
-put-shown-requires-2 c κs = search needs
-
-same-length-2 : tie.Need-same-length-2
-same-length-2 c = search needs
 
 returns-2 : tie.Need-returns-2
 returns-2 c =
@@ -36,10 +21,10 @@ pub put-item-spec : {M : Type 1} → statement M
 put-item-spec =
     tie.close
     (tie.spec
-    put-shown-requires
-    same-length
+    (λ c κs. search needs)
+    (λ c. search needs)
     returns
-    put-byte-requires
-    put-shown-requires-2
-    same-length-2
+    (λ c κs. search needs)
+    (λ c κs. search needs)
+    (λ c. search needs)
     returns-2)

@@ -10,24 +10,12 @@ use borrow.Author.Needs.{needs}
 use Rattle.job.proofs.lines.put_number.Statement.{statement}
 use Rattle.job.proofs.lines.put_number.Tie as tie
 
-digits-requires : tie.Need-digits-requires
-digits-requires c κs = search needs
-
-slice-aggregate-first-bytes : tie.Need-slice-aggregate-first-bytes
-slice-aggregate-first-bytes c = search needs
-
-first-bytes-requires : tie.Need-first-bytes-requires
-first-bytes-requires c κs = search needs
-
 put-bytes-requires : tie.Need-put-bytes-requires
 unfolding numeralBytes
 put-bytes-requires c κs =
     let digits = c .before .before .before .before in
     let start = digits .before .before in
     omega (arith, ap (length {A = ℕ}) (c .before .first-bytes .ensures ∙ digits .digits .ensures .0), decimal-short (start .args .n), start .pre)
-
-same-length : tie.Need-same-length
-same-length c = search needs
 
 returns : tie.Need-returns
 unfolding numeralBytes
@@ -39,9 +27,9 @@ pub put-number-spec : {M : Type 1} → statement M
 put-number-spec =
     tie.close
     (tie.spec
-    digits-requires
-    slice-aggregate-first-bytes
-    first-bytes-requires
+    (λ c κs. search needs)
+    (λ c. search needs)
+    (λ c κs. search needs)
     put-bytes-requires
-    same-length
+    (λ c. search needs)
     returns)

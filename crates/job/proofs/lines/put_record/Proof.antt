@@ -1,24 +1,13 @@
 -- `job::lines::put_record` meets its contract: the parts of the three lines, one after another. Assumes nothing.
 use Rattle.job.proofs.AreaLaws.{put-then, put-as, length-labels}
 use Rattle.job.proofs.LineLaws.{record-parts, size-short}
+use Rattle.job.specs.Areas.{labelsIn}
 use mathlib.Core.Path.{sym}
 use native.Mathlib.Omega.{arith}
 use Rattle.trees.specs.Words.{bytesOf}
 use borrow.Author.Needs.{needs}
 use Rattle.job.proofs.lines.put_record.Statement.{statement}
 use Rattle.job.proofs.lines.put_record.Tie as tie
-
-slice-aggregate-put-bytes : tie.Need-slice-aggregate-put-bytes
-slice-aggregate-put-bytes c = search needs
-
-put-bytes-requires : tie.Need-put-bytes-requires
-put-bytes-requires c κs = search needs
-
-put-number-requires : tie.Need-put-number-requires
-put-number-requires c κs = search needs
-
-slice-aggregate-put-bytes-2 : tie.Need-slice-aggregate-put-bytes-2
-slice-aggregate-put-bytes-2 c = search needs
 
 put-bytes-requires-2 : tie.Need-put-bytes-requires-2
 put-bytes-requires-2 c κs =
@@ -44,9 +33,6 @@ put-labels-requires c κs =
         s5 .pre,
       ),
     )
-
-slice-aggregate-put-bytes-3 : tie.Need-slice-aggregate-put-bytes-3
-slice-aggregate-put-bytes-3 c = search needs
 
 put-bytes-requires-3 : tie.Need-put-bytes-requires-3
 put-bytes-requires-3 c κs =
@@ -108,9 +94,6 @@ put-byte-requires c κs =
       s7 .pre,
     )
 
-same-length : tie.Need-same-length
-same-length c = search needs
-
 returns : tie.Need-returns
 unfolding bytesOf
 returns c =
@@ -123,7 +106,7 @@ returns c =
     let s7 = s6 .before .before .before .before in
     let s8 = s7 .before .before .before .before .before .before in
     let a = s8 .args in
-    put-as _ _ (record-parts _ (a .tree .now) (a .count) (sym (length-labels (a .first .now) (a .start .now) (a .size .now) (a .count))))
+    put-as _ _ (record-parts (labelsIn (a .first .now) (a .start .now) (a .size .now) (a .count)) (a .tree .now) (a .count) (sym (length-labels (a .first .now) (a .start .now) (a .size .now) (a .count))))
     (put-then (put-then (put-then (put-then (put-then (put-then (s7 .put-bytes .ensures) (s6 .put-number .ensures))
     (s5 .put-bytes2 .ensures)) (s4 .put-labels .ensures .0)) (s3 .put-bytes3 .ensures)) (s2 .put-bytes4 .ensures)) (s1 .put-byte .ensures))
 
@@ -131,15 +114,15 @@ pub put-record-spec : {M : Type 1} → statement M
 put-record-spec =
     tie.close
     (tie.spec
-    slice-aggregate-put-bytes
-    put-bytes-requires
-    put-number-requires
-    slice-aggregate-put-bytes-2
+    (λ c. search needs)
+    (λ c κs. search needs)
+    (λ c κs. search needs)
+    (λ c. search needs)
     put-bytes-requires-2
     put-labels-requires
-    slice-aggregate-put-bytes-3
+    (λ c. search needs)
     put-bytes-requires-3
     put-bytes-requires-4
     put-byte-requires
-    same-length
+    (λ c. search needs)
     returns)

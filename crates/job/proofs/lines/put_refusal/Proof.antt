@@ -9,21 +9,6 @@ use borrow.Author.Needs.{needs}
 use Rattle.job.proofs.lines.put_refusal.Statement.{statement}
 use Rattle.job.proofs.lines.put_refusal.Tie as tie
 
-slice-aggregate-put-bytes : tie.Need-slice-aggregate-put-bytes
-slice-aggregate-put-bytes c = search needs
-
-put-bytes-requires : tie.Need-put-bytes-requires
-put-bytes-requires c κs = search needs
-
-number-requires : tie.Need-number-requires
-number-requires c κs = search needs
-
-wide-requires : tie.Need-wide-requires
-wide-requires c κs = search needs
-
-put-number-requires : tie.Need-put-number-requires
-put-number-requires c κs = search needs
-
 put-byte-requires : tie.Need-put-byte-requires
 put-byte-requires c κs =
     let s1 = c .before .before .before in
@@ -31,9 +16,6 @@ put-byte-requires c κs =
     let s3 = s2 .before .before .before .before in
     let s4 = s3 .before .before .before .before in
     omega (arith, s3 .put-bytes .ensures, s1 .put-number .ensures, decimal-short (s2 .wide .result), s4 .pre)
-
-letter-requires : tie.Need-letter-requires
-letter-requires c κs = search needs
 
 put-byte-requires-2 : tie.Need-put-byte-requires-2
 put-byte-requires-2 c κs =
@@ -65,9 +47,6 @@ put-number-requires-2 c κs =
     let s7 = s6 .before .before .before .before in
     omega (arith, s6 .put-bytes .ensures, s4 .put-number .ensures, s3 .put-byte .ensures, s2 .put-byte2 .ensures, s1 .put-byte3 .ensures, decimal-short (s5 .wide .result), s7 .pre)
 
-same-length : tie.Need-same-length
-same-length c = search needs
-
 returns : tie.Need-returns
 unfolding bytesOf
 returns c =
@@ -89,15 +68,15 @@ pub put-refusal-spec : {M : Type 1} → statement M
 put-refusal-spec =
     tie.close
     (tie.spec
-    slice-aggregate-put-bytes
-    put-bytes-requires
-    number-requires
-    wide-requires
-    put-number-requires
+    (λ c. search needs)
+    (λ c κs. search needs)
+    (λ c κs. search needs)
+    (λ c κs. search needs)
+    (λ c κs. search needs)
     put-byte-requires
-    letter-requires
+    (λ c κs. search needs)
     put-byte-requires-2
     put-byte-requires-3
     put-number-requires-2
-    same-length
+    (λ c. search needs)
     returns)

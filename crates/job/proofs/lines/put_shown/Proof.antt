@@ -8,19 +8,10 @@ use borrow.Author.Needs.{needs}
 use Rattle.job.proofs.lines.put_shown.Statement.{statement}
 use Rattle.job.proofs.lines.put_shown.Tie as tie
 
-slice-aggregate-first-bytes : tie.Need-slice-aggregate-first-bytes
-slice-aggregate-first-bytes c = search needs
-
-first-bytes-requires : tie.Need-first-bytes-requires
-first-bytes-requires c κs = search needs
-
 put-bytes-requires : tie.Need-put-bytes-requires
 unfolding shownBytes
 put-bytes-requires c κs =
     omega (arith, ap (length {A = ℕ}) (c .before .first-bytes .ensures), c .before .before .before .before .before .pre)
-
-same-length : tie.Need-same-length
-same-length c = search needs
 
 returns : tie.Need-returns
 unfolding shownBytes
@@ -31,8 +22,8 @@ pub put-shown-spec : {M : Type 1} → statement M
 put-shown-spec =
     tie.close
     (tie.spec
-    slice-aggregate-first-bytes
-    first-bytes-requires
+    (λ c. search needs)
+    (λ c κs. search needs)
     put-bytes-requires
-    same-length
+    (λ c. search needs)
     returns)

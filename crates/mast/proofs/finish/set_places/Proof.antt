@@ -9,8 +9,9 @@ use Rattle.trees.specs.Tree.{Tree, decoded, Valid}
 use Rattle.trees.specs.Arrays.{arraysOf}
 use Rattle.leaves.specs.Numbered.{Numbered}
 use Rattle.mast.specs.Largest.{setPlaces}
-use Rattle.mast.specs.Finish.{placesFrom}
+use Rattle.mast.specs.SetByRank.{placesFrom}
 use Rattle.mast.proofs.FinishLaws.{chosenTo, places-none, places-next, stored-count, chosen-all}
+use borrow.Author.Needs.{needs}
 use Rattle.mast.proofs.finish.set_places.Statement.{statement}
 use Rattle.mast.proofs.finish.set_places.Tie as tie
 
@@ -29,33 +30,40 @@ loop-holds c =
 
 mul-add-place : tie.Need-mul-add-place Inv-loop μ-loop
 mul-add-place c =
-    omega (arith, c .before .before .before .before .pre .1 (c .before .before .before .loop .r) (omega arith))
+    let z = c .before .before .before .before in
+    omega (arith, c .before .wide .ensures, z .before .pre .1 (z .loop .r) (omega arith))
 
 element-copy-out-add-place-2 : tie.Need-element-copy-out-add-place-2 Inv-loop μ-loop
 element-copy-out-add-place-2 c =
-    c .before .before .before .before .pre .1 (c .before .before .before .loop .r) (omega arith)
+    let z = c .before .before .before .before in
+    omega (arith, c .before .wide .ensures, z .before .pre .1 (z .loop .r) (omega arith))
 
 element-copy-out-add-place-3 : tie.Need-element-copy-out-add-place-3 Inv-loop μ-loop
 element-copy-out-add-place-3 c =
-    c .before .before .before .before .before .pre .1 (c .before .before .before .before .loop .r) (omega arith)
+    let z = c .before .before .before .before .before in
+    omega (arith, c .before .before .wide .ensures, z .before .pre .1 (z .loop .r) (omega arith))
 
 loop-again : tie.Need-loop-again Inv-loop μ-loop
 loop-again c =
-    let a = c .before .before .before .before .before .before .before .before .before .args in (
-      omega (arith, c .before .before .before .before .before .before .before .before .loop .inv .0, stored-count _ _ _ _ _ (c .add-place .ensures)),
+    let w = c .before .before .before .before .before .before in
+    let z = w .before .before .before in
+    let a = z .before .args in (
+      omega (arith, z .loop .inv .0, stored-count _ _ _ _ _ (c .add-place .ensures)),
       λ s C v e f k n.
-          places-next s v (a .chosen .now) (a .order1 .now) C n (c .before .before .before .before .before .before .before .before .loop .r) (omega arith) (omega arith) _ _ (c .before .before .before .before .before .before .before .before .loop .inv .1 s C v e f k n)
-          (rw (e, f) at (c .add-place .ensures)),
+          places-next s v (a .chosen .now) (a .order1 .now) C n (z .loop .r) (omega arith) (omega arith) _ _
+          (z .loop .inv .1 s C v e f k n) (rw (w .wide .ensures, e, f) at (c .add-place .ensures)),
     )
 
 returns : tie.Need-returns Inv-loop μ-loop
 returns c =
-    let a = c .before .before .args in
-    λ s C v e f k n. c .before .loop .inv .1 s C v e f k n ∙ ap (setPlaces s) (chosen-all (a .chosen .now) C (c .before .loop .r) (omega arith))
+    let z = c .before in
+    let a = z .before .args in
+    λ s C v e f k n.
+    z .loop .inv .1 s C v e f k n ∙ ap (setPlaces s) (chosen-all (a .chosen .now) C (z .loop .r) (omega arith))
 
 pub set-places-spec : {M : Type 1} → statement M
 set-places-spec =
     tie.close
-    (tie.spec Inv-loop μ-loop loop-holds (λ c. omega arith) (λ c. omega arith) (λ c. omega arith) mul-add-place
+    (tie.spec Inv-loop μ-loop loop-holds (λ c. omega arith) (λ c κs. search needs) (λ c. omega arith) mul-add-place
     element-copy-out-add-place-2 element-copy-out-add-place-3 (λ c κs. omega arith) (λ c. omega arith)
     (λ c. omega arith) loop-again returns)

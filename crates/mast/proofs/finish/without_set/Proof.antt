@@ -1,6 +1,6 @@
 -- `finish::without_set` meets its contract. Assumes nothing.
 use mathlib.Core.Path.{ap}
-use Rattle.mast.specs.Finish.{resultFrom}
+use Rattle.mast.specs.SetByRank.{resultFrom}
 use borrow.Author.Needs.{needs}
 use Rattle.mast.proofs.finish.without_set.Statement.{statement}
 use Rattle.mast.proofs.finish.without_set.Tie as tie

@@ -22,8 +22,8 @@ loop-holds c =
 
 loop-again : tie.Need-loop-again Inv-loop μ-loop
 loop-again c =
-    let w = c .before .before in
-    let put = rw (w .before .before .wide .ensures, w .wide2 .ensures) at (c .put-node .ensures) in
+    let w = c .before .before .before in
+    let put = rw (w .before .before .wide .ensures, w .wide2 .ensures, c .before .wide3 .ensures) at (c .put-node .ensures) in
     (omega arith, gathered-next _ _ _ _ _ _ _ (omega arith) (w .before .before .before .before .before .before .loop .inv .1) put)
 
 returns : tie.Need-returns Inv-loop μ-loop
@@ -35,5 +35,5 @@ pub gathered-spec : {M : Type 1} → statement M
 gathered-spec =
     tie.close
     (tie.spec Inv-loop μ-loop (λ c κs. search needs) (λ c. omega arith) loop-holds (λ c. omega arith) (λ c κs. search needs)
-    (λ c. omega arith) (λ c κs. search needs) (λ c. omega arith) (λ c. omega arith) (λ c κs. omega arith) (λ c. omega arith)
+    (λ c. omega arith) (λ c κs. search needs) (λ c. omega arith) (λ c κs. search needs) (λ c κs. omega arith) (λ c. omega arith)
     (λ c. omega arith) loop-again returns)

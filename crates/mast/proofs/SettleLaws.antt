@@ -1,0 +1,233 @@
+-- The required list settled, and a further list beside the largest set: what the parts return is what the definitions say. Assumes nothing.
+use Prim.Native.Nat.{ℕ, _≤_}
+use mathlib.Core.Path.{_≡_, refl, sym, _∙_, ap, subst}
+use mathlib.Core.Bool.{Bool, true, false}
+use mathlib.Core.List.{List, map}
+use native.Mathlib.Omega.{arith}
+use lib.ListN.{length, length-map}
+use Rattle.trees.specs.declared.Body.{Body}
+use Rattle.trees.specs.declared.Body.the-variants.{K, C}
+use Rattle.trees.specs.declared.Refusal.{Refusal}
+use Rattle.trees.specs.declared.TreeArrays.{TreeArrays}
+use Rattle.trees.specs.declared.Edition.{Edition}
+use Rattle.trees.specs.Edition.{folded, keyed}
+use Rattle.trees.specs.Label.{Label}
+use Rattle.trees.specs.Token.{Token, spelling}
+use Rattle.trees.specs.Tree.{Tree, decoded}
+use Rattle.trees.specs.Arrays.{arraysOf}
+use Rattle.trees.proofs.DecodedLaws.{decoded-nodes, decoded-left, decoded-right}
+use Rattle.trees.proofs.TokenLaws.{valid-decoded}
+use Rattle.lists.specs.declared.LabelPlaces.{LabelPlaces}
+use Rattle.lists.specs.ReadList.{foldedList, keysOf}
+use Rattle.agreement.specs.Sets.{common}
+use Rattle.agreement.specs.Answer.{Answer, disagree, largest}
+use Rattle.agreement.specs.Places.{placeIn, tokenIn, placeOfLabel}
+use Rattle.table.specs.Choice.{Ranked, Posed, Solved}
+use Rattle.pairs.specs.declared.CommonOrder.{CommonOrder}
+use Rattle.mast.specs.declared.clash.Clash.{Clash}
+use Rattle.mast.specs.declared.settle.Chosen.{Chosen}
+use Rattle.mast.specs.declared.settle.Settled.{Settled}
+use Rattle.mast.specs.declared.settle.Fate.{Fate}
+use Rattle.mast.specs.declared.settle.Fate.the-variants as fate
+use Rattle.mast.specs.declared.Named.{Named}
+use Rattle.mast.specs.declared.NamedLabel.{NamedLabel}
+use Rattle.mast.specs.declared.CompareAnswer.{CompareAnswer}
+use Rattle.mast.specs.declared.CompareAnswer.the-variants as compare-answer
+use Rattle.pairs.specs.Outcome.{Outcome, refused, naming, found, andThen, trio}
+use Rattle.mast.specs.NamedLabels.{namedLabel, namedOf}
+use Rattle.mast.specs.Query.{AllHeld, apart, together, answerTo, heldBy, agreedOn, eight, requiredOf, requiredSet}
+use Rattle.mast.specs.Compare.{Comparison, missing, clashOf, comparison, compareOther, compareAnswers, compareLists, isThere, placeIf, noName, namedIf, comparedOf}
+use Rattle.pairs.specs.PairRead.{OwnTrees, treesIn}
+use Rattle.mast.specs.ListRead.{OwnLabels}
+use Rattle.mast.specs.RankedQuery.{Asked, AskedOf, ClashIs}
+use Rattle.mast.specs.Settled.{chosenOf, NamingIs, ChosenIs, AgreedOn, SettledIs}
+use Rattle.pairs.proofs.StepLaws.{then-refused, then-found}
+
+-- what the table is asked
+
+pub posed : {s t : Tree} {xs : List Token} {tree1 tree2 : TreeArrays} {order : CommonOrder} {rank1 rank2 number : List ℕ}
+    {count : ℕ} → Asked s t xs tree1 tree2 order number count → Ranked (decoded s) (common (decoded s) (decoded t)) rank1
+    → Ranked (decoded t) (common (decoded s) (decoded t)) rank2
+    → Posed (decoded s) (decoded t) (map spelling xs) tree1 tree2 rank1 rank2 (order .count) number count
+unfolding arraysOf
+posed {s = s} {t = t} {xs = xs} a one two = record {
+  one = record {
+    proper = valid-decoded s (a .one .valid);
+    nodes-are = ap (λ q. q .nodes) (a .one .arrays-is) ∙ sym (decoded-nodes s);
+    left-are = ap (λ q. q .left) (a .one .arrays-is) ∙ sym (decoded-left s);
+    right-are = ap (λ q. q .right) (a .one .arrays-is) ∙ sym (decoded-right s);
+    ranked = one;
+  };
+  two = record {
+    proper = valid-decoded t (a .two .valid);
+    nodes-are = ap (λ q. q .nodes) (a .two .arrays-is) ∙ sym (decoded-nodes t);
+    left-are = ap (λ q. q .left) (a .two .arrays-is) ∙ sym (decoded-left t);
+    right-are = ap (λ q. q .right) (a .two .arrays-is) ∙ sym (decoded-right t);
+    ranked = two;
+  };
+  all = a .one .count;
+  different = a .different;
+  required = a .held;
+  marked = a .marked;
+  count-is = a .count-is ∙ sym (length-map xs spelling);
+}
+
+-- three labels with different closer pairs
+pub named-trio : (e : Edition) (s : Tree) (xs : List Token) (a b c : Label) (x y z : NamedLabel)
+    → x ≡ record { place = placeOfLabel (foldedList e xs) 0 a; start = placeIn (folded e s) 0 a; size = length (tokenIn (folded e s) a) }
+    → y ≡ record { place = placeOfLabel (foldedList e xs) 0 b; start = placeIn (folded e s) 0 b; size = length (tokenIn (folded e s) b) }
+    → z ≡ record { place = placeOfLabel (foldedList e xs) 0 c; start = placeIn (folded e s) 0 c; size = length (tokenIn (folded e s) c) }
+    → record { first = x; second = y; third = z } ≡ namedOf (trio e s xs a b c)
+unfolding namedOf
+named-trio e s xs a b c x y z f g h = rw (f, g, h) refl
+
+module _ (e : Edition) (s t : Tree) (xs : List Token) where
+  abbrev A : Answer
+  A = answerTo e (record { first = s; second = t }) xs
+
+  abbrev Set : Outcome (List Label)
+  Set = requiredSet e (record { first = s; second = t }) xs
+
+  pub clash-none : (r : Clash) (X : List Label) → A ≡ largest X → r .apart ≡ false → r .named ≡ noName → ClashIs e s t xs r
+  unfolding heldBy clashOf isThere namedIf
+  clash-none r X h p n = record { held = together X; is = λ body. ap (heldBy body xs) h; apart-is = p; named-is = n }
+
+  pub clash-some : (r : Clash) (a b c : Label) → A ≡ disagree a b c → r .apart ≡ true → r .named ≡ namedOf (trio e s xs a b c) → ClashIs e s t xs r
+  unfolding heldBy clashOf isThere namedIf
+  clash-some r a b c h p n =
+      record { held = apart (record { one = a; two = b; three = c }); is = λ body. ap (heldBy body xs) h; apart-is = p; named-is = n }
+
+  -- number 8
+  pub eight-named : (r : Clash) (a b c : Label) → A ≡ disagree a b c → ClashIs e s t xs r → NamingIs Set eight (r .named)
+  unfolding requiredSet requiredOf heldBy agreedOn clashOf namedIf
+  eight-named r a b c h k =
+      let f : found (apart (record { one = a; two = b; three = c })) ≡ found (k .held) = sym (ap (heldBy K xs) h) ∙ k .is K in
+      let g : apart (record { one = a; two = b; three = c }) ≡ k .held = cc in
+      record {
+        labels = trio e s xs a b c;
+        is = ap (requiredOf e s xs) h;
+        named = k .named-is ∙ ap (λ (x : AllHeld). namedIf e s xs (clashOf x)) (sym g);
+      }
+
+  pub set-found : (X : List Label) → A ≡ largest X → Set ≡ found X
+  unfolding requiredSet requiredOf heldBy agreedOn
+  set-found X h = ap (requiredOf e s xs) h
+
+  pub set-lacking : (q : Refusal) → heldBy K xs A ≡ refused q → Set ≡ refused q
+  unfolding requiredSet requiredOf
+  set-lacking q h = then-refused (heldBy K xs A) (agreedOn e s xs) q h
+
+  module _ (chosen : List Bool) where
+    pub chosen-set : (size : ℕ) → A ≡ largest (chosenOf e s t chosen) → size ≡ length (chosenOf e s t chosen)
+        → ChosenIs e s t xs chosen (record { fate = fate.Agreed; size = size })
+    chosen-set size h k = record {
+      never = λ q f. other f;
+      eight = λ q n f. absurd (naming-other f);
+      set = λ _. set-found _ h;
+      count = λ _. k;
+    }
+      where
+        other : {q : Refusal} → fate.Agreed ≡ fate.Refused q → ⊥
+        other f = let z : _≡_ {A = ℕ} 0 1 = cc in omega arith
+
+        naming-other : {q : Refusal} {n : Named} → fate.Agreed ≡ fate.Naming q n → ⊥
+        naming-other f = let z : _≡_ {A = ℕ} 0 1 = cc in omega arith
+
+    pub chosen-eight : (n : Named) → NamingIs Set eight n → ChosenIs e s t xs chosen (record { fate = fate.Naming eight n; size = 0 })
+    chosen-eight n k = record {
+      never = λ q f. never-refused f;
+      eight = λ q m f. subst-naming f;
+      set = λ f. absurd (other f);
+      count = λ f. absurd (other f);
+    }
+      where
+        never-refused : {q : Refusal} → fate.Naming eight n ≡ fate.Refused q → ⊥
+        never-refused f = let z : _≡_ {A = ℕ} 0 1 = cc in omega arith
+
+        other : fate.Naming eight n ≡ fate.Agreed → ⊥
+        other f = let z : _≡_ {A = ℕ} 0 1 = cc in omega arith
+
+        subst-naming : {q : Refusal} {m : Named} → fate.Naming eight n ≡ fate.Naming q m → NamingIs Set q m
+        subst-naming {q = q} {m = m} f =
+            let x : eight ≡ q = cc in
+            let y : n ≡ m = cc in
+            subst (λ (p : Refusal). NamingIs Set p m) x (subst (NamingIs Set eight) y k)
+
+-- settled
+
+module _ {e : Edition} {first : List ℕ} {tree1 tree2 : TreeArrays} {order : CommonOrder} {list : List ℕ} {places : LabelPlaces}
+    (b : OwnTrees e first tree1 tree2 order) (l : OwnLabels e list places) (r : Settled) where
+  pub settled-lack : (q : Refusal) → r .fate ≡ fate.Refused q
+      → heldBy K (l .xs) (answerTo e (treesIn b) (l .xs)) ≡ refused q → SettledIs b l r
+  settled-lack q w h = record {
+    lack = λ p f. set-lacking e (b .s) (b .t) (l .xs) q h ∙ ap refused (same (sym w ∙ f));
+    eight = λ p n f. absurd (naming-other (sym w ∙ f));
+    agreed = λ f. absurd (other (sym w ∙ f));
+  }
+    where
+      same : {p : Refusal} → fate.Refused q ≡ fate.Refused p → q ≡ p
+      same f = cc
+
+      naming-other : {p : Refusal} {n : Named} → fate.Refused q ≡ fate.Naming p n → ⊥
+      naming-other f = let z : _≡_ {A = ℕ} 0 1 = cc in omega arith
+
+      other : fate.Refused q ≡ fate.Agreed → ⊥
+      other f = let z : _≡_ {A = ℕ} 0 1 = cc in omega arith
+
+  pub settled-chosen : (c : Chosen) → r .fate ≡ c .fate → r .size ≡ c .size
+      → AskedOf (folded e (b .s)) (folded e (b .t)) (foldedList e (l .xs)) tree1 tree2 order (r .number) places
+      → ChosenIs e (b .s) (b .t) (l .xs) (r .chosen) c → SettledIs b l r
+  settled-chosen c w k a h = record {
+    lack = λ q f. absurd (h .never q (sym w ∙ f));
+    eight = λ q n f. h .eight q n (sym w ∙ f);
+    agreed = λ f. record { asked = a; set = h .set (sym w ∙ f); count = k ∙ h .count (sym w ∙ f) };
+  }
+
+-- compared
+
+module _ (e : Edition) (s : Tree) (xs ys : List Token) (size : ℕ) where
+  pub other-lacking : (B : Answer) (q : Refusal) → heldBy C ys B ≡ refused q
+      → compare-answer.Refused q ≡ comparedOf (compareOther e s xs ys size B)
+  unfolding compareOther comparedOf
+  other-lacking B q h = ap comparedOf (sym (then-refused (heldBy C ys B) _ q h))
+
+  pub other-compared : (t : Tree) (r : Clash) → ClashIs e s t ys r → (n count place : ℕ) (lacks : Bool) → n ≡ size → count ≡ length ys
+      → lacks ≡ isThere (missing (keysOf e xs) (keysOf e ys) 0) → place ≡ placeIf xs (missing (keysOf e xs) (keysOf e ys) 0)
+      → compare-answer.Compared (record {
+        size = n;
+        count = count;
+        lacks = lacks;
+        missing = place;
+        apart = r .apart;
+        named = r .named;
+      })
+      ≡ comparedOf (compareOther e s xs ys size (answerTo e (record { first = s; second = t }) ys))
+  unfolding compareOther comparedOf comparison
+  other-compared t r k n count place lacks d c f g =
+      rw (d, c, f, g, k .apart-is, k .named-is) refl
+      ∙ ap comparedOf (sym (then-found (heldBy C ys (answerTo e (record { first = s; second = t }) ys))
+      (λ (h : AllHeld). found (comparison e s xs ys size h)) (k .held) (k .is C)))
+
+module _ (e : Edition) (s t : Tree) (xs ys : List Token) where
+  abbrev Lists : Outcome Comparison
+  Lists = compareLists e (record { first = s; second = t }) xs ys
+
+  -- what comes after 6, 7 and 8 of the required list
+  abbrev On : List Label → Outcome Comparison
+  On X = compareOther e s xs ys (length X) (answerTo e (record { first = s; second = t }) ys)
+
+  lists-then : Lists ≡ andThen (requiredSet e (record { first = s; second = t }) xs) On
+  unfolding compareLists compareAnswers requiredSet
+  lists-then = refl
+
+  pub lists-refused : (q : Refusal) → requiredSet e (record { first = s; second = t }) xs ≡ refused q → compare-answer.Refused q ≡ comparedOf Lists
+  unfolding comparedOf
+  lists-refused q h = ap comparedOf (sym (lists-then ∙ then-refused _ On q h))
+
+  pub lists-naming : (q : Refusal) (n : Named) → NamingIs (requiredSet e (record { first = s; second = t }) xs) q n
+      → compare-answer.Naming q n ≡ comparedOf Lists
+  unfolding comparedOf andThen
+  lists-naming q n k = rw (k .named) refl ∙ ap comparedOf (sym (lists-then ∙ ap (λ x. andThen x On) (k .is)))
+
+  pub lists-found : (X : List Label) → requiredSet e (record { first = s; second = t }) xs ≡ found X → Lists ≡ On X
+  lists-found X h = lists-then ∙ then-found _ On X h

@@ -1,0 +1,6 @@
+pub mod CommonRanks
+pub mod LoneLeaves
+pub mod Outcome
+pub mod OwnLeaves
+pub mod PairRead
+pub mod TwoTrees
