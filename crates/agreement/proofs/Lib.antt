@@ -1,6 +1,7 @@
 pub mod AgreeRestrict
 pub mod AnswerLaws
 pub mod Children
+pub mod CladeLaws
 pub mod CloserLaws
 pub mod CloserOnce
 pub mod DemandLaws

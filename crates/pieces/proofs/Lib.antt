@@ -1,0 +1,13 @@
+pub mod Cases
+pub mod CladesLaws
+pub mod HangsAtLaws
+pub mod JoinLaws
+pub mod MoveLaws
+pub mod NearLaws
+pub mod NumberLaws
+pub mod PartLaws
+pub mod PlaceLaws
+pub mod Promises
+pub mod TotalLaws
+pub mod TrioLaws
+pub mod WithinLaws
