@@ -3,7 +3,7 @@
 //
 // At most one byte over the job limit is kept in memory: a longer input is number 11 whatever it holds. If standard output fails, the
 // program ends quietly.
-use job::RECORD_ROOM;
+use lines::RECORD_ROOM;
 
 fn main() {
     let mut input = job::job_area();
@@ -11,5 +11,5 @@ fn main() {
     let mut area = [0u8; RECORD_ROOM];
     let out: &mut [u8] = &mut area;
     let answer = job::print_job(&input[..n], out);
-    io::write_all(1, job::written(out, answer));
+    io::write_all(1, lines::written(out, answer));
 }

@@ -29,7 +29,7 @@ use Rattle.agreement.specs.Greatest.{Greatest}
 use Rattle.agreement.specs.Powers.{whole, decode, telling}
 use Rattle.agreement.specs.Starred.{Row, answered, rows}
 use Rattle.agreement.specs.OwnCases.{ownRows}
-use Rattle.agreement.specs.Strict.{IsStray, Stray, Told, strayOf}
+use Rattle.agreement.specs.Strict.{IsStray, Stray, StrayTold, strayOf}
 use Rattle.agreement.proofs.AnswerLaws
 use Rattle.agreement.proofs.DemandLaws
 use Rattle.agreement.proofs.Tells
@@ -185,7 +185,7 @@ number-place = number-listed
 
 -- C-11: "a leaf that stands in only one tree". It is the first in the first tree or, if that has none, in the second. If there is none at
 -- all, both trees have the same leaves.
-pub stray-promise : (s t : Tree) (r : Stray) → (strayOf s t ≡ r) ↔ Told s t r
+pub stray-promise : (s t : Tree) (r : Stray) → (strayOf s t ≡ r) ↔ StrayTold s t r
 stray-promise = stray-exactly
 
 -- It is a leaf of its tree, and no other leaf that the other tree lacks has a smaller place.

@@ -14,7 +14,7 @@ use Rattle.trees.proofs.Bools.{bool-cases, clash, refute}
 use Rattle.trees.proofs.ListLaws.{in-here}
 use Rattle.agreement.specs.Closer.{holds}
 use Rattle.agreement.specs.Places.{placeIn}
-use Rattle.agreement.specs.Strict.{FirstOutside, IsStray, Stray, inFirst, inSecond, nowhere, Told, firstOutside, inEither, strayOf}
+use Rattle.agreement.specs.Strict.{FirstOutside, IsStray, Stray, inFirst, inSecond, nowhere, StrayTold, firstOutside, inEither, strayOf}
 use Rattle.agreement.proofs.SetLaws.{test-ext, in-nil, in-head, in-tail, in-cases}
 use Rattle.agreement.proofs.PlaceLaws.{place-inside, held-second}
 
@@ -64,23 +64,23 @@ pub stray-held : (t other : Tree) (x : Label) → IsStray t other x → holds t 
 unfolding holds
 stray-held t other x h = outside-in (holds other) (leaves t) x h
 
-told-either : (s t : Tree) (p q : Option Label) → Looked (holds t) (leaves s) p → Looked (holds s) (leaves t) q → Told s t (inEither p q)
+told-either : (s t : Tree) (p q : Option Label) → Looked (holds t) (leaves s) p → Looked (holds s) (leaves t) q → StrayTold s t (inEither p q)
 unfolding inEither holds
 told-either s t (some x) q h k = h
 told-either s t none (some y) h k = (h, k)
 told-either s t none none h k = λ x. test-ext (holds s x) (holds t x) (h x) (k x)
 
-pub stray-exactly : (s t : Tree) (r : Stray) → (strayOf s t ≡ r) ↔ Told s t r
+pub stray-exactly : (s t : Tree) (r : Stray) → (strayOf s t ≡ r) ↔ StrayTold s t r
 unfolding strayOf inEither holds
 stray-exactly s t r = (λ e. told r e, only r)
   where
-    told : (r : Stray) → strayOf s t ≡ r → Told s t r
+    told : (r : Stray) → strayOf s t ≡ r → StrayTold s t r
     told r e =
         rw (← e)
         (told-either s t (firstOutside (holds t) (leaves s)) (firstOutside (holds s) (leaves t)) (looked (holds t) (leaves s))
         (looked (holds s) (leaves t)))
 
-    only : (r : Stray) → Told s t r → strayOf s t ≡ r
+    only : (r : Stray) → StrayTold s t r → strayOf s t ≡ r
     only (inFirst x) h = rw (outside-found (holds t) (leaves s) x h) refl
     only (inSecond x) h = rw (all-inside (holds t) (leaves s) (h .0), outside-found (holds s) (leaves t) x (h .1)) refl
     only nowhere h =

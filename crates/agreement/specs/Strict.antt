@@ -30,10 +30,10 @@ pub data Stray : Type 0 where
   nowhere : Stray
 
 -- "the first such leaf in S or, if S has none, in T"
-abbrev pub Told : Tree → Tree → Stray → Type 0
-Told s t (inFirst x) = IsStray s t x
-Told s t (inSecond x) = ((y : Label) → holds s y ≡ true → holds t y ≡ true) × IsStray t s x
-Told s t nowhere = SameLeaves s t
+abbrev pub StrayTold : Tree → Tree → Stray → Type 0
+StrayTold s t (inFirst x) = IsStray s t x
+StrayTold s t (inSecond x) = ((y : Label) → holds s y ≡ true → holds t y ≡ true) × IsStray t s x
+StrayTold s t nowhere = SameLeaves s t
 
 -- the same by search
 unfoldable pub firstOutside : (Label → Bool) → List Label → Option Label

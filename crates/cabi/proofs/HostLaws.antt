@@ -24,16 +24,17 @@ use Rattle.contents.specs.Contents.{layoutOf, bodyPlace}
 use Rattle.pairs.specs.declared.Options.{Options}
 use Rattle.pairs.specs.Outcome.{Outcome, refused, naming, found, trio}
 use Rattle.mast.specs.NamedLabels.{namedLabel, namedOf}
-use Rattle.mast.specs.Query.{Task, task, eight, heldBy, requiredOf}
+use Rattle.queries.specs.Query.{Task, task, disagreement, heldBy, requiredOf}
 use Rattle.mast.specs.Largest.{solution, solutionText, tooShort, solutionOf, solve}
 use Rattle.mast.specs.Reads.{Reads, SetGiven}
 use Rattle.pairs.proofs.StepLaws.{then-refused, then-found}
 use Rattle.mast.proofs.Promises as mast
 use Rattle.claims.specs.Claim.{IsClaim, claimDisagrees, Clear, VerdictIs}
-use Rattle.claims.specs.Judge.{ReadsClaim, fourteen, judge}
+use Rattle.claims.specs.Judge.{ReadsClaim, claimDisagreement, judge}
 use Rattle.claims.proofs.Promises as claims
 use Rattle.job.specs.Printed.{Reply, replyLines}
-use Rattle.job.specs.Answered.{lineAnswer, linesAnswer, recordAnswer, baseOf, movedBy, answered, beginIn, answerTo}
+use Rattle.lines.specs.Output.{lineAnswer}
+use Rattle.job.specs.Answered.{linesAnswer, recordAnswer, baseOf, movedBy, answered, beginIn, answerTo}
 use Rattle.job.specs.JobOutcome.{JobOutcome}
 use Rattle.job.proofs.Promises as job
 use Rattle.cabi.specs.Numbers.{succeeded, namingWith, refusedWith, numbersOf, claimNumbers, jobNumbers, unknownFlags, optionsOf, solveWith, judgeWith}
@@ -51,7 +52,7 @@ module _ (q : Task) (room : ℕ) where
 
     pub eight-numbers : (a b c : Label) → Common (keyed (q .options .edition) s) (keyed (q .options .edition) t) (setOf (keysOf (q .options .edition) xs))
         → IsDisagreement (keyed (q .options .edition) s) (keyed (q .options .edition) t) (keysOf (q .options .edition) xs) a b c
-        → numbersOf (solve q room) ≡ namingWith eight (placeOfLabel (foldedList (q .options .edition) xs) 0 a)
+        → numbersOf (solve q room) ≡ namingWith disagreement (placeOfLabel (foldedList (q .options .edition) xs) 0 a)
         (placeOfLabel (foldedList (q .options .edition) xs) 0 b) (placeOfLabel (foldedList (q .options .edition) xs) 0 c)
     unfolding numbersOf solutionOf requiredOf heldBy
     eight-numbers a b c held d =
@@ -91,7 +92,7 @@ module _ (q : Task) (claim : List ℕ) where
 
     pub claim-eight : (a b c : Label) → Common (keyed (q .options .edition) s) (keyed (q .options .edition) t) (setOf (keysOf (q .options .edition) xs))
         → IsDisagreement (keyed (q .options .edition) s) (keyed (q .options .edition) t) (keysOf (q .options .edition) xs) a b c
-        → claimNumbers (judge q claim) ≡ namingWith eight (placeOfLabel (foldedList (q .options .edition) xs) 0 a)
+        → claimNumbers (judge q claim) ≡ namingWith disagreement (placeOfLabel (foldedList (q .options .edition) xs) 0 a)
         (placeOfLabel (foldedList (q .options .edition) xs) 0 b) (placeOfLabel (foldedList (q .options .edition) xs) 0 c)
     unfolding claimNumbers
     claim-eight a b c held d = ap claimNumbers (claims.eight-promise q claim s t xs ys read a b c held d)
@@ -99,7 +100,7 @@ module _ (q : Task) (claim : List ℕ) where
     pub claim-fourteen : (a b c : Label) → Clear (keyed (q .options .edition) s) (keyed (q .options .edition) t) (keysOf (q .options .edition) xs)
         → VerdictIs (keyed (q .options .edition) s) (keyed (q .options .edition) t) (keysOf (q .options .edition) xs) (keysOf (q .options .edition) ys)
         (claimDisagrees a b c)
-        → claimNumbers (judge q claim) ≡ namingWith fourteen (placeOfLabel (foldedList (q .options .edition) ys) 0 a)
+        → claimNumbers (judge q claim) ≡ namingWith claimDisagreement (placeOfLabel (foldedList (q .options .edition) ys) 0 a)
         (placeOfLabel (foldedList (q .options .edition) ys) 0 b) (placeOfLabel (foldedList (q .options .edition) ys) 0 c)
     unfolding claimNumbers
     claim-fourteen a b c clear d = ap claimNumbers (claims.fourteen-promise q claim s t xs ys read a b c .1 (clear, d))
@@ -142,20 +143,20 @@ module _ (bytes : List ℕ) (room : ℕ) where
   nine-numbers y o h = told (found y) o ∙ rw (lt-leb (length (replyLines y)) room h) refl
 
   module _ (e : Edition) (s : Tree) (xs : List Token) (a b c : Label) where
-    pub job-eight-numbers : JobOutcome bytes (naming eight (trio e s xs a b c))
+    pub job-eight-numbers : JobOutcome bytes (naming disagreement (trio e s xs a b c))
         → jobNumbers (answerTo bytes room)
-        ≡ namingWith eight (bodyPlace K (layoutOf bytes) + placeOfLabel (foldedList e xs) 0 a)
+        ≡ namingWith disagreement (bodyPlace K (layoutOf bytes) + placeOfLabel (foldedList e xs) 0 a)
         (bodyPlace K (layoutOf bytes) + placeOfLabel (foldedList e xs) 0 b) (bodyPlace K (layoutOf bytes) + placeOfLabel (foldedList e xs) 0 c)
     unfolding answered baseOf movedBy namedOf namedLabel jobNumbers
-    job-eight-numbers o = told (naming eight (trio e s xs a b c)) o
+    job-eight-numbers o = told (naming disagreement (trio e s xs a b c)) o
 
     -- C-16: 14 with the places of the first three in the job's claim
-    pub job-fourteen-numbers : JobOutcome bytes (naming fourteen (trio e s xs a b c))
+    pub job-fourteen-numbers : JobOutcome bytes (naming claimDisagreement (trio e s xs a b c))
         → jobNumbers (answerTo bytes room)
-        ≡ namingWith fourteen (bodyPlace C (layoutOf bytes) + placeOfLabel (foldedList e xs) 0 a)
+        ≡ namingWith claimDisagreement (bodyPlace C (layoutOf bytes) + placeOfLabel (foldedList e xs) 0 a)
         (bodyPlace C (layoutOf bytes) + placeOfLabel (foldedList e xs) 0 b) (bodyPlace C (layoutOf bytes) + placeOfLabel (foldedList e xs) 0 c)
     unfolding answered baseOf movedBy namedOf namedLabel jobNumbers
-    job-fourteen-numbers o = told (naming fourteen (trio e s xs a b c)) o
+    job-fourteen-numbers o = told (naming claimDisagreement (trio e s xs a b c)) o
 
   pub job-refusal-numbers : (q : Refusal) → JobOutcome bytes (refused q) → jobNumbers (answerTo bytes room) ≡ refusedWith q
   unfolding answered jobNumbers

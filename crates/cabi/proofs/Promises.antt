@@ -19,13 +19,14 @@ use Rattle.agreement.specs.Places.{placeOfLabel}
 use Rattle.agreement.specs.Demand.{IsDisagreement}
 use Rattle.contents.specs.Contents.{layoutOf, bodyPlace}
 use Rattle.pairs.specs.Outcome.{refused, naming, found, trio}
-use Rattle.mast.specs.Query.{Task, task, plain, eight}
+use Rattle.queries.specs.Query.{Task, task, plain, disagreement}
 use Rattle.mast.specs.Largest.{Solution, solution, solutionText, tooShort, solve}
 use Rattle.mast.specs.Reads.{Reads, SetGiven}
 use Rattle.claims.specs.Claim.{IsClaim, claimDisagrees, Clear, VerdictIs}
-use Rattle.claims.specs.Judge.{ReadsClaim, fourteen, judge}
+use Rattle.claims.specs.Judge.{ReadsClaim, claimDisagreement, judge}
 use Rattle.pairs.specs.declared.Options.{Options}
-use Rattle.job.specs.Printed.{solved, passed, setReply, claimReply, claimLine, replyLines}
+use Rattle.job.specs.Printed.{solved, passed, setReply, claimReply, replyLines}
+use Rattle.lines.specs.Lines.{claimLine}
 use Rattle.job.specs.Answered.{answerTo}
 use Rattle.job.specs.JobOutcome.{JobOutcome}
 use Rattle.cabi.specs.Numbers.{succeeded, namingWith, refusedWith, numbersOf, claimNumbers, jobNumbers, unknownFlags, optionsOf, solveWith, judgeWith}
@@ -41,7 +42,7 @@ module _ (q : Task) (room : ℕ) where
     -- Number 8 comes with the places of its three labels in the list.
     pub eight-promise : (a b c : Label) → Common (keyed (q .options .edition) s) (keyed (q .options .edition) t) (setOf (keysOf (q .options .edition) xs))
         → IsDisagreement (keyed (q .options .edition) s) (keyed (q .options .edition) t) (keysOf (q .options .edition) xs) a b c
-        → numbersOf (solve q room) ≡ namingWith eight (placeOfLabel (foldedList (q .options .edition) xs) 0 a) (placeOfLabel (foldedList (q .options .edition) xs) 0 b)
+        → numbersOf (solve q room) ≡ namingWith disagreement (placeOfLabel (foldedList (q .options .edition) xs) 0 a) (placeOfLabel (foldedList (q .options .edition) xs) 0 b)
         (placeOfLabel (foldedList (q .options .edition) xs) 0 c)
     eight-promise = HostLaws.eight-numbers q room s t xs reads
 
@@ -72,9 +73,9 @@ module _ (first second required : List ℕ) (room : ℕ) where
 
 -- 8 and 14 in the papers' numbers: K is the byte 75 and C 67
 pub numbers-told : (a b c : ℕ)
-    → (namingWith eight a b c
+    → (namingWith disagreement a b c
     ≡ record { number = 8; letter = 75; place = 0; size = 0; length = 0; first = a; second = b; third = c })
-    × (namingWith fourteen a b c
+    × (namingWith claimDisagreement a b c
     ≡ record { number = 14; letter = 67; place = 0; size = 0; length = 0; first = a; second = b; third = c })
 unfolding namingWith
 numbers-told a b c = (refl, refl)
@@ -91,7 +92,7 @@ module _ (q : Task) (claim : List ℕ) where
     pub claim-eight-promise : (a b c : Label)
         → Common (keyed (q .options .edition) s) (keyed (q .options .edition) t) (setOf (keysOf (q .options .edition) xs))
         → IsDisagreement (keyed (q .options .edition) s) (keyed (q .options .edition) t) (keysOf (q .options .edition) xs) a b c
-        → claimNumbers (judge q claim) ≡ namingWith eight (placeOfLabel (foldedList (q .options .edition) xs) 0 a)
+        → claimNumbers (judge q claim) ≡ namingWith disagreement (placeOfLabel (foldedList (q .options .edition) xs) 0 a)
         (placeOfLabel (foldedList (q .options .edition) xs) 0 b) (placeOfLabel (foldedList (q .options .edition) xs) 0 c)
     claim-eight-promise = HostLaws.claim-eight q claim s t xs ys read
 
@@ -99,7 +100,7 @@ module _ (q : Task) (claim : List ℕ) where
         → Clear (keyed (q .options .edition) s) (keyed (q .options .edition) t) (keysOf (q .options .edition) xs)
         → VerdictIs (keyed (q .options .edition) s) (keyed (q .options .edition) t) (keysOf (q .options .edition) xs) (keysOf (q .options .edition) ys)
         (claimDisagrees a b c)
-        → claimNumbers (judge q claim) ≡ namingWith fourteen (placeOfLabel (foldedList (q .options .edition) ys) 0 a)
+        → claimNumbers (judge q claim) ≡ namingWith claimDisagreement (placeOfLabel (foldedList (q .options .edition) ys) 0 a)
         (placeOfLabel (foldedList (q .options .edition) ys) 0 b) (placeOfLabel (foldedList (q .options .edition) ys) 0 c)
     claim-fourteen-promise = HostLaws.claim-fourteen q claim s t xs ys read
 
@@ -126,9 +127,9 @@ module _ (bytes : List ℕ) (room : ℕ) where
   job-nine-promise r = HostLaws.nine-numbers bytes room (solved r)
 
   -- Number 8 comes with the places of its three labels in the job's list.
-  pub job-eight-promise : (e : Edition) (s : Tree) (xs : List Token) (a b c : Label) → JobOutcome bytes (naming eight (trio e s xs a b c))
+  pub job-eight-promise : (e : Edition) (s : Tree) (xs : List Token) (a b c : Label) → JobOutcome bytes (naming disagreement (trio e s xs a b c))
       → jobNumbers (answerTo bytes room)
-      ≡ namingWith eight (bodyPlace K (layoutOf bytes) + placeOfLabel (foldedList e xs) 0 a) (bodyPlace K (layoutOf bytes) + placeOfLabel (foldedList e xs) 0 b)
+      ≡ namingWith disagreement (bodyPlace K (layoutOf bytes) + placeOfLabel (foldedList e xs) 0 a) (bodyPlace K (layoutOf bytes) + placeOfLabel (foldedList e xs) 0 b)
       (bodyPlace K (layoutOf bytes) + placeOfLabel (foldedList e xs) 0 c)
   job-eight-promise = HostLaws.job-eight-numbers bytes room
 
@@ -138,9 +139,9 @@ module _ (bytes : List ℕ) (room : ℕ) where
   unfolding replyLines
   job-claim-promise n = HostLaws.reply-numbers bytes room (passed n)
 
-  pub job-fourteen-promise : (e : Edition) (s : Tree) (ys : List Token) (a b c : Label) → JobOutcome bytes (naming fourteen (trio e s ys a b c))
+  pub job-fourteen-promise : (e : Edition) (s : Tree) (ys : List Token) (a b c : Label) → JobOutcome bytes (naming claimDisagreement (trio e s ys a b c))
       → jobNumbers (answerTo bytes room)
-      ≡ namingWith fourteen (bodyPlace C (layoutOf bytes) + placeOfLabel (foldedList e ys) 0 a)
+      ≡ namingWith claimDisagreement (bodyPlace C (layoutOf bytes) + placeOfLabel (foldedList e ys) 0 a)
       (bodyPlace C (layoutOf bytes) + placeOfLabel (foldedList e ys) 0 b) (bodyPlace C (layoutOf bytes) + placeOfLabel (foldedList e ys) 0 c)
   job-fourteen-promise = HostLaws.job-fourteen-numbers bytes room
 

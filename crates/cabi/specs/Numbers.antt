@@ -13,7 +13,7 @@ use Rattle.mast.specs.declared.Named.{Named}
 use Rattle.pairs.specs.declared.Options.{Options}
 use Rattle.pairs.specs.Outcome.{Outcome, refused, naming, found, andThen}
 use Rattle.mast.specs.NamedLabels.{namedOf}
-use Rattle.mast.specs.Query.{task}
+use Rattle.queries.specs.Query.{task}
 use Rattle.mast.specs.Largest.{Solution, solutionText, solve}
 use Rattle.claims.specs.Judge.{judge}
 use Rattle.job.specs.declared.JobAnswer.{JobAnswer}

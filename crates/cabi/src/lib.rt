@@ -7,7 +7,7 @@ ghost use Prim.Native.Nat.{_≤_};
 ghost use lib.Dec.{leb};
 ghost use lib.ListN.{length};
 ghost use Rattle.pairs.specs.Outcome.{found};
-ghost use Rattle.mast.specs.Query.{task, plain};
+ghost use Rattle.queries.specs.Query.{task, plain};
 ghost use Rattle.mast.specs.Largest.{solve, outputOf};
 ghost use Rattle.job.specs.Printed.{solveJob};
 ghost use Rattle.job.specs.Answered.{answerTo, jobOutput};

@@ -35,15 +35,16 @@ use Rattle.agreement.proofs.AnswerLaws.{agree-no-clash}
 use Rattle.agreement.proofs.Promises as agreement
 use Rattle.pairs.specs.Outcome.{Outcome, refused, naming, found, andThen, trio}
 use Rattle.pairs.specs.TwoTrees.{treesOf}
-use Rattle.mast.specs.Query.{Task, apart, together, answerTo, heldBy, eight, requiredOf}
+use Rattle.queries.specs.Query.{Task, withClash, withSet, answerTo, heldBy, disagreement, requiredOf}
 use Rattle.mast.specs.Compare.{missing, clashOf, comparison, compareOther, compareAnswers, compareLists, compare}
 use Rattle.pairs.proofs.StrayLaws.{shared-nowhere}
 use Rattle.pairs.proofs.StepLaws.{then-refused, Unread, trees-first, trees-second, trees-both}
-use Rattle.mast.proofs.WayLaws.{list-unread, list-read, compare-stopped, compare-unlisted, compare-unclaimed, compare-reads, size-first}
+use Rattle.queries.proofs.ListLaws.{list-unread, list-read}
+use Rattle.mast.proofs.WayLaws.{compare-stopped, compare-unlisted, compare-unclaimed, compare-reads, size-first}
 use Rattle.pairs.proofs.StepLaws as step
 use Rattle.mast.proofs.WayLaws as way
 use Rattle.claims.specs.Claim.{IsClaim, Verdict, claimFirstLacks, claimSecondLacks, claimLacks, claimDisagrees, claimSmall, claimPasses, Clear, VerdictIs}
-use Rattle.claims.specs.Judge.{ReadsClaim, fourteen, fifteen, judgedBySize, judgedByThree, judgedByList, verdictOn, judge, judgementOf}
+use Rattle.claims.specs.Judge.{ReadsClaim, claimDisagreement, fifteen, judgedBySize, judgedByThree, judgedByList, verdictOn, judge, judgementOf}
 use Rattle.claims.proofs.VerdictLaws.{bySize, byMissing, verdictOf, verdict-is, verdict-only, passes-clear}
 
 -- the steps from the comparison on are the verdict
@@ -56,7 +57,7 @@ judged-as e s xs ys size (secondLacks n) = refl
 judged-as e s xs ys size (disagree a b c) = go (missing (keysOf e xs) (keysOf e ys) 0)
   where
     go : (o : Option ℕ)
-        → judgedByList (comparison e s xs ys size (apart (record { one = a; two = b; three = c }))) o
+        → judgedByList (comparison e s xs ys size (withClash (record { one = a; two = b; three = c }))) o
         ≡ judgementOf e s xs ys (byMissing o (claimDisagrees a b c))
     go none = refl
     go (some n) = refl
@@ -68,7 +69,7 @@ judged-as e s xs ys size (largest Z) = go (missing (keysOf e xs) (keysOf e ys) 0
     sized false = refl
 
     go : (o : Option ℕ)
-        → judgedByList (comparison e s xs ys size (together Z)) o ≡ judgementOf e s xs ys (byMissing o (bySize (length ys) size))
+        → judgedByList (comparison e s xs ys size (withSet Z)) o ≡ judgementOf e s xs ys (byMissing o (bySize (length ys) size))
     go none = sized (ltb (length ys) size)
     go (some n) = refl
 
@@ -128,7 +129,7 @@ module _ (q : Task) (claim : List ℕ) (s t : Tree) (xs ys : List Token) (read :
   seven-of-list n h = judge-read (secondLacks n) (agreement.seven-promise one two L proper listed n .1 h)
 
   pub eight-of-list : (a b c : Label) → Common one two (setOf L) → IsDisagreement one two L a b c
-      → judge q claim ≡ naming eight (trio E s xs a b c)
+      → judge q claim ≡ naming disagreement (trio E s xs a b c)
   unfolding compareAnswers requiredOf heldBy
   eight-of-list a b c held h = judge-read (disagree a b c) (agreement.eight-names one two L proper listed a b c held .1 h)
 
@@ -250,11 +251,11 @@ module _ (q : Task) (claim : List ℕ) (s t : Tree) (xs ys : List Token) (read :
         ∙ ap (λ (i : ℕ). refused (record { reason = ClaimLacks; body = K; place = i })) (sym (h .1 .2)),
   )
 
-  pub apart-exactly : (a b c : Label)
-      → (judge q claim ≡ naming fourteen (trio E s ys a b c)) ↔ (Clear one two L × VerdictIs one two L Y (claimDisagrees a b c))
+  pub clash-exactly : (a b c : Label)
+      → (judge q claim ≡ naming claimDisagreement (trio E s ys a b c)) ↔ (Clear one two L × VerdictIs one two L Y (claimDisagrees a b c))
   unfolding judgementOf
-  apart-exactly a b c = (
-    λ (e : judge q claim ≡ naming fourteen (trio E s ys a b c)). subst Means e judge-means,
+  clash-exactly a b c = (
+    λ (e : judge q claim ≡ naming claimDisagreement (trio E s ys a b c)). subst Means e judge-means,
     λ (h : Clear one two L × VerdictIs one two L Y (claimDisagrees a b c)). verdict-decides (h .0) (claimDisagrees a b c) (h .1),
   )
 

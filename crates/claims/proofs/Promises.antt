@@ -24,10 +24,10 @@ use Rattle.agreement.specs.Strict.{SameLeaves, IsStray}
 use Rattle.agreement.specs.Places.{placeIn, placeOfNumber}
 use Rattle.agreement.specs.Demand.{Allowed, IsAnswer, IsFirstLacks, IsSecondLacks, IsDisagreement}
 use Rattle.pairs.specs.Outcome.{refused, naming, found, trio}
-use Rattle.mast.specs.Query.{Task, eight}
+use Rattle.queries.specs.Query.{Task, disagreement}
 use Rattle.mast.specs.declared.Named.{Named}
 use Rattle.claims.specs.Claim.{IsClaim, Verdict, claimLacks, claimDisagrees, claimSmall, Clear, VerdictIs}
-use Rattle.claims.specs.Judge.{ReadsClaim, fourteen, fifteen, judge, judgementOf}
+use Rattle.claims.specs.Judge.{ReadsClaim, claimDisagreement, fifteen, judge, judgementOf}
 use Rattle.claims.specs.declared.ClaimAnswer.the-variants as claim-answer
 use Rattle.claims.specs.PaperNumbers.{saidOfClaim}
 use Rattle.claims.proofs.JudgeLaws
@@ -102,7 +102,7 @@ module _ (q : Task) (claim : List ℕ) (s t : Tree) (xs ys : List Token) (read :
   seven-promise = JudgeLaws.seven-of-list q claim s t xs ys read
 
   pub eight-promise : (a b c : Label) → Common one two (setOf L) → IsDisagreement one two L a b c
-      → judge q claim ≡ naming eight (trio (q .options .edition) s xs a b c)
+      → judge q claim ≡ naming disagreement (trio (q .options .edition) s xs a b c)
   eight-promise = JudgeLaws.eight-of-list q claim s t xs ys read
 
   module _ (clear : Clear one two L) where
@@ -132,8 +132,8 @@ module _ (q : Task) (claim : List ℕ) (s t : Tree) (xs ys : List Token) (read :
   thirteen-promise = JudgeLaws.missing-exactly q claim s t xs ys read
 
   pub fourteen-promise : (a b c : Label)
-      → (judge q claim ≡ naming fourteen (trio (q .options .edition) s ys a b c)) ↔ (Clear one two L × VerdictIs one two L Y (claimDisagrees a b c))
-  fourteen-promise = JudgeLaws.apart-exactly q claim s t xs ys read
+      → (judge q claim ≡ naming claimDisagreement (trio (q .options .edition) s ys a b c)) ↔ (Clear one two L × VerdictIs one two L Y (claimDisagrees a b c))
+  fourteen-promise = JudgeLaws.clash-exactly q claim s t xs ys read
 
   pub fifteen-promise : (judge q claim ≡ refused fifteen) ↔ (Clear one two L × VerdictIs one two L Y claimSmall)
   fifteen-promise = JudgeLaws.small-exactly q claim s t xs ys read
@@ -141,8 +141,8 @@ module _ (q : Task) (claim : List ℕ) (s t : Tree) (xs ys : List Token) (read :
 -- "If an answer is an enum, the promises use a definition that gives this paper's number and values for each of its cases."
 pub rows-promise : (n : ℕ) (m : Named) (q : Refusal)
     → (saidOfClaim (claim-answer.Passed n) ≡ value n)
-    × (saidOfClaim (claim-answer.Naming eight m) ≡ rowNaming 8 75 0 (m .first .place ∷ m .second .place ∷ m .third .place ∷ []))
-    × (saidOfClaim (claim-answer.Naming fourteen m) ≡ rowNaming 14 67 0 (m .first .place ∷ m .second .place ∷ m .third .place ∷ []))
+    × (saidOfClaim (claim-answer.Naming disagreement m) ≡ rowNaming 8 75 0 (m .first .place ∷ m .second .place ∷ m .third .place ∷ []))
+    × (saidOfClaim (claim-answer.Naming claimDisagreement m) ≡ rowNaming 14 67 0 (m .first .place ∷ m .second .place ∷ m .third .place ∷ []))
     × (saidOfClaim (claim-answer.Refused q) ≡ row (numberOf (q .reason)) (letterOf (q .body)) (q .place))
 unfolding saidOfClaim
 rows-promise n m q = (refl, refl, refl, refl)

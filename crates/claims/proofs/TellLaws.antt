@@ -16,19 +16,19 @@ use Rattle.mast.specs.declared.CompareAnswer.the-variants as compare-answer
 use Rattle.pairs.specs.Outcome.{Outcome, refused, naming, found, andThen}
 use Rattle.mast.specs.Compare.{Comparison, isThere, placeIf, namedIf, comparedOf}
 use Rattle.claims.specs.declared.ClaimAnswer.the-variants as claim-answer
-use Rattle.claims.specs.Judge.{fourteen, fifteen, judgedBySize, judgedByThree, judgedByList, verdictOn, claimOf}
+use Rattle.claims.specs.Judge.{claimDisagreement, fifteen, judgedBySize, judgedByThree, judgedByList, verdictOn, claimOf}
 
 -- what each answer of the engine comes from
-abbrev pub Told : CompareAnswer → Outcome Comparison → Type 0
-Told (compare-answer.Compared c) x = (y : Comparison) × (compare-answer.Compared c ≡ comparedOf (found y)) × (x ≡ found y)
-Told (compare-answer.Naming q n) x = claim-answer.Naming q n ≡ claimOf (andThen x verdictOn)
-Told (compare-answer.Refused q) x = claim-answer.Refused q ≡ claimOf (andThen x verdictOn)
+abbrev pub CompareTold : CompareAnswer → Outcome Comparison → Type 0
+CompareTold (compare-answer.Compared c) x = (y : Comparison) × (compare-answer.Compared c ≡ comparedOf (found y)) × (x ≡ found y)
+CompareTold (compare-answer.Naming q n) x = claim-answer.Naming q n ≡ claimOf (andThen x verdictOn)
+CompareTold (compare-answer.Refused q) x = claim-answer.Refused q ≡ claimOf (andThen x verdictOn)
 
-pub told-as : (x : Outcome Comparison) (r : CompareAnswer) → r ≡ comparedOf x → Told r x
+pub told-as : (x : Outcome Comparison) (r : CompareAnswer) → r ≡ comparedOf x → CompareTold r x
 unfolding comparedOf andThen claimOf
-told-as x r e = subst (λ (y : CompareAnswer). Told y x) (sym e) (go x)
+told-as x r e = subst (λ (y : CompareAnswer). CompareTold y x) (sym e) (go x)
   where
-    go : (x : Outcome Comparison) → Told (comparedOf x) x
+    go : (x : Outcome Comparison) → CompareTold (comparedOf x) x
     go (refused q) = refl
     go (naming q n) = refl
     go (found y) = (y, refl, refl)
@@ -47,9 +47,9 @@ module _ (c : Compared) (x : Comparison) (h : compare-answer.Compared c ≡ comp
   unfolding comparedOf
   missing-is = ap (λ y. partsOf y .missing) h
 
-  apart-is : c .apart ≡ isThere (x .clash)
+  clashes-is : c .clashes ≡ isThere (x .clash)
   unfolding comparedOf
-  apart-is = ap (λ y. partsOf y .apart) h
+  clashes-is = ap (λ y. partsOf y .clashes) h
 
   named-is : c .named ≡ namedIf (x .edition) (x .first) (x .further) (x .clash)
   unfolding comparedOf
@@ -84,21 +84,21 @@ module _ (c : Compared) (x : Comparison) (h : compare-answer.Compared c ≡ comp
         go (some n) k = clash k all
 
     -- 14
-    pub apart-told : c .apart ≡ true → claim-answer.Naming fourteen (c .named) ≡ claimOf (verdictOn x)
+    pub clash-told : c .clashes ≡ true → claim-answer.Naming claimDisagreement (c .named) ≡ claimOf (verdictOn x)
     unfolding isThere namedIf judgedByThree claimOf
-    apart-told d = rw none-lacking (go (x .clash) apart-is named-is)
+    clash-told d = rw none-lacking (go (x .clash) clashes-is named-is)
       where
-        go : (o : Option Three) → c .apart ≡ isThere o → c .named ≡ namedIf (x .edition) (x .first) (x .further) o
-            → claim-answer.Naming fourteen (c .named) ≡ claimOf (judgedByThree x o)
+        go : (o : Option Three) → c .clashes ≡ isThere o → c .named ≡ namedIf (x .edition) (x .first) (x .further) o
+            → claim-answer.Naming claimDisagreement (c .named) ≡ claimOf (judgedByThree x o)
         go none k m = clash d k
-        go (some r) k m = ap (claim-answer.Naming fourteen) m
+        go (some r) k m = ap (claim-answer.Naming claimDisagreement) m
 
-    module _ (agreed : c .apart ≡ false) where
+    module _ (agreed : c .clashes ≡ false) where
       by-size : verdictOn x ≡ judgedBySize x
       unfolding isThere judgedByThree
-      by-size = rw none-lacking (go (x .clash) apart-is)
+      by-size = rw none-lacking (go (x .clash) clashes-is)
         where
-          go : (o : Option Three) → c .apart ≡ isThere o → judgedByThree x o ≡ judgedBySize x
+          go : (o : Option Three) → c .clashes ≡ isThere o → judgedByThree x o ≡ judgedBySize x
           go none k = refl
           go (some r) k = clash k agreed
 

@@ -20,7 +20,7 @@ use Rattle.agreement.specs.Answer.{Three}
 use Rattle.agreement.specs.Places.{placeOfNumber}
 use Rattle.pairs.specs.Outcome.{Outcome, refused, naming, found, andThen, trio}
 use Rattle.mast.specs.NamedLabels.{namedOf}
-use Rattle.mast.specs.Query.{Task}
+use Rattle.queries.specs.Query.{Task}
 use Rattle.mast.specs.Reads.{Reads}
 use Rattle.mast.specs.Compare.{Comparison, compare}
 use Rattle.claims.specs.Claim.{Verdict, claimFirstLacks, claimSecondLacks, claimLacks, claimDisagrees, claimSmall, claimPasses}
@@ -34,8 +34,8 @@ pub record ReadsClaim (q : Task) (claim : List ℕ) (s t : Tree) (xs ys : List T
   pub claim-is : readListIn (q .options .edition) claim ≡ good ys
 
 -- 14, "C 0"
-abbrev pub fourteen : Refusal
-fourteen = record { reason = ClaimDisagrees; body = C; place = 0 }
+abbrev pub claimDisagreement : Refusal
+claimDisagreement = record { reason = ClaimDisagrees; body = C; place = 0 }
 
 -- 15, "C 0"
 abbrev pub fifteen : Refusal
@@ -48,7 +48,7 @@ judgedBySize c = cond (ltb (length (c .further)) (c .size)) (refused fifteen) (f
 -- "14 for three claimed leaves that disagree"
 unfoldable pub judgedByThree : Comparison → Option Three → Outcome ℕ
 unfolding judgedBySize
-judgedByThree c (some r) = naming fourteen (trio (c .edition) (c .first) (c .further) (r .one) (r .two) (r .three))
+judgedByThree c (some r) = naming claimDisagreement (trio (c .edition) (c .first) (c .further) (r .one) (r .two) (r .three))
 judgedByThree c none = judgedBySize c
 
 -- "13 .., at that label's place in K"
@@ -72,7 +72,7 @@ unfoldable pub judgementOf : Edition → Tree → List Token → List Token → 
 judgementOf e s xs ys (claimFirstLacks n) = refused (record { reason = FirstLacks; body = C; place = placeOfNumber ys n })
 judgementOf e s xs ys (claimSecondLacks n) = refused (record { reason = SecondLacks; body = C; place = placeOfNumber ys n })
 judgementOf e s xs ys (claimLacks n) = refused (record { reason = ClaimLacks; body = K; place = placeOfNumber xs n })
-judgementOf e s xs ys (claimDisagrees a b c) = naming fourteen (trio e s ys a b c)
+judgementOf e s xs ys (claimDisagrees a b c) = naming claimDisagreement (trio e s ys a b c)
 judgementOf e s xs ys claimSmall = refused fifteen
 judgementOf e s xs ys (claimPasses n) = found n
 

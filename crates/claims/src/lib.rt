@@ -11,7 +11,7 @@ use trees::Refusal;
 ghost use mathlib.Core.Path.{_≡_};
 ghost use Rattle.mast.specs.declared.CompareAnswer.the-variants as compare-answer;
 ghost use Rattle.pairs.specs.Outcome.{found};
-ghost use Rattle.mast.specs.Query.{task};
+ghost use Rattle.queries.specs.Query.{task};
 ghost use Rattle.mast.specs.Compare.{Comparison, comparedOf};
 ghost use Rattle.claims.specs.Judge.{verdictOn, judge, claimOf};
 
@@ -33,14 +33,14 @@ fn verdict(c: Compared) -> ClaimAnswer
             place: c.missing,
         });
     }
-    if c.apart {
-        let fourteen = Refusal {
+    if c.clashes {
+        let claimDisagreement = Refusal {
             reason: Reason::ClaimDisagrees,
             body: Body::C,
             place: 0,
         };
         let named = c.named;
-        return ClaimAnswer::Naming(fourteen, named);
+        return ClaimAnswer::Naming(claimDisagreement, named);
     }
     if c.count < c.size {
         return ClaimAnswer::Refused(Refusal {

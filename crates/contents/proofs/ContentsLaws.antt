@@ -18,15 +18,15 @@ use Rattle.trees.proofs.Bools.{bool-cases, clash}
 use Rattle.contents.specs.declared.Head.{Head}
 use Rattle.contents.specs.declared.Layout.{Layout}
 use Rattle.contents.specs.declared.Layout.the-variants as layout
-use Rattle.contents.specs.declared.Listed.{Listed}
-use Rattle.contents.specs.declared.Listed.the-variants as listed
+use Rattle.contents.specs.declared.BodyLength.{BodyLength}
+use Rattle.contents.specs.declared.BodyLength.the-variants as listed
 use Rattle.contents.specs.declared.Next.{Next}
 use Rattle.contents.specs.declared.Next.the-variants as next
 use Rattle.contents.specs.declared.Span.{Span}
 use Rattle.contents.specs.declared.Span.the-variants as span
 use Rattle.contents.specs.declared.Table.{Table}
 use Rattle.contents.specs.Contents.{Bodies, Entry, entries, lookup, part, bytes, line, entryLine, listedText, headLines, linesThen, headed, sizes, lined}
-use Rattle.contents.specs.Contents.{tableText, joinedParts, jobOf, Fits, WellFormed, headAt, wordAfter, sizesAfter, linesAfter, spansAfter, bodiesAfter}
+use Rattle.contents.specs.Contents.{tableText, joinedParts, jobOf, FitsEntries, WellFormed, headAt, wordAfter, sizesAfter, linesAfter, spansAfter, bodiesAfter}
 use Rattle.contents.specs.Contents.{tableOf, spansOf, laidOut, layoutOf, spanIn, bodiesIn, bodiesFrom, bodiesOf, placeOf, bodyPlace, spansFrom, LaidAs}
 use Rattle.contents.proofs.BeginsLaws.{among, Opens}
 use Rattle.contents.proofs.HeadLaws.{opens-past, HeadIs, head-written, head-text}
@@ -39,7 +39,7 @@ none-some x e = let z : _≡_ {A = ℕ} 0 1 = cc in omega arith
 
 -- ---- the text of a table
 
-lined-append : (es : List Entry) (vs : List Listed) (x y : List ℕ) → lined es vs x ++ y ≡ lined es vs (x ++ y)
+lined-append : (es : List Entry) (vs : List BodyLength) (x y : List ℕ) → lined es vs x ++ y ≡ lined es vs (x ++ y)
 lined-append [] vs x y = refl
 lined-append (e ∷ es) [] x y = refl
 lined-append (e ∷ es) (v ∷ vs) x y =
@@ -56,7 +56,7 @@ table-text b =
     ∙ ap (headed (b .head)) (lined-append entries (sizes b) (10 ∷ []) (joinedParts (b .parts)))
 
 -- the first line is that of S
-pub entries-open : (vs : List Listed) (rest : List ℕ) → Fits entries vs → Opens (83 ∷ []) (lined entries vs rest)
+pub entries-open : (vs : List BodyLength) (rest : List ℕ) → FitsEntries entries vs → Opens (83 ∷ []) (lined entries vs rest)
 unfolding entries listedText entryLine line letterOf among
 entries-open [] rest f = absurd f
 entries-open (listed.Absent ∷ vs) rest f = clash refl (f .0)
@@ -111,7 +111,7 @@ module _ (b : Bodies) (fits : WellFormed b) where
   layout-is =
       let end = spans-of .next in
       let at-end : end .at ≡ length job = omega (arith, end .inside, ap (length {A = ℕ}) (end .rest), length-drop (end .at) job) in
-      ap₂ (λ (h : Head) (vs : List Listed). laidOut job (tableOf h (spansAfter job from vs)) (bodiesAfter job from vs)) (head-of .head-is) (lines-of .listed)
+      ap₂ (λ (h : Head) (vs : List BodyLength). laidOut job (tableOf h (spansAfter job from vs)) (bodiesAfter job from vs)) (head-of .head-is) (lines-of .listed)
       ∙ sym (laid-if job (tableOf (b .head) (spansAfter job from (sizes b))) (bodiesAfter job from (sizes b)) (end .at) (end .is) true
       (eq-eqb (end .at) (length job) at-end))
 
@@ -134,7 +134,7 @@ module _ (b : Bodies) (fits : WellFormed b) where
   unfolding bodiesOf bodiesFrom
   contents-written =
       let whole : spansOf (tableOf (b .head) (spansAfter job from (sizes b))) ≡ spansAfter job from (sizes b) =
-      subst (λ (vs : List Listed). spansOf (tableOf (b .head) (spansAfter job from vs)) ≡ spansAfter job from vs) (lines-of .listed)
+      subst (λ (vs : List BodyLength). spansOf (tableOf (b .head) (spansAfter job from vs)) ≡ spansAfter job from vs) (lines-of .listed)
       (four job (b .head) start from) in
       ap (bodiesFrom job) layout-is
       ∙ ap (λ (ps : List (Option (List ℕ))). some (record { head = b .head; parts = ps })) (ap (map (spanIn job)) whole ∙ spans-of .parts)
@@ -170,7 +170,7 @@ module _ (job : List ℕ) (t : Table) (e : layoutOf job ≡ layout.Laid t) where
   abbrev first-line : Next
   first-line = next.At (headAt job .next)
 
-  abbrev vs : List Listed
+  abbrev vs : List BodyLength
   vs = sizesAfter job first-line entries
 
   abbrev first-body : Next
@@ -214,10 +214,10 @@ module _ (job : List ℕ) (t : Table) (e : layoutOf job ≡ layout.Laid t) where
       ap (λ (xs : List Span). record { head = headAt job .head; parts = map (spanIn job) xs }) (four job (headAt job .head) first-line first-body) in
       let sized : sizes b ≡ vs = bodies-took .sizes in
       let text : job ≡ jobOf b =
-      made-text ∙ ap (λ (xs : List Listed). headed (headAt job .head) (lined entries xs (10 ∷ joinedParts parts))) (sym sized) ∙ sym (table-text b) in
+      made-text ∙ ap (λ (xs : List BodyLength). headed (headAt job .head) (lined entries xs (10 ∷ joinedParts parts))) (sym sized) ∙ sym (table-text b) in
       record {
         text = text ∙ ap jobOf (sym whole);
-        fits = subst WellFormed (sym whole) (subst (Fits entries) (sym sized) (all-lines .fits));
+        fits = subst WellFormed (sym whole) (subst (FitsEntries entries) (sym sized) (all-lines .fits));
         inside = subst (AllInside job) (sym (four job (headAt job .head) first-line first-body)) (bodies-took .inside);
       }
 

@@ -11,13 +11,13 @@ use Rattle.trees.specs.Refusals.{letterOf}
 use Rattle.trees.proofs.Bools.{bool-cases}
 use Rattle.decimals.specs.Decimal.{decimalOf}
 use Rattle.contents.specs.declared.Line.{Line}
-use Rattle.contents.specs.declared.Listed.{Listed}
-use Rattle.contents.specs.declared.Listed.the-variants as listed
+use Rattle.contents.specs.declared.BodyLength.{BodyLength}
+use Rattle.contents.specs.declared.BodyLength.the-variants as listed
 use Rattle.contents.specs.declared.Next.{Next}
 use Rattle.contents.specs.declared.Next.the-variants as next
 use Rattle.contents.specs.declared.decimal.Digits.{Digits}
 use Rattle.contents.specs.declared.decimal.Digits.the-variants as digits
-use Rattle.contents.specs.Contents.{digitLimit, Entry, line, entryLine, listedText, lined, FitsLine, Fits, begins, numberAt}
+use Rattle.contents.specs.Contents.{digitLimit, Entry, line, entryLine, listedText, lined, FitsLine, FitsEntries, begins, numberAt}
 use Rattle.contents.specs.Contents.{wordAfter, counted, lineAfter, sizesAfter, linesAfter}
 use Rattle.contents.proofs.BeginsLaws.{begins-own, begins-split, begins-inside, among, Opens, opens-more, opens-own, opens-other}
 use Rattle.contents.proofs.NumberLaws.{number-written, number-took}
@@ -62,11 +62,11 @@ module _ (job : List ℕ) where
       })
 
   -- the line of a body, and what follows it
-  pub record LineIs (from : Next) (e : Entry) (v : Listed) (rest : List ℕ) : Type 0 where
+  pub record LineIs (from : Next) (e : Entry) (v : BodyLength) (rest : List ℕ) : Type 0 where
     pub listed : lineAfter job from e .listed ≡ v
     pub next : Here (lineAfter job from e .next) rest
 
-  line-is : (from : Next) (e : Entry) (v : Listed) (rest : List ℕ) (l : Line) → l ≡ lineAfter job from e → l .listed ≡ v → Here (l .next) rest
+  line-is : (from : Next) (e : Entry) (v : BodyLength) (rest : List ℕ) (l : Line) → l ≡ lineAfter job from e → l .listed ≡ v → Here (l .next) rest
       → LineIs from e v rest
   line-is from e v rest l i a h = record { listed = ap (λ (x : Line). x .listed) (sym i) ∙ a; next = subst (λ (x : Line). Here (x .next) rest) i h }
 
@@ -111,7 +111,7 @@ abbrev pub Apart : List Entry → List ℕ → Type 0
 Apart [] bs = Prim.Unit {0}
 Apart (e ∷ es) bs = (among (letterOf (e .body)) (letters es bs) ≡ false) × Apart es bs
 
-pub opens-lined : (es : List Entry) (vs : List Listed) (rest bs : List ℕ) → Fits es vs → Opens bs rest → Opens (letters es bs) (lined es vs rest)
+pub opens-lined : (es : List Entry) (vs : List BodyLength) (rest bs : List ℕ) → FitsEntries es vs → Opens bs rest → Opens (letters es bs) (lined es vs rest)
 unfolding listedText entryLine line
 opens-lined [] [] rest bs f o = o
 opens-lined [] (v ∷ vs) rest bs f o = absurd f
@@ -122,17 +122,17 @@ opens-lined (e ∷ es) (listed.Bytes n ∷ vs) rest bs f o = opens-own (letterOf
 
 module _ (job : List ℕ) where
   -- the lines of the bodies, and what follows them
-  pub record LinesAre (from : Next) (es : List Entry) (vs : List Listed) (rest : List ℕ) : Type 0 where
+  pub record LinesAre (from : Next) (es : List Entry) (vs : List BodyLength) (rest : List ℕ) : Type 0 where
     pub listed : sizesAfter job from es ≡ vs
     pub next : Here job (linesAfter job from es) rest
 
-  more-lines : (from : Next) (e : Entry) (es : List Entry) (v : Listed) (vs : List Listed) (mid rest : List ℕ) → LineIs job from e v mid
+  more-lines : (from : Next) (e : Entry) (es : List Entry) (v : BodyLength) (vs : List BodyLength) (mid rest : List ℕ) → LineIs job from e v mid
       → LinesAre (lineAfter job from e .next) es vs rest → LinesAre from (e ∷ es) (v ∷ vs) rest
   unfolding sizesAfter linesAfter
   more-lines from e es v vs mid rest l w =
-      record { listed = ap₂ (λ (x : Listed) (xs : List Listed). x ∷ xs) (l .listed) (w .listed); next = w .next }
+      record { listed = ap₂ (λ (x : BodyLength) (xs : List BodyLength). x ∷ xs) (l .listed) (w .listed); next = w .next }
 
-  pub lines-written : (es : List Entry) (vs : List Listed) (rest bs : List ℕ) (from : Next) → Fits es vs → Apart es bs → Opens bs rest
+  pub lines-written : (es : List Entry) (vs : List BodyLength) (rest bs : List ℕ) (from : Next) → FitsEntries es vs → Apart es bs → Opens bs rest
       → Here job from (lined es vs rest) → LinesAre from es vs rest
   unfolding sizesAfter linesAfter listedText
   lines-written [] [] rest bs from f a o h = record { listed = refl; next = h }
@@ -171,22 +171,22 @@ module _ (job : List ℕ) where
           }
 
   -- a line that was read
-  pub record LineTook (from : Next) (e : Entry) (v : Listed) (end : ℕ) : Type 0 where
+  pub record LineTook (from : Next) (e : Entry) (v : BodyLength) (end : ℕ) : Type 0 where
     pub text : Took job from (listedText (e .body) v ++ drop end job) end
     pub fits : FitsLine e v
 
   module _ (e : Entry) (at end : ℕ) where
-    abbrev Told : Line → Type 0
-    Told l = l .next ≡ next.At end → LineTook (next.At at) e (l .listed) end
+    abbrev LineTold : Line → Type 0
+    LineTold l = l .next ≡ next.At end → LineTook (next.At at) e (l .listed) end
 
-    lacking-took : (b : Bool) → e .needed ≡ b → Told (record { listed = listed.Absent; next = cond b next.Broken (next.At at) })
+    lacking-took : (b : Bool) → e .needed ≡ b → LineTold (record { listed = listed.Absent; next = cond b next.Broken (next.At at) })
     unfolding listedText
     lacking-took true n h = absurd (not-broken h)
     lacking-took false n h =
         let p : at ≡ end = cc in
         record { text = record { at = at; is = refl; rest = ap (λ (k : ℕ). drop k job) p; inside = λ i. omega (arith, p, i) }; fits = n }
 
-    counted-took : begins (letterOf (e .body) ∷ 32 ∷ []) (drop at job) ≡ true → (d : Digits) → numberAt job (at + 2) ≡ d → Told (counted job d)
+    counted-took : begins (letterOf (e .body) ∷ 32 ∷ []) (drop at job) ≡ true → (d : Digits) → numberAt job (at + 2) ≡ d → LineTold (counted job d)
     unfolding counted listedText entryLine line
     counted-took b digits.Broken n h = absurd (not-broken h)
     counted-took b (digits.Value m after) n h =
@@ -215,18 +215,18 @@ module _ (job : List ℕ) where
   line-took e (next.At at) end h = go (bool-cases (begins (letterOf (e .body) ∷ 32 ∷ []) (drop at job))) h
     where
       go : (begins (letterOf (e .body) ∷ 32 ∷ []) (drop at job) ≡ true) ⊎ (begins (letterOf (e .body) ∷ 32 ∷ []) (drop at job) ≡ false)
-          → Told e at end (lineAfter job (next.At at) e)
+          → LineTold e at end (lineAfter job (next.At at) e)
       go (inl b) =
-          subst (Told e at end) (line-own job (next.At at) e at refl (letterOf (e .body)) refl b (numberAt job (at + 2)) refl)
+          subst (LineTold e at end) (line-own job (next.At at) e at refl (letterOf (e .body)) refl b (numberAt job (at + 2)) refl)
           (counted-took e at end b (numberAt job (at + 2)) refl)
       go (inr b) =
-          subst (Told e at end) (line-other job (next.At at) e at refl (letterOf (e .body)) refl b (e .needed) refl)
+          subst (LineTold e at end) (line-other job (next.At at) e at refl (letterOf (e .body)) refl b (e .needed) refl)
           (lacking-took e at end (e .needed) refl)
 
   -- the lines that were read
   pub record LinesTook (from : Next) (es : List Entry) (end : ℕ) : Type 0 where
     pub text : Took job from (lined es (sizesAfter job from es) (drop end job)) end
-    pub fits : Fits es (sizesAfter job from es)
+    pub fits : FitsEntries es (sizesAfter job from es)
 
   pub lines-took : (es : List Entry) (from : Next) (end : ℕ) → linesAfter job from es ≡ next.At end → LinesTook from es end
   unfolding sizesAfter linesAfter

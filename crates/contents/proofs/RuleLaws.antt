@@ -18,15 +18,15 @@ use Rattle.contents.specs.declared.Head.{Head}
 use Rattle.contents.specs.declared.Layout.{Layout}
 use Rattle.contents.specs.declared.Layout.the-variants as layout
 use Rattle.contents.specs.declared.Line.{Line}
-use Rattle.contents.specs.declared.Listed.{Listed}
-use Rattle.contents.specs.declared.Listed.the-variants as listed
+use Rattle.contents.specs.declared.BodyLength.{BodyLength}
+use Rattle.contents.specs.declared.BodyLength.the-variants as listed
 use Rattle.contents.specs.declared.Next.{Next}
 use Rattle.contents.specs.declared.Next.the-variants as next
 use Rattle.contents.specs.declared.Stated.{Stated}
 use Rattle.contents.specs.declared.Stated.the-variants as states
 use Rattle.contents.specs.declared.Table.{Table}
 use Rattle.contents.specs.Contents.{digitLimit, Bodies, plain, under, editionOf, Entry, always, perhaps, entries, lookup, part, exchanged, bytes, claimText, claiming, beforeClaim, baseBodies, baseText}
-use Rattle.contents.specs.Contents.{line, entryLine, strictText, editionText, headLines, linesThen, headed, listedOf, sizes, listedText, lined, joinedParts, jobOf, Fits, FitsLine, WellFormed}
+use Rattle.contents.specs.Contents.{line, entryLine, strictText, editionText, headLines, linesThen, headed, listedOf, sizes, listedText, lined, joinedParts, jobOf, FitsEntries, FitsLine, WellFormed}
 use Rattle.contents.specs.Contents.{begins, flagAt, headAt, wordAfter, lineAfter, sizesAfter, linesAfter, placeAfter, spansAfter, bodiesAfter, tableOf, laidOut, layoutOf, bodiesOf, LaidAs, layoutSays}
 use Rattle.contents.proofs.BeginsLaws.{begins-own, begins-both, among, Opens}
 use Rattle.contents.proofs.HeadLaws.{Past, opens-past, stated-past, head-written}
@@ -128,7 +128,7 @@ record Four (parts : List (Option (List ℕ))) : Type 0 where
   c : Option (List ℕ)
   is : parts ≡ s ∷ t ∷ k ∷ c ∷ []
 
-four-parts : (parts : List (Option (List ℕ))) → Fits entries (map listedOf parts) → Four parts
+four-parts : (parts : List (Option (List ℕ))) → FitsEntries entries (map listedOf parts) → Four parts
 unfolding entries
 four-parts [] f = absurd f
 four-parts (s ∷ []) f = absurd (f .1)
@@ -148,7 +148,7 @@ begins-then : (ls : List (List ℕ)) (word text : List ℕ) → begins (linesThe
 begins-then [] word text = refl
 begins-then (l ∷ ls) word text = begins-both l (linesThen ls word) (linesThen ls text) ∙ begins-then ls word text
 
-begins-lined : (es : List Entry) (vs : List Listed) (word text : List ℕ) → begins (lined es vs word) (lined es vs text) ≡ begins word text
+begins-lined : (es : List Entry) (vs : List BodyLength) (word text : List ℕ) → begins (lined es vs word) (lined es vs text) ≡ begins word text
 begins-lined [] vs word text = refl
 begins-lined (e ∷ es) [] word text = refl
 begins-lined (e ∷ es) (v ∷ vs) word text =
@@ -165,12 +165,12 @@ claim-exactly job b e =
     go : Four (b .parts) → job ≡ headed (b .head) (lined entries (sizes b) (10 ∷ joinedParts (b .parts)))
         → (lookup none C entries (b .parts) ≡ none → ⊥) ↔ (begins (headed (b .head) (lined beforeClaim (sizes b) (bytesOf "C"))) job ≡ true)
     go p text =
-        let vs : List Listed = listedOf (p .s) ∷ listedOf (p .t) ∷ listedOf (p .k) ∷ listedOf (p .c) ∷ [] in
+        let vs : List BodyLength = listedOf (p .s) ∷ listedOf (p .t) ∷ listedOf (p .k) ∷ listedOf (p .c) ∷ [] in
         let rest : List ℕ = listedText C (listedOf (p .c)) ++ (10 ∷ joinedParts (b .parts)) in
         let same : sizes b ≡ vs = ap (map listedOf) (p .is) in
         let h : begins (headed (b .head) (lined beforeClaim (sizes b) (bytesOf "C"))) job ≡ begins (bytesOf "C") rest =
-        ap₂ (λ (xs : List Listed) (l : List ℕ). begins (headed (b .head) (lined beforeClaim xs (bytesOf "C"))) l) same
-        (text ∙ ap (λ (xs : List Listed). headed (b .head) (lined entries xs (10 ∷ joinedParts (b .parts)))) same)
+        ap₂ (λ (xs : List BodyLength) (l : List ℕ). begins (headed (b .head) (lined beforeClaim xs (bytesOf "C"))) l) same
+        (text ∙ ap (λ (xs : List BodyLength). headed (b .head) (lined entries xs (10 ∷ joinedParts (b .parts)))) same)
         ∙ begins-then (headLines (b .head)) (lined beforeClaim vs (bytesOf "C")) (lined beforeClaim vs rest)
         ∙ begins-lined beforeClaim vs (bytesOf "C") rest in
         let found : lookup none C entries (b .parts) ≡ p .c = ap (lookup none C entries) (p .is) in
@@ -187,9 +187,9 @@ claiming-fits : (b : Bodies) (claim : Option (List ℕ)) → WellFormed b → le
 unfolding entries exchanged letterOf
 claiming-fits b claim f h =
     let p = four-parts (b .parts) f in
-    let g : Fits entries (map listedOf (p .s ∷ p .t ∷ p .k ∷ p .c ∷ [])) =
-    subst (λ (ps : List (Option (List ℕ))). Fits entries (map listedOf ps)) (p .is) f in
-    subst (λ (ps : List (Option (List ℕ))). Fits entries (map listedOf (exchanged C claim entries ps))) (sym (p .is))
+    let g : FitsEntries entries (map listedOf (p .s ∷ p .t ∷ p .k ∷ p .c ∷ [])) =
+    subst (λ (ps : List (Option (List ℕ))). FitsEntries entries (map listedOf ps)) (p .is) f in
+    subst (λ (ps : List (Option (List ℕ))). FitsEntries entries (map listedOf (exchanged C claim entries ps))) (sym (p .is))
     (g .0, (g .1 .0, (g .1 .1 .0, (claim-fits claim h, tt))))
 
 pub claim-exchanged : (job : List ℕ) (b : Bodies) → bodiesOf job ≡ some b → (claim : Option (List ℕ)) → length (bytes claim) < 10 ^ digitLimit
@@ -214,7 +214,7 @@ unfolding linesAfter lineAfter
 lines-broken job [] = refl
 lines-broken job (e ∷ es) = lines-broken job es
 
-spans-broken : (job : List ℕ) (vs : List Listed) → bodiesAfter job next.Broken vs ≡ next.Broken
+spans-broken : (job : List ℕ) (vs : List BodyLength) → bodiesAfter job next.Broken vs ≡ next.Broken
 unfolding bodiesAfter placeAfter
 spans-broken job [] = refl
 spans-broken job (v ∷ vs) = spans-broken job vs
@@ -224,7 +224,7 @@ end-due : (job : List ℕ) → wordAfter job (linesAfter job (next.At (headAt jo
 unfolding layoutOf laidOut
 end-due job e =
     let start : Next = next.At (headAt job .next) in
-    let vs : List Listed = sizesAfter job start entries in
+    let vs : List BodyLength = sizesAfter job start entries in
     ap (λ (n : Next). laidOut job (tableOf (headAt job .head) (spansAfter job n vs)) (bodiesAfter job n vs)) e
     ∙ ap (laidOut job (tableOf (headAt job .head) (spansAfter job next.Broken vs))) (spans-broken job vs)
 
@@ -277,7 +277,7 @@ early-edition stated said rest =
     letter-due h 115 text (λ e. omega arith) (stated-past h (115 ∷ text) said)
 
 -- after the lines of some bodies
-module _ (h : Head) (es : List Entry) (vs : List Listed) (fits : Fits es vs) (x : ℕ) (rest : List ℕ) (apart : Apart es (x ∷ [])) where
+module _ (h : Head) (es : List Entry) (vs : List BodyLength) (fits : FitsEntries es vs) (x : ℕ) (rest : List ℕ) (apart : Apart es (x ∷ [])) where
   abbrev job : List ℕ
   job = headed h (lined es vs (x ∷ rest))
 
@@ -291,7 +291,7 @@ pub late-edition : (h : Head) (n : ℕ) → n < 10 ^ digitLimit → (rest : List
 unfolding entries linesAfter listedText entryLine line letterOf bytesOf among
 late-edition h n small rest =
     let es : List Entry = always S ∷ [] in
-    let vs : List Listed = listed.Bytes n ∷ [] in
+    let vs : List BodyLength = listed.Bytes n ∷ [] in
     let w = lines-past h es vs (small, tt) 69 rest (refl, tt) refl in
     lines-due (headed h (lined es vs (69 ∷ rest)))
     (line-due (headed h (lined es vs (69 ∷ rest))) _ (always T) (drop 2 entries) (69 ∷ rest) refl (w .next)
@@ -302,7 +302,7 @@ pub early-claim : (h : Head) (m n : ℕ) → m < 10 ^ digitLimit → n < 10 ^ di
 unfolding entries linesAfter listedText entryLine line letterOf bytesOf among
 early-claim h m n a b rest =
     let es : List Entry = always S ∷ always T ∷ [] in
-    let vs : List Listed = listed.Bytes m ∷ listed.Bytes n ∷ [] in
+    let vs : List BodyLength = listed.Bytes m ∷ listed.Bytes n ∷ [] in
     let w = lines-past h es vs (a, (b, tt)) 67 rest (refl, (refl, tt)) refl in
     lines-due (headed h (lined es vs (67 ∷ rest)))
     (line-due (headed h (lined es vs (67 ∷ rest))) _ (always K) (drop 3 entries) (67 ∷ rest) refl (w .next)
@@ -312,7 +312,7 @@ pub second-claim : (h : Head) (m n k c : ℕ) → m < 10 ^ digitLimit → n < 10
     → layoutOf (headed h (entryLine S m ++ (entryLine T n ++ (entryLine K k ++ (entryLine C c ++ (bytesOf "C" ++ rest)))))) ≡ layout.Broken
 unfolding entries linesAfter listedText entryLine line letterOf bytesOf among
 second-claim h m n k c a b d e rest =
-    let vs : List Listed = listed.Bytes m ∷ listed.Bytes n ∷ listed.Bytes k ∷ [] in
+    let vs : List BodyLength = listed.Bytes m ∷ listed.Bytes n ∷ listed.Bytes k ∷ [] in
     let text : List ℕ = headed h (lined beforeClaim vs (entryLine C c ++ (67 ∷ rest))) in
     let past : Next = linesAfter text (next.At (headAt text .next)) beforeClaim in
     let w = lines-past h beforeClaim vs (a, (b, (d, tt))) 67 (((32 ∷ decimalOf c) ++ (10 ∷ [])) ++ (67 ∷ rest)) (refl, (refl, (refl, tt))) refl in

@@ -15,8 +15,8 @@ use Rattle.trees.specs.Refusals.{letterOf}
 use Rattle.trees.specs.Stored.{partOf}
 use Rattle.trees.specs.Words.{Within}
 use Rattle.trees.proofs.Bools.{bool-cases}
-use Rattle.contents.specs.declared.Listed.{Listed}
-use Rattle.contents.specs.declared.Listed.the-variants as listed
+use Rattle.contents.specs.declared.BodyLength.{BodyLength}
+use Rattle.contents.specs.declared.BodyLength.the-variants as listed
 use Rattle.contents.specs.declared.Next.{Next}
 use Rattle.contents.specs.declared.Next.the-variants as next
 use Rattle.contents.specs.declared.Placed.{Placed}
@@ -83,12 +83,12 @@ module _ (job : List ℕ) where
   AllInside (s ∷ ss) = Inside s × AllInside ss
 
   -- one body that was read
-  record PlaceTook (from : Next) (v : Listed) (s : Span) (end : ℕ) : Type 0 where
+  record PlaceTook (from : Next) (v : BodyLength) (s : Span) (end : ℕ) : Type 0 where
     text : Took job from (bytes (spanIn job s) ++ drop end job) end
     size : listedOf (spanIn job s) ≡ v
     inside : Inside s
 
-  place-took : (from : Next) (v : Listed) (end : ℕ) → placeAfter job from v .next ≡ next.At end
+  place-took : (from : Next) (v : BodyLength) (end : ℕ) → placeAfter job from v .next ≡ next.At end
       → PlaceTook from v (placeAfter job from v .span) end
   unfolding placeAfter spanIn
   place-took next.Broken v end h = absurd (not-broken h)
@@ -124,12 +124,12 @@ module _ (job : List ℕ) where
             inside = fits;
           })
 
-  pub record SpansTook (from : Next) (vs : List Listed) (end : ℕ) : Type 0 where
+  pub record SpansTook (from : Next) (vs : List BodyLength) (end : ℕ) : Type 0 where
     pub text : Took job from (joinedParts (map (spanIn job) (spansAfter job from vs))) end
     pub sizes : map listedOf (map (spanIn job) (spansAfter job from vs)) ≡ vs
     pub inside : AllInside (spansAfter job from vs)
 
-  pub spans-took : (vs : List Listed) (from : Next) (end : ℕ) → bodiesAfter job from vs ≡ next.At end → drop end job ≡ [] → SpansTook from vs end
+  pub spans-took : (vs : List BodyLength) (from : Next) (end : ℕ) → bodiesAfter job from vs ≡ next.At end → drop end job ≡ [] → SpansTook from vs end
   unfolding joinedParts spansAfter bodiesAfter
   spans-took [] from end h e = record { text = record { at = end; is = h; rest = e; inside = λ i. i }; sizes = refl; inside = tt }
   spans-took (v ∷ vs) from end h e =
@@ -143,7 +143,7 @@ module _ (job : List ℕ) where
               rest = p .text .rest ∙ ap (λ (x : List ℕ). bytes (spanIn job (placeAfter job from v .span)) ++ x) (more .text .rest);
               inside = λ i. more .text .inside (p .text .inside i);
             };
-        sizes = ap₂ (λ (x : Listed) (xs : List Listed). x ∷ xs) (p .size) (more .sizes);
+        sizes = ap₂ (λ (x : BodyLength) (xs : List BodyLength). x ∷ xs) (p .size) (more .sizes);
         inside = (p .inside, more .inside);
       }
 

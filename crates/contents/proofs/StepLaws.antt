@@ -17,8 +17,8 @@ use Rattle.contents.specs.declared.HeadAt.{HeadAt}
 use Rattle.contents.specs.declared.Layout.{Layout}
 use Rattle.contents.specs.declared.Layout.the-variants as layout
 use Rattle.contents.specs.declared.Line.{Line}
-use Rattle.contents.specs.declared.Listed.{Listed}
-use Rattle.contents.specs.declared.Listed.the-variants as listed
+use Rattle.contents.specs.declared.BodyLength.{BodyLength}
+use Rattle.contents.specs.declared.BodyLength.the-variants as listed
 use Rattle.contents.specs.declared.Next.{Next}
 use Rattle.contents.specs.declared.Next.the-variants as next
 use Rattle.contents.specs.declared.Placed.{Placed}
@@ -86,7 +86,7 @@ module _ (job : List ℕ) (d : Digits) where
   unfolding counted
   counted-value n at e end h = rw (e, h) refl
 
-module _ (job : List ℕ) (from : Next) (v : Listed) where
+module _ (job : List ℕ) (from : Next) (v : BodyLength) where
   pub place-broken : from ≡ next.Broken → nowhere ≡ placeAfter job from v
   unfolding placeAfter
   place-broken f = rw f refl

@@ -23,8 +23,8 @@ use Rattle.contents.specs.declared.Head.{Head}
 use Rattle.contents.specs.declared.HeadAt.{HeadAt}
 use Rattle.contents.specs.declared.StatedAt.{StatedAt}
 use Rattle.contents.specs.declared.Flag.{Flag}
-use Rattle.contents.specs.declared.Listed.{Listed}
-use Rattle.contents.specs.declared.Listed.the-variants as listed
+use Rattle.contents.specs.declared.BodyLength.{BodyLength}
+use Rattle.contents.specs.declared.BodyLength.the-variants as listed
 use Rattle.contents.specs.declared.Span.{Span}
 use Rattle.contents.specs.declared.Span.the-variants as span
 use Rattle.contents.specs.declared.Next.{Next}
@@ -177,21 +177,21 @@ abbrev pub headed : Head → List ℕ → List ℕ
 headed h rest = linesThen (headLines h) rest
 
 -- what a job lists of a body: "Each n is the body's length in bytes"
-abbrev pub listedOf : Option (List ℕ) → Listed
+abbrev pub listedOf : Option (List ℕ) → BodyLength
 listedOf none = listed.Absent
 listedOf (some x) = listed.Bytes (length x)
 
-abbrev pub sizes : Bodies → List Listed
+abbrev pub sizes : Bodies → List BodyLength
 sizes b = map listedOf (b .parts)
 
 -- the line of a body, or none
-unfoldable pub listedText : Body → Listed → List ℕ
+unfoldable pub listedText : Body → BodyLength → List ℕ
 unfolding entryLine
 listedText body listed.Absent = []
 listedText body (listed.Bytes n) = entryLine body n
 
 -- the lines of the bodies, then these bytes
-abbrev pub lined : List Entry → List Listed → List ℕ → List ℕ
+abbrev pub lined : List Entry → List BodyLength → List ℕ → List ℕ
 lined [] vs rest = rest
 lined (e ∷ es) [] rest = rest
 lined (e ∷ es) (v ∷ vs) rest = listedText (e .body) v ++ lined es vs rest
@@ -212,18 +212,18 @@ unfolding tableText joinedParts
 jobOf b = tableText b ++ joinedParts (b .parts)
 
 -- a body that a job needs is listed, and a length has one to five digits
-abbrev pub FitsLine : Entry → Listed → Type 0
+abbrev pub FitsLine : Entry → BodyLength → Type 0
 FitsLine e listed.Absent = e .needed ≡ false
 FitsLine e (listed.Bytes n) = n < 10 ^ digitLimit
 
-abbrev pub Fits : List Entry → List Listed → Type 0
-Fits [] [] = Prim.Unit {0}
-Fits [] (v ∷ vs) = ⊥
-Fits (e ∷ es) [] = ⊥
-Fits (e ∷ es) (v ∷ vs) = FitsLine e v × Fits es vs
+abbrev pub FitsEntries : List Entry → List BodyLength → Type 0
+FitsEntries [] [] = Prim.Unit {0}
+FitsEntries [] (v ∷ vs) = ⊥
+FitsEntries (e ∷ es) [] = ⊥
+FitsEntries (e ∷ es) (v ∷ vs) = FitsLine e v × FitsEntries es vs
 
 abbrev pub WellFormed : Bodies → Type 0
-WellFormed b = Fits entries (sizes b)
+WellFormed b = FitsEntries entries (sizes b)
 
 -- ---- how a job is read
 
@@ -294,7 +294,7 @@ lineAfter job (next.At at) e =
 lineAfter job next.Broken e = brokenLine
 
 -- the lines of the bodies one after another: what they list, and the place after them
-unfoldable pub sizesAfter : List ℕ → Next → List Entry → List Listed
+unfoldable pub sizesAfter : List ℕ → Next → List Entry → List BodyLength
 unfolding lineAfter
 sizesAfter job from [] = []
 sizesAfter job from (e ∷ es) = lineAfter job from e .listed ∷ sizesAfter job (lineAfter job from e .next) es
@@ -309,19 +309,19 @@ abbrev pub nowhere : Placed
 nowhere = record { span = span.Absent; next = next.Broken }
 
 -- a body of the listed length, in the job
-unfoldable pub placeAfter : List ℕ → Next → Listed → Placed
+unfoldable pub placeAfter : List ℕ → Next → BodyLength → Placed
 placeAfter job (next.At at) listed.Absent = record { span = span.Absent; next = next.At at }
 placeAfter job (next.At at) (listed.Bytes n) =
     cond (leb (at + n) (length job)) (record { span = span.At at n; next = next.At (at + n) }) nowhere
 placeAfter job next.Broken v = nowhere
 
 -- the bodies one after another: where they are, and the place after them
-unfoldable pub spansAfter : List ℕ → Next → List Listed → List Span
+unfoldable pub spansAfter : List ℕ → Next → List BodyLength → List Span
 unfolding placeAfter
 spansAfter job from [] = []
 spansAfter job from (v ∷ vs) = placeAfter job from v .span ∷ spansAfter job (placeAfter job from v .next) vs
 
-unfoldable pub bodiesAfter : List ℕ → Next → List Listed → Next
+unfoldable pub bodiesAfter : List ℕ → Next → List BodyLength → Next
 unfolding placeAfter
 bodiesAfter job from [] = from
 bodiesAfter job from (v ∷ vs) = bodiesAfter job (placeAfter job from v .next) vs
@@ -350,7 +350,7 @@ unfoldable pub layoutOf : List ℕ → Layout
 unfolding headAt entries sizesAfter linesAfter wordAfter line spansAfter bodiesAfter laidOut
 layoutOf job =
     let h : HeadAt = headAt job in
-    let vs : List Listed = sizesAfter job (next.At (h .next)) entries in
+    let vs : List BodyLength = sizesAfter job (next.At (h .next)) entries in
     let from : Next = wordAfter job (linesAfter job (next.At (h .next)) entries) (line []) in
     laidOut job (tableOf (h .head) (spansAfter job from vs)) (bodiesAfter job from vs)
 
@@ -384,7 +384,7 @@ bodyPlace body (layout.Laid t) = placeOf (lookup span.Absent body entries (spans
 bodyPlace body layout.Broken = 0
 
 -- where bodies of these lengths are, one after another from a place on
-unfoldable pub spansFrom : ℕ → List Listed → List Span
+unfoldable pub spansFrom : ℕ → List BodyLength → List Span
 spansFrom at [] = []
 spansFrom at (listed.Absent ∷ vs) = span.Absent ∷ spansFrom at vs
 spansFrom at (listed.Bytes n ∷ vs) = span.At at n ∷ spansFrom (at + n) vs

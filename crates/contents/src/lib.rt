@@ -71,14 +71,14 @@ pub struct HeadAt {
 }
 
 // What a job lists of a body: no line, or its length in bytes.
-pub enum Listed {
+pub enum BodyLength {
     Absent,
     Bytes(usize),
 }
 
 // What is listed of a body, and what comes after its line.
 pub struct Line {
-    pub listed: Listed,
+    pub listed: BodyLength,
     pub next: Next,
 }
 
@@ -182,7 +182,7 @@ fn broken_line() -> Line
     ensures { λ r. ⌜ r ≡ brokenLine ⌝ }
 {
     Line {
-        listed: Listed::Absent,
+        listed: BodyLength::Absent,
         next: Next::Broken,
     }
 }
@@ -202,7 +202,7 @@ fn line_after(job: &[u8], from: Line, body: Body, needed: bool) -> Line
             return broken_line();
         }
         return Line {
-            listed: Listed::Absent,
+            listed: BodyLength::Absent,
             next: Next::At(at),
         };
     }
@@ -211,7 +211,7 @@ fn line_after(job: &[u8], from: Line, body: Body, needed: bool) -> Line
         return broken_line();
     };
     Line {
-        listed: Listed::Bytes(n),
+        listed: BodyLength::Bytes(n),
         next: word_after(job, Next::At(end), b"\n"),
     }
 }
@@ -235,7 +235,7 @@ fn place_after(job: &[u8], from: Placed, line: Line) -> Placed
         return nowhere();
     };
     let listed = line.listed;
-    let Listed::Bytes(n) = listed else {
+    let BodyLength::Bytes(n) = listed else {
         return Placed {
             span: Span::Absent,
             next: Next::At(at),
@@ -283,7 +283,7 @@ pub fn contents(job: &[u8]) -> Layout
 {
     let front = head_at(job);
     let start = Line {
-        listed: Listed::Absent,
+        listed: BodyLength::Absent,
         next: Next::At(front.next),
     };
     let first = line_after(job, start, Body::S, true);

@@ -29,7 +29,7 @@ use Rattle.mast.specs.declared.LargestResult.{LargestResult}
 use Rattle.mast.specs.declared.Named.{Named}
 use Rattle.pairs.specs.Outcome.{Outcome, refused, naming, found, andThen, Trio}
 use Rattle.mast.specs.NamedLabels.{namedLabel, namedOf}
-use Rattle.mast.specs.Query.{Task, task}
+use Rattle.queries.specs.Query.{Task, task}
 use Rattle.mast.specs.Largest.{Solution, solutionText, solve, setPlaces, largestOf, outputOf}
 use Rattle.claims.specs.declared.ClaimAnswer.{ClaimAnswer}
 use Rattle.claims.specs.declared.ClaimAnswer.the-variants as said
@@ -42,10 +42,12 @@ use Rattle.contents.specs.declared.Span.{Span}
 use Rattle.contents.specs.declared.Span.the-variants as span
 use Rattle.contents.specs.Contents.{Bodies, entries, lookup, part, bytes, firstText, secondText, listText, claimText, editionOf, layoutOf, spanIn, bodiesFrom, bodiesOf, placeOf, bodyPlace}
 use Rattle.contents.proofs.ContentsLaws.{body-ends}
-use Rattle.job.specs.Printed.{Reply, solved, setReply, claimReply, recordLines, replyLines, solveTask, solveBodies, solveJob, jobLimit}
+use Rattle.job.specs.Printed.{Reply, solved, setReply, claimReply, replyLines, solveTask, solveBodies, solveJob, jobLimit}
+use Rattle.lines.specs.Lines.{recordLines, labelsIn}
 use Rattle.job.specs.declared.Begin.{Begin}
-use Rattle.job.specs.Answered.{lineOutput, recordAnswer, beginIn, ofClaim, baseOf, movedBy, answered, answerTo, jobOutput}
-use Rattle.job.specs.Areas.{labelsIn, Near}
+use Rattle.lines.specs.Output.{lineOutput}
+use Rattle.job.specs.Answered.{recordAnswer, beginIn, ofClaim, baseOf, movedBy, answered, answerTo, jobOutput}
+use Rattle.job.specs.NamedPlaces.{Near}
 use Rattle.job.proofs.ShownLaws.{labels-are, reply-lines}
 use Rattle.job.proofs.SolvedLaws.{NamedBy, From, solution-from, Judged, judged-from, set-few, set-shown, three-in, label-listed, three-shown}
 

@@ -26,17 +26,19 @@ use Rattle.agreement.proofs.PlaceLaws.{listed-key, within-part}
 use Rattle.mast.specs.declared.Named.{Named}
 use Rattle.pairs.specs.Outcome.{Outcome, refused, naming, found, andThen, Trio, trio}
 use Rattle.mast.specs.NamedLabels.{namedLabel, namedOf}
-use Rattle.mast.specs.Query.{eight}
+use Rattle.queries.specs.Query.{disagreement}
 use Rattle.mast.specs.Largest.{Solution, solution, solutionText, solve}
-use Rattle.claims.specs.Judge.{fourteen, judge}
+use Rattle.claims.specs.Judge.{claimDisagreement, judge}
 use Rattle.job.specs.declared.JobAnswer.{JobAnswer}
 use Rattle.job.specs.declared.JobAnswer.the-variants as job-answer
-use Rattle.job.specs.declared.LineAnswer.{LineAnswer}
-use Rattle.job.specs.declared.LineAnswer.the-variants.{Written, TooShort}
+use Rattle.lines.specs.declared.LineAnswer.{LineAnswer}
+use Rattle.lines.specs.declared.LineAnswer.the-variants.{Written, TooShort}
 use Rattle.contents.specs.Contents.{Bodies, bytes, firstText, listText, claimText, bodiesOf}
 use Rattle.contents.proofs.Promises.{body-promise}
-use Rattle.job.specs.Printed.{jobLimit, taskOf, Reply, setReply, claimReply, solveTask, solveBodies, solveJob, recordLines, replyLines, printedOf, printed}
-use Rattle.job.specs.Answered.{labelIn, lineAnswer, linesAnswer, recordAnswer, namedLine, beginIn, ofClaim, baseOf, movedLabel, movedBy, answered, answerTo}
+use Rattle.job.specs.Printed.{jobLimit, taskOf, Reply, setReply, claimReply, solveTask, solveBodies, solveJob, replyLines, printedOf, printed}
+use Rattle.lines.specs.Lines.{recordLines, labelIn, namedLine}
+use Rattle.lines.specs.Output.{lineAnswer}
+use Rattle.job.specs.Answered.{linesAnswer, recordAnswer, beginIn, ofClaim, baseOf, movedLabel, movedBy, answered, answerTo}
 use Rattle.job.proofs.AnswerLaws.{list-base}
 use Rattle.job.proofs.ShownLaws.{Stands, shown-label, three-listed, set-printed, naming-printed}
 use Rattle.job.proofs.SolvedLaws.{NamedBy, From, solution-from, Judged, judged-from, three-in, three-held, three-shown, label-listed}
@@ -175,13 +177,13 @@ naming-line job room q n e = subst (NamedLine job (printedOf (solveJob job))) e 
     go (refused p) w = tt
 
 module _ (job : List ℕ) (e : Edition) (s : Tree) (xs : List Token) (a b c : Label) where
-  pub eight-shown : solveJob job ≡ naming eight (trio e s xs a b c) → (x : Label) → isIn x (a ∷ b ∷ c ∷ []) ≡ true
+  pub eight-shown : solveJob job ≡ naming disagreement (trio e s xs a b c) → (x : Label) → isIn x (a ∷ b ∷ c ∷ []) ≡ true
       → Within job (beginIn job .list + placeOfLabel (foldedList e xs) 0 x) (tokenOfKey e xs x) × (key e (tokenOfKey e xs x) ≡ x)
       × Within job (beginIn job .tree + placeIn (folded e s) 0 x) (spelledIn e s x) × (key e (spelledIn e s x) ≡ x)
   unfolding baseOf
   eight-shown k = labels-shown job (beginIn job .list) (trio e s xs a b c) (subst (JobNames job) k (job-names job))
 
-  pub fourteen-shown : solveJob job ≡ naming fourteen (trio e s xs a b c) → (x : Label) → isIn x (a ∷ b ∷ c ∷ []) ≡ true
+  pub fourteen-shown : solveJob job ≡ naming claimDisagreement (trio e s xs a b c) → (x : Label) → isIn x (a ∷ b ∷ c ∷ []) ≡ true
       → Within job (beginIn job .claim + placeOfLabel (foldedList e xs) 0 x) (tokenOfKey e xs x) × (key e (tokenOfKey e xs x) ≡ x)
       × Within job (beginIn job .tree + placeIn (folded e s) 0 x) (spelledIn e s x) × (key e (spelledIn e s x) ≡ x)
   unfolding baseOf

@@ -27,17 +27,18 @@ use Rattle.agreement.specs.Places.{spelledIn, nameIn}
 use Rattle.agreement.proofs.EditionText.{one-text-in, spelled-good}
 use Rattle.agreement.proofs.SetLaws.{within-few}
 use Rattle.claims.specs.Claim.{Verdict, claimFirstLacks, claimSecondLacks, claimLacks, claimDisagrees, claimSmall, claimPasses, Clear, VerdictIs}
-use Rattle.claims.specs.Judge.{fourteen, judgementOf}
+use Rattle.claims.specs.Judge.{claimDisagreement, judgementOf}
 use Rattle.claims.proofs.Promises.{passing-is-clear}
 use Rattle.contents.specs.Contents.{claimText, line}
 use Rattle.decimals.specs.Decimal.{decimalOf}
 use Rattle.pairs.specs.Outcome.{Outcome, refused, naming, found, andThen, Trio, trio}
-use Rattle.mast.specs.Query.{eight}
+use Rattle.queries.specs.Query.{disagreement}
 use Rattle.mast.specs.Largest.{Solution, solution, solutionText}
-use Rattle.job.specs.Printed.{Reply, solved, passed, setReply, claimReply, refusedWords, setLines, recordLines, namingLine, threeLine, claimLine}
-use Rattle.job.specs.Printed.{eightLine, fourteenLine, solveJob, printedOf, printed}
-use Rattle.job.specs.JobOutcome.{Asks, SetAnswered, EightAnswered, ClaimAnswered, FourteenAnswered, JobOutcome}
-use Rattle.job.specs.JobOutcome.{too-long, no-contents, first-fault, second-fault, list-fault, claim-fault, stray-first, stray-second, first-lacks, second-lacks, disagreement, largest-set, judged}
+use Rattle.job.specs.Printed.{Reply, solved, passed, setReply, claimReply}
+use Rattle.lines.specs.Lines.{refusedWords, refusedLine, setLines, recordLines, namingLine, threeLine, claimLine}
+use Rattle.job.specs.Printed.{disagreementLine, claimDisagreementLine, solveJob, printedOf, printed}
+use Rattle.job.specs.JobOutcome.{Asks, SetAnswered, DisagreementAnswered, ClaimAnswered, ClaimDisagreementAnswered, JobOutcome}
+use Rattle.job.specs.JobOutcome.{too-long, no-contents, first-fault, second-fault, list-fault, claim-fault, stray-first, stray-second, first-lacks, second-lacks, three-disagree, largest-set, judged}
 use Rattle.job.proofs.OutcomeLaws.{outcome-exactly, claim-some}
 use Rattle.job.proofs.ReadBack.{kept-line, lines-back, refusal-no-three, three-back, claim-back}
 use Rattle.job.proofs.RoomLaws.{kept-short}
@@ -80,12 +81,12 @@ three-writable : (e : Edition) (s : Tree) → ValidIn e s → (a b c : Label)
 three-writable e s valid a b c =
     writable-names (spelledIn e s) (a ∷ b ∷ c ∷ []) (λ (x : Label) (h : isIn x (a ∷ b ∷ c ∷ []) ≡ true). spelled-good e s x valid)
 
-pub eight-writable : {job : List ℕ} {u v w : Label} → EightAnswered job u v w → writableLabels (u ∷ v ∷ w ∷ []) ≡ true
+pub eight-writable : {job : List ℕ} {u v w : Label} → DisagreementAnswered job u v w → writableLabels (u ∷ v ∷ w ∷ []) ≡ true
 eight-writable k =
     rw (k .one-is, k .two-is, k .three-is)
     (three-writable (k .e) (k .s) (k .asked .first .valid) (k .a) (k .b) (k .c))
 
-pub fourteen-writable : {job : List ℕ} {u v w : Label} → FourteenAnswered job u v w → writableLabels (u ∷ v ∷ w ∷ []) ≡ true
+pub fourteen-writable : {job : List ℕ} {u v w : Label} → ClaimDisagreementAnswered job u v w → writableLabels (u ∷ v ∷ w ∷ []) ≡ true
 fourteen-writable k =
     rw (k .one-is, k .two-is, k .three-is)
     (three-writable (k .e) (k .s) (k .asked .first .valid) (k .a) (k .b) (k .c))
@@ -113,7 +114,7 @@ NamesMeant P n =
 
 abbrev pub Meant : List ℕ → Outcome Reply → Type 0
 Meant job (found x) = MeantFor job x
-Meant job (naming q n) = ((q ≡ eight) × NamesMeant (EightAnswered job) n) ⊎ ((q ≡ fourteen) × NamesMeant (FourteenAnswered job) n)
+Meant job (naming q n) = ((q ≡ disagreement) × NamesMeant (DisagreementAnswered job) n) ⊎ ((q ≡ claimDisagreement) × NamesMeant (ClaimDisagreementAnswered job) n)
 Meant job (refused q) = Prim.Unit {0}
 
 module _ (job : List ℕ) where
@@ -161,7 +162,7 @@ module _ (job : List ℕ) where
   meant x (stray-second b held l s t p q y a o) = tt
   meant x (first-lacks e s t xs c asks n o) = tt
   meant x (second-lacks e s t xs c asks n o) = tt
-  meant x (disagreement e s t xs z asks a b c held o) =
+  meant x (three-disagree e s t xs z asks a b c held o) =
       inl (
         refl,
         record {
@@ -218,7 +219,7 @@ unfolding namingLine refusedWords line bytesOf
 three-opens q a b c = refl
 
 refusal-opens : (q : Refusal) → firstByte (printedOf (refused q)) ≡ 114
-unfolding printedOf refusedWords line bytesOf
+unfolding printedOf refusedLine refusedWords line bytesOf
 refusal-opens q = refl
 
 -- what is printed of an outcome, in these forms
@@ -233,7 +234,7 @@ passed-opens : (n : ℕ) → firstByte (printedOf (claimReply n)) ≡ 99
 passed-opens n = ap firstByte (claim-printed n) ∙ claim-opens n
 
 -- `refused 8` and `refused 14`
-eight-fourteen : (a b c x y z : Label) → eightLine a b c ≡ fourteenLine x y z → ⊥
+eight-fourteen : (a b c x y z : Label) → disagreementLine a b c ≡ claimDisagreementLine x y z → ⊥
 unfolding namingLine refusedWords line bytesOf numberOf decimalOf
 eight-fourteen a b c x y z e =
     let other : _≡_ {A = ℕ} 56 49 = ap (λ (l : List ℕ). getD l 8 0) e in
@@ -302,44 +303,44 @@ module _ (job : List ℕ) (u v w : Label) where
   only-naming p G (refused q) m f k = absurd (refusal-no-three q p u v w k)
 
   module _ (can : writableLabels (u ∷ v ∷ w ∷ []) ≡ true) where
-    eight-from : (q : Refusal) (n : Trio) → Meant job (naming q n) → printedOf (naming q n) ≡ eightLine u v w → EightAnswered job u v w
+    eight-from : (q : Refusal) (n : Trio) → Meant job (naming q n) → printedOf (naming q n) ≡ disagreementLine u v w → DisagreementAnswered job u v w
     eight-from q n (inl m) k =
-        let z = three-back eight u v w _ _ _ can (eight-writable (m .1)) (named-as eight q n _ (m .0) k) in
+        let z = three-back disagreement u v w _ _ _ can (eight-writable (m .1)) (named-as disagreement q n _ (m .0) k) in
         rw (z .0, z .1, z .2) (m .1)
-    eight-from q n (inr m) k = absurd (eight-fourteen u v w _ _ _ (named-as fourteen q n _ (m .0) k))
+    eight-from q n (inr m) k = absurd (eight-fourteen u v w _ _ _ (named-as claimDisagreement q n _ (m .0) k))
 
-    fourteen-from : (q : Refusal) (n : Trio) → Meant job (naming q n) → printedOf (naming q n) ≡ fourteenLine u v w
-        → FourteenAnswered job u v w
-    fourteen-from q n (inl m) k = absurd (eight-fourteen _ _ _ u v w (sym (named-as eight q n _ (m .0) k)))
+    fourteen-from : (q : Refusal) (n : Trio) → Meant job (naming q n) → printedOf (naming q n) ≡ claimDisagreementLine u v w
+        → ClaimDisagreementAnswered job u v w
+    fourteen-from q n (inl m) k = absurd (eight-fourteen _ _ _ u v w (sym (named-as disagreement q n _ (m .0) k)))
     fourteen-from q n (inr m) k =
-        let z = three-back fourteen u v w _ _ _ can (fourteen-writable (m .1)) (named-as fourteen q n _ (m .0) k) in
+        let z = three-back claimDisagreement u v w _ _ _ can (fourteen-writable (m .1)) (named-as claimDisagreement q n _ (m .0) k) in
         rw (z .0, z .1, z .2) (m .1)
 
-  pub eight-lines : ((writableLabels (u ∷ v ∷ w ∷ []) ≡ true) × (printed job ≡ eightLine u v w)) ↔ EightAnswered job u v w
+  pub eight-lines : ((writableLabels (u ∷ v ∷ w ∷ []) ≡ true) × (printed job ≡ disagreementLine u v w)) ↔ DisagreementAnswered job u v w
   unfolding printed
   eight-lines = (
-    λ (k : (writableLabels (u ∷ v ∷ w ∷ []) ≡ true) × (printedOf (solveJob job) ≡ eightLine u v w)).
-        only-naming eight (EightAnswered job u v w) (solveJob job) (job-meant job) (eight-from (k .0)) (k .1),
-    λ (k : EightAnswered job u v w). (
+    λ (k : (writableLabels (u ∷ v ∷ w ∷ []) ≡ true) × (printedOf (solveJob job) ≡ disagreementLine u v w)).
+        only-naming disagreement (DisagreementAnswered job u v w) (solveJob job) (job-meant job) (eight-from (k .0)) (k .1),
+    λ (k : DisagreementAnswered job u v w). (
       eight-writable k,
       ap printedOf (outcome-exactly job _ .1
-          (disagreement (k .e) (k .s) (k .t) (k .xs) (k .claim) (k .asked) (k .a) (k .b) (k .c) (k .common) (k .isDisagreement)))
-          ∙ naming-printed eight (trio (k .e) (k .s) (k .xs) (k .a) (k .b) (k .c))
+          (three-disagree (k .e) (k .s) (k .t) (k .xs) (k .claim) (k .asked) (k .a) (k .b) (k .c) (k .common) (k .isDisagreement)))
+          ∙ naming-printed disagreement (trio (k .e) (k .s) (k .xs) (k .a) (k .b) (k .c))
           ∙ (rw (k .one-is, k .two-is, k .three-is) refl),
     ),
   )
 
-  pub fourteen-lines : ((writableLabels (u ∷ v ∷ w ∷ []) ≡ true) × (printed job ≡ fourteenLine u v w)) ↔ FourteenAnswered job u v w
+  pub fourteen-lines : ((writableLabels (u ∷ v ∷ w ∷ []) ≡ true) × (printed job ≡ claimDisagreementLine u v w)) ↔ ClaimDisagreementAnswered job u v w
   unfolding printed andThen judgementOf
   fourteen-lines = (
-    λ (k : (writableLabels (u ∷ v ∷ w ∷ []) ≡ true) × (printedOf (solveJob job) ≡ fourteenLine u v w)).
-        only-naming fourteen (FourteenAnswered job u v w) (solveJob job) (job-meant job) (fourteen-from (k .0)) (k .1),
-    λ (k : FourteenAnswered job u v w). (
+    λ (k : (writableLabels (u ∷ v ∷ w ∷ []) ≡ true) × (printedOf (solveJob job) ≡ claimDisagreementLine u v w)).
+        only-naming claimDisagreement (ClaimDisagreementAnswered job u v w) (solveJob job) (job-meant job) (fourteen-from (k .0)) (k .1),
+    λ (k : ClaimDisagreementAnswered job u v w). (
       fourteen-writable k,
       ap printedOf (outcome-exactly job _ .1
           (judged (k .e) (k .s) (k .t) (k .xs) (k .ys) (k .asked) (k .clear) (claimDisagrees (k .a) (k .b) (k .c))
           (k .claimed, k .holdsRequired, k .isDisagreement)))
-          ∙ naming-printed fourteen (trio (k .e) (k .s) (k .ys) (k .a) (k .b) (k .c))
+          ∙ naming-printed claimDisagreement (trio (k .e) (k .s) (k .ys) (k .a) (k .b) (k .c))
           ∙ (rw (k .one-is, k .two-is, k .three-is) refl),
     ),
   )

@@ -1,8 +1,6 @@
 pub mod AnswerLaws
-pub mod AreaLaws
 pub mod ClashLaws
 pub mod DemandLaws
-pub mod LineLaws
 pub mod NineLaws
 pub mod OutcomeLaws
 pub mod PrintLaws

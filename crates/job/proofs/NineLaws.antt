@@ -16,9 +16,10 @@ use Rattle.job.specs.declared.JobAnswer.the-variants as job-answer
 use Rattle.pairs.specs.Outcome.{Outcome, refused, naming, found, andThen}
 use Rattle.mast.specs.Largest.{tooShort}
 use Rattle.job.specs.Printed.{Reply, claimReply, solveJob, replyLines, printedOf, printed}
-use Rattle.job.specs.Answered.{lineAnswer, linesAnswer, recordAnswer, answered, answerTo, beginIn}
+use Rattle.lines.specs.Output.{lineAnswer}
+use Rattle.job.specs.Answered.{linesAnswer, recordAnswer, answered, answerTo, beginIn}
 use Rattle.job.specs.JobOutcome.{JobOutcome}
-use Rattle.job.specs.JobOutcome.{too-long, no-contents, first-fault, second-fault, list-fault, claim-fault, stray-first, stray-second, first-lacks, second-lacks, disagreement, largest-set, judged}
+use Rattle.job.specs.JobOutcome.{too-long, no-contents, first-fault, second-fault, list-fault, claim-fault, stray-first, stray-second, first-lacks, second-lacks, three-disagree, largest-set, judged}
 use Rattle.job.proofs.OutcomeLaws.{outcome-exactly}
 use Rattle.job.proofs.RecordLaws.{record-refused}
 use Rattle.job.proofs.RoomLaws.{fault-low, NotNine}
@@ -44,7 +45,7 @@ outcome-never-nine job x (stray-first b held l s t p q y o) = λ k. omega arith
 outcome-never-nine job x (stray-second b held l s t p q y a o) = λ k. omega arith
 outcome-never-nine job x (first-lacks e s t xs c asks n o) = λ k. omega arith
 outcome-never-nine job x (second-lacks e s t xs c asks n o) = λ k. omega arith
-outcome-never-nine job x (disagreement e s t xs z asks a b c held o) = tt
+outcome-never-nine job x (three-disagree e s t xs z asks a b c held o) = tt
 outcome-never-nine job x (largest-set e s t xs asks X o) = tt
 outcome-never-nine job x (judged e s t xs ys asks clear v o) = verdict-never-nine e s xs ys v
 

@@ -38,13 +38,13 @@ use Rattle.contents.proofs.Promises as contents
 use Rattle.contents.proofs.ContentsLaws.{none-some}
 use Rattle.pairs.specs.Outcome.{Outcome, andThen}
 use Rattle.pairs.specs.TwoTrees.{strayFor}
-use Rattle.mast.specs.Query.{Task, task}
+use Rattle.queries.specs.Query.{Task, task}
 use Rattle.mast.specs.Largest.{solve}
 use Rattle.mast.specs.Reads.{Reads}
 use Rattle.pairs.proofs.StrayLaws.{nowhere-shared, stray-strict}
 use Rattle.job.specs.Printed.{jobLimit, taskOf, Reply, setReply, claimReply, solveTask, solveBodies, solveJob, printedOf, printed}
 use Rattle.job.specs.JobOutcome.{Follows, Holds, editionIn, TreeBody, Shared, ClaimRead, Asks, refusal, JobOutcome}
-use Rattle.job.specs.JobOutcome.{too-long, no-contents, first-fault, second-fault, list-fault, claim-fault, stray-first, stray-second, first-lacks, second-lacks, disagreement, largest-set, judged}
+use Rattle.job.specs.JobOutcome.{too-long, no-contents, first-fault, second-fault, list-fault, claim-fault, stray-first, stray-second, first-lacks, second-lacks, three-disagree, largest-set, judged}
 use Rattle.job.proofs.TaskLaws.{ReadClaim, task-first, task-second, task-stray-first, task-stray-second, task-list, task-claim, task-first-lacks, task-second-lacks, task-clash, task-set, task-verdict, some-verdict}
 
 -- ---- bodies that are read
@@ -137,7 +137,7 @@ module _ (job : List ℕ) (b : Bodies) (held : Holds job b) where
           answers (disagree p q r) k =
               let o = told (disagree p q r) k in
               of _ (task-clash (taskOf b) s t xs reads (claimText b) (read-claim E (claimText b) c w) p q r (o .0) (o .1))
-              (disagreement E s t xs c (asks c w) p q r (o .0) (o .1))
+              (three-disagree E s t xs c (asks c w) p q r (o .0) (o .1))
           answers (largest X) k = last X (told (largest X) k)
 
         claimed : (o : Option (List ℕ)) → claimText b ≡ o → Out
@@ -283,7 +283,7 @@ one job x (first-lacks e s t xs c asks n o) =
 one job x (second-lacks e s t xs c asks n o) =
     decided job e s t xs c asks _ (task-second-lacks (asked job e s t xs c asks) s t xs (asked-reads job e s t xs c asks) (claimText (asks .bodies))
     (asked-claim job e s t xs c asks) n o)
-one job x (disagreement e s t xs z asks a b c held o) =
+one job x (three-disagree e s t xs z asks a b c held o) =
     decided job e s t xs z asks _ (task-clash (asked job e s t xs z asks) s t xs (asked-reads job e s t xs z asks) (claimText (asks .bodies))
     (asked-claim job e s t xs z asks) a b c held o)
 one job x (largest-set e s t xs asks X o) =

@@ -9,9 +9,11 @@ use Rattle.trees.specs.Refusals.{numberOf}
 use Rattle.pairs.specs.Outcome.{Outcome, refused, naming, found}
 use Rattle.job.specs.declared.JobAnswer.{JobAnswer}
 use Rattle.job.specs.declared.JobAnswer.the-variants as job-answer
-use Rattle.job.specs.declared.LineAnswer.the-variants.{Written, TooShort}
+use Rattle.lines.specs.declared.LineAnswer.the-variants.{Written, TooShort}
 use Rattle.job.specs.Printed.{Reply, replyLines, printedOf, printed, solveJob}
-use Rattle.job.specs.Answered.{lineAnswer, lineOutput, beginIn, answered, answerTo, jobOutput}
+use Rattle.lines.specs.Lines.{refusedLine}
+use Rattle.lines.specs.Output.{lineAnswer, lineOutput}
+use Rattle.job.specs.Answered.{beginIn, answered, answerTo, jobOutput}
 use Rattle.job.proofs.RecordLaws.{Names, record-written, record-refused, record-no-names}
 use Rattle.job.proofs.NineLaws.{job-fits}
 
@@ -59,11 +61,11 @@ module _ (job out : List ℕ) where
             absurd (job-fits job p k (ap (λ (r : Refusal). numberOf (r .reason)) g ∙ n))
 
     -- any other is printed
-    pub printed-refusal : (numberOf (q .reason) ≡ 9 → ⊥) → (printedOf (refused q) ≡ printed job) × (jobOutput (solveJob job) out ≡ out)
-    unfolding answerTo answered printed jobOutput
+    pub printed-refusal : (numberOf (q .reason) ≡ 9 → ⊥) → (refusedLine q ≡ printed job) × (jobOutput (solveJob job) out ≡ out)
+    unfolding answerTo answered printed printedOf jobOutput
     printed-refusal n = go (solveJob job) e
       where
-        go : (x : Outcome Reply) → told x ≡ job-answer.Refused q → (printedOf (refused q) ≡ printedOf x) × (jobOutput x out ≡ out)
+        go : (x : Outcome Reply) → told x ≡ job-answer.Refused q → (refusedLine q ≡ printedOf x) × (jobOutput x out ≡ out)
         go (found x) h = absurd (n (record-refused (replyLines x) room q h .1))
         go (naming p m) h = let z : _≡_ {A = ℕ} 0 1 = cc in absurd (omega arith)
-        go (refused p) h = let g : p ≡ q = cc in (ap (λ (r : Refusal). printedOf (refused r)) (sym g), refl)
+        go (refused p) h = let g : p ≡ q = cc in (ap refusedLine (sym g), refl)

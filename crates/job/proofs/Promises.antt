@@ -25,16 +25,17 @@ use Rattle.contents.specs.declared.Stated.the-variants as states
 use Rattle.contents.specs.Contents.{Bodies, digitLimit, editionOf, part, firstText, secondText, listText, claimText, under}
 use Rattle.mast.specs.declared.Named.{Named}
 use Rattle.pairs.specs.Outcome.{Outcome, refused, naming, andThen, trio}
-use Rattle.mast.specs.Query.{Task, eight}
+use Rattle.queries.specs.Query.{Task, disagreement}
 use Rattle.mast.specs.Largest.{Solution, solution, solutionText, tooShort, solve}
-use Rattle.claims.specs.Judge.{fourteen, judge}
+use Rattle.claims.specs.Judge.{claimDisagreement, judge}
 use Rattle.job.specs.declared.JobAnswer.the-variants as job-answer
-use Rattle.job.specs.declared.LineAnswer.the-variants.{Written, TooShort}
-use Rattle.job.specs.Printed.{Reply, solved, passed, setReply, claimReply, taskOf, jobLimit, recordRoom, solveBodies, solveJob}
-use Rattle.job.specs.Printed.{recordLines, claimLine, eightLine, fourteenLine, printedOf, printed}
-use Rattle.job.specs.Answered.{lineAnswer, lineOutput, writtenPart, namedLine, beginIn, answerTo}
-use Rattle.job.specs.JobOutcome.{Holds, editionIn, TreeBody, SetAnswered, EightAnswered, ClaimAnswered, FourteenAnswered, JobOutcome, Stopped, withoutLine}
-use Rattle.job.specs.PaperNumbers.{saidOfLine, saidOfJob}
+use Rattle.job.specs.Printed.{Reply, solved, passed, setReply, claimReply, taskOf, jobLimit, solveBodies, solveJob}
+use Rattle.lines.specs.Lines.{recordRoom, recordLines, claimLine, namedLine}
+use Rattle.job.specs.Printed.{disagreementLine, claimDisagreementLine, printedOf, printed}
+use Rattle.lines.specs.Output.{lineAnswer, lineOutput, writtenPart}
+use Rattle.job.specs.Answered.{beginIn, answerTo}
+use Rattle.job.specs.JobOutcome.{Holds, editionIn, TreeBody, SetAnswered, DisagreementAnswered, ClaimAnswered, ClaimDisagreementAnswered, JobOutcome, Stopped, withoutLine}
+use Rattle.job.specs.PaperNumbers.{saidOfJob}
 use Rattle.job.specs.PaperTable.{NumberRow, numberRows, LetterRow, letterRows, Limits, paperLimits, LineRow, linesOf, bytesOfJob, lineRows}
 use Rattle.job.specs.Sides.{SidesExchanged}
 use Rattle.job.proofs.ClashLaws
@@ -57,7 +58,7 @@ demand-promise = DemandLaws.set-lines
 -- The program prints number 8's line with three labels if and only if these are the first three required labels with different closer
 -- pairs, as the first tree spells them. Here too the labels are ones that a text can contain.
 pub eight-promise : (job : List ℕ) (u v w : Label)
-    → ((writableLabels (u ∷ v ∷ w ∷ []) ≡ true) × (printed job ≡ eightLine u v w)) ↔ EightAnswered job u v w
+    → ((writableLabels (u ∷ v ∷ w ∷ []) ≡ true) × (printed job ≡ disagreementLine u v w)) ↔ DisagreementAnswered job u v w
 eight-promise = DemandLaws.eight-lines
 
 -- C-16: "It is accepted exactly if it holds every required label, the trees agree on it and no larger such set exists", and "The program
@@ -68,7 +69,7 @@ claim-promise = DemandLaws.claim-lines
 -- The program prints number 14's line with three labels if and only if no number before 14 is given and these are the first three claimed
 -- labels with different closer pairs, "named as 8 names them".
 pub fourteen-promise : (job : List ℕ) (u v w : Label)
-    → ((writableLabels (u ∷ v ∷ w ∷ []) ≡ true) × (printed job ≡ fourteenLine u v w)) ↔ FourteenAnswered job u v w
+    → ((writableLabels (u ∷ v ∷ w ∷ []) ≡ true) × (printed job ≡ claimDisagreementLine u v w)) ↔ ClaimDisagreementAnswered job u v w
 fourteen-promise = DemandLaws.fourteen-lines
 
 -- "that is the job's answer: what 01 and demands 1 and 3 say of the set as the answer is about jobs without C". A job without C has the
@@ -107,15 +108,11 @@ strict-promise = StrictLaws.strict-same
 -- "If an answer is an enum, the promises use a definition that gives this paper's number and values for each of its cases."
 pub job-rows-promise : (n : ℕ) (m : Named) (q : Refusal)
     → (saidOfJob (job-answer.Written n) ≡ value n)
-    × (saidOfJob (job-answer.Naming eight m) ≡ rowNaming 8 75 0 (m .first .place ∷ m .second .place ∷ m .third .place ∷ []))
-    × (saidOfJob (job-answer.Naming fourteen m) ≡ rowNaming 14 67 0 (m .first .place ∷ m .second .place ∷ m .third .place ∷ []))
+    × (saidOfJob (job-answer.Naming disagreement m) ≡ rowNaming 8 75 0 (m .first .place ∷ m .second .place ∷ m .third .place ∷ []))
+    × (saidOfJob (job-answer.Naming claimDisagreement m) ≡ rowNaming 14 67 0 (m .first .place ∷ m .second .place ∷ m .third .place ∷ []))
     × (saidOfJob (job-answer.Refused q) ≡ row (numberOf (q .reason)) (letterOf (q .body)) (q .place))
 unfolding saidOfJob
 job-rows-promise n m q = (refl, refl, refl, refl)
-
-pub line-rows-promise : (n : ℕ) → (saidOfLine (Written n) ≡ value n) × (saidOfLine (TooShort tooShort) ≡ row 9 79 0)
-unfolding saidOfLine
-line-rows-promise n = (refl, refl)
 
 -- The papers' own numbers, letters, limits and printed lines are written out in one table, `job/specs/PaperTable.antt`. The definitions
 -- give the same.
@@ -146,23 +143,23 @@ pub nine-when-claim-short : (job : List ℕ) (room : ℕ) → room < length (pri
 nine-when-claim-short job room h n = NineLaws.short-output job room h (passed n)
 
 -- "Number 8 adds a space and its three labels joined by commas." The line made from the answer's places and sizes is the printed one.
-pub eight-line : (job : List ℕ) (room : ℕ) (n : Named) → answerTo job room ≡ job-answer.Naming eight n → namedLine job eight n ≡ printed job
-eight-line job room = ClashLaws.naming-line job room eight
+pub eight-line : (job : List ℕ) (room : ℕ) (n : Named) → answerTo job room ≡ job-answer.Naming disagreement n → namedLine job disagreement n ≡ printed job
+eight-line job room = ClashLaws.naming-line job room disagreement
 
 -- Each of its labels is in the job's list at the place returned, as a token with its key, and in the job's first tree as it is spelled
 -- there.
-pub eight-places : (job : List ℕ) (e : Edition) (s : Tree) (xs : List Token) (a b c : Label) → solveJob job ≡ naming eight (trio e s xs a b c)
+pub eight-places : (job : List ℕ) (e : Edition) (s : Tree) (xs : List Token) (a b c : Label) → solveJob job ≡ naming disagreement (trio e s xs a b c)
     → (x : Label) → isIn x (a ∷ b ∷ c ∷ []) ≡ true
     → Within job (beginIn job .list + placeOfLabel (foldedList e xs) 0 x) (tokenOfKey e xs x) × (key e (tokenOfKey e xs x) ≡ x)
     × Within job (beginIn job .tree + placeIn (folded e s) 0 x) (spelledIn e s x) × (key e (spelledIn e s x) ≡ x)
 eight-places = ClashLaws.eight-shown
 
 -- The same for number 14, whose labels are in the job's claim.
-pub fourteen-line : (job : List ℕ) (room : ℕ) (n : Named) → answerTo job room ≡ job-answer.Naming fourteen n
-    → namedLine job fourteen n ≡ printed job
-fourteen-line job room = ClashLaws.naming-line job room fourteen
+pub fourteen-line : (job : List ℕ) (room : ℕ) (n : Named) → answerTo job room ≡ job-answer.Naming claimDisagreement n
+    → namedLine job claimDisagreement n ≡ printed job
+fourteen-line job room = ClashLaws.naming-line job room claimDisagreement
 
-pub fourteen-places : (job : List ℕ) (e : Edition) (s : Tree) (ys : List Token) (a b c : Label) → solveJob job ≡ naming fourteen (trio e s ys a b c)
+pub fourteen-places : (job : List ℕ) (e : Edition) (s : Tree) (ys : List Token) (a b c : Label) → solveJob job ≡ naming claimDisagreement (trio e s ys a b c)
     → (x : Label) → isIn x (a ∷ b ∷ c ∷ []) ≡ true
     → Within job (beginIn job .claim + placeOfLabel (foldedList e ys) 0 x) (tokenOfKey e ys x) × (key e (tokenOfKey e ys x) ≡ x)
     × Within job (beginIn job .tree + placeIn (folded e s) 0 x) (spelledIn e s x) × (key e (spelledIn e s x) ≡ x)

@@ -36,8 +36,9 @@ use Rattle.contents.specs.Contents.{line}
 use Rattle.decimals.specs.Decimal.{isDigit, valueFrom, decimalFrom, decimalOf, digitRoom}
 use Rattle.decimals.proofs.DecimalLaws.{allDigits, from-digits, from-large, from-some, decimal-value}
 use Rattle.pairs.specs.Outcome.{refused}
-use Rattle.job.specs.Printed.{refusedWords, namingLine, setLines, recordLines, threeLine, claimLine, printedOf}
-use Rattle.job.proofs.LineLaws.{size-short}
+use Rattle.lines.specs.Lines.{refusedWords, namingLine, setLines, recordLines, threeLine, claimLine}
+use Rattle.job.specs.Printed.{printedOf}
+use Rattle.lines.proofs.LineLaws.{size-short}
 use Rattle.job.proofs.ShownLaws.{cons-count}
 use Rattle.job.proofs.TokenBytes.{token-comma, token-line}
 

@@ -14,9 +14,10 @@ use Rattle.trees.proofs.Bools.{bool-cases}
 use Rattle.mast.specs.Largest.{tooShort}
 use Rattle.job.specs.declared.JobAnswer.{JobAnswer}
 use Rattle.job.specs.declared.JobAnswer.the-variants as job-answer
-use Rattle.job.specs.declared.LineAnswer.{LineAnswer}
-use Rattle.job.specs.declared.LineAnswer.the-variants.{Written, TooShort}
-use Rattle.job.specs.Answered.{lineAnswer, linesAnswer, recordAnswer}
+use Rattle.lines.specs.declared.LineAnswer.{LineAnswer}
+use Rattle.lines.specs.declared.LineAnswer.the-variants.{Written, TooShort}
+use Rattle.lines.specs.Output.{lineAnswer}
+use Rattle.job.specs.Answered.{linesAnswer, recordAnswer}
 
 pub record-told : (lines : List ℕ) (room : ℕ) {l : LineAnswer} → l ≡ lineAnswer lines room → linesAnswer l ≡ recordAnswer lines room
 unfolding recordAnswer

@@ -31,7 +31,7 @@ use Rattle.agreement.specs.Answer.{Answer, firstLacks, secondLacks, disagree, l
 use Rattle.agreement.specs.Places.{keptTextIn}
 use Rattle.agreement.proofs.EditionText.{restrict-valid}
 use Rattle.pairs.specs.Outcome.{Outcome, refused, naming, found}
-use Rattle.mast.specs.Query.{Task, answerTo, heldBy, requiredOf}
+use Rattle.queries.specs.Query.{Task, answerTo, heldBy, requiredOf}
 use Rattle.mast.specs.Largest.{solution, solutionText, fitted, solutionOf, solveList, solve}
 use Rattle.job.proofs.TreesLaws.{each-way, each-list}
 

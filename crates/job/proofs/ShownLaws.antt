@@ -30,11 +30,10 @@ use Rattle.agreement.specs.Sets.{setOf}
 use Rattle.agreement.specs.Restrict.{restrictIn}
 use Rattle.agreement.specs.Places.{keptTextIn, spelledIn, nameIn}
 use Rattle.agreement.proofs.SetLaws.{in-head, in-tail, in-cases}
-use Rattle.pairs.specs.Outcome.{Trio, naming}
+use Rattle.pairs.specs.Outcome.{Trio, refused, naming}
 use Rattle.mast.specs.Largest.{Solution, solutionText}
-use Rattle.job.specs.Printed.{setLines, recordLines, threeLine, inOrder, shownOf, treeBy, linesBy, claimLine, solved, setReply, claimReply, replyLines, printedOf}
-use Rattle.job.specs.Answered.{labelIn}
-use Rattle.job.specs.Areas.{labelsIn}
+use Rattle.lines.specs.Lines.{refusedLine, setLines, recordLines, threeLine, claimLine, labelIn, labelsIn}
+use Rattle.job.specs.Printed.{inOrder, shownOf, treeBy, linesBy, solved, setReply, claimReply, replyLines, printedOf}
 
 -- a good token that stands for the label x stands in the text at place p
 pub record Stands (text : List ℕ) (p : ℕ) (token : Token) (x : Label) : Type 0 where
@@ -164,3 +163,7 @@ pub naming-printed : (q : Refusal) (n : Trio)
     (nameIn (n .edition) (n .first) (n .labels .three))
 unfolding printedOf
 naming-printed q n = refl
+
+pub refused-printed : (q : Refusal) → printedOf (refused q) ≡ refusedLine q
+unfolding printedOf
+refused-printed q = refl

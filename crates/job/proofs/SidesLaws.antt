@@ -36,13 +36,14 @@ use Rattle.trees.specs.Refusals.{letterOf}
 use Rattle.contents.specs.Contents.{Bodies, entries, lookup, part, firstText, secondText, listText, claimText}
 use Rattle.pairs.specs.Outcome.{Outcome, refused, naming, found, andThen, trio}
 use Rattle.pairs.specs.TwoTrees.{bodyOf, treesOf}
-use Rattle.mast.specs.Query.{Task, apart, together, listOf, answerTo, heldBy, eight, requiredOf}
+use Rattle.queries.specs.Query.{Task, withClash, withSet, listOf, answerTo, heldBy, disagreement, requiredOf}
 use Rattle.mast.specs.Largest.{Solution, solution, solutionText, tooShort, fitted, solutionOf, solveList, solve}
 use Rattle.mast.specs.Compare.{Comparison, missing, clashOf, comparison, compareOther, compareAnswers, compareLists, compare}
 use Rattle.pairs.proofs.StrayLaws.{shared-nowhere}
 use Rattle.pairs.proofs.StepLaws.{then-found, trees-both}
-use Rattle.claims.specs.Judge.{fourteen, judgedBySize, judgedByThree, judgedByList, verdictOn, judge}
-use Rattle.job.specs.Printed.{setReply, claimReply, taskOf, recordLines, solveTask, printedOf, printed}
+use Rattle.claims.specs.Judge.{claimDisagreement, judgedBySize, judgedByThree, judgedByList, verdictOn, judge}
+use Rattle.job.specs.Printed.{setReply, claimReply, taskOf, solveTask, printedOf, printed}
+use Rattle.lines.specs.Lines.{recordLines}
 use Rattle.job.specs.JobOutcome.{editionIn, TreeBody, Shared}
 use Rattle.job.specs.Sides.{withTrees, SidesExchanged}
 use Rattle.job.proofs.OutcomeLaws.{job-solve, body-tree}
@@ -90,7 +91,7 @@ module _ (e : Edition) (s s′ t t′ : Tree) (p : Same s s′) (q : Same t t′
   unfolding solutionOf requiredOf heldBy fitted solutionText
   list-alike xs room (firstLacks n) o = refl
   list-alike xs room (secondLacks n) o = refl
-  list-alike xs room (disagree a b c) o = three-alike eight xs a b c o
+  list-alike xs room (disagree a b c) o = three-alike disagreement xs a b c o
   list-alike xs room (largest X) o =
       ap (λ (l : List ℕ). printedOf (andThen (cond (leb (length l) room) (found (solution e s X)) (refused tooShort)) setReply))
       (agreement.sides-one-text e s s′ p v (setOf X))
@@ -124,15 +125,15 @@ module _ (e : Edition) (s s′ t t′ : Tree) (p : Same s s′) (q : Same t t′
   verdict-alike xs ys size (disagree a b c) o = go (missing (keysOf e xs) (keysOf e ys) 0)
     where
       go : (m : Option ℕ)
-          → printedOf (andThen (judgedByList (comparison e s xs ys size (apart (record { one = a; two = b; three = c }))) m) claimReply)
-          ≡ printedOf (andThen (judgedByList (comparison e s′ xs ys size (apart (record { one = a; two = b; three = c }))) m) claimReply)
-      go none = three-alike fourteen ys a b c o
+          → printedOf (andThen (judgedByList (comparison e s xs ys size (withClash (record { one = a; two = b; three = c }))) m) claimReply)
+          ≡ printedOf (andThen (judgedByList (comparison e s′ xs ys size (withClash (record { one = a; two = b; three = c }))) m) claimReply)
+      go none = three-alike claimDisagreement ys a b c o
       go (some n) = refl
   verdict-alike xs ys size (largest Y) o = go (missing (keysOf e xs) (keysOf e ys) 0)
     where
       go : (m : Option ℕ)
-          → printedOf (andThen (judgedByList (comparison e s xs ys size (together Y)) m) claimReply)
-          ≡ printedOf (andThen (judgedByList (comparison e s′ xs ys size (together Y)) m) claimReply)
+          → printedOf (andThen (judgedByList (comparison e s xs ys size (withSet Y)) m) claimReply)
+          ≡ printedOf (andThen (judgedByList (comparison e s′ xs ys size (withSet Y)) m) claimReply)
       go none = refl
       go (some n) = refl
 
@@ -141,7 +142,7 @@ module _ (e : Edition) (s s′ t t′ : Tree) (p : Same s s′) (q : Same t t′
   unfolding compareAnswers requiredOf heldBy
   claim-alike xs ys (firstLacks n) B o r = refl
   claim-alike xs ys (secondLacks n) B o r = refl
-  claim-alike xs ys (disagree a b c) B o r = three-alike eight xs a b c o
+  claim-alike xs ys (disagree a b c) B o r = three-alike disagreement xs a b c o
   claim-alike xs ys (largest X) B o r = verdict-alike xs ys (length X) B r
 
   judged-alike : (list claim : List ℕ) (z y : Reading (List Token)) → readListIn e list ≡ z → readListIn e claim ≡ y

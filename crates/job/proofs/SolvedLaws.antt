@@ -29,7 +29,7 @@ use Rattle.agreement.specs.RightAnswer.{RightAnswer}
 use Rattle.agreement.proofs.Promises.{set-promise, answer-promise}
 use Rattle.agreement.proofs.SetLaws.{within-few}
 use Rattle.pairs.specs.Outcome.{Outcome, refused, naming, found, andThen, Trio}
-use Rattle.mast.specs.Query.{Task, apart, together, listOf, answerTo, heldBy, requiredOf}
+use Rattle.queries.specs.Query.{Task, withClash, withSet, listOf, answerTo, heldBy, requiredOf}
 use Rattle.mast.specs.Largest.{Solution, solution, solutionText, tooShort, fitted, solutionOf, solveList, solve}
 use Rattle.mast.specs.Compare.{Comparison, missing, clashOf, comparison, compareOther, compareAnswers, compareLists, compare}
 use Rattle.claims.specs.Judge.{fifteen, judgedBySize, judgedByThree, judgedByList, verdictOn, judge}
@@ -123,12 +123,12 @@ module _ (q : Task) where
         both s t xs ys ea ey X (secondLacks n) e = tt
         both s t xs ys ea ey X (disagree a b c) e = go (missing (keysOf E xs) (keysOf E ys) 0)
           where
-            go : (o : Option ℕ) → Judged (judgedByList (comparison E s xs ys (length X) (apart (record { one = a; two = b; three = c }))) o)
+            go : (o : Option ℕ) → Judged (judgedByList (comparison E s xs ys (length X) (withClash (record { one = a; two = b; three = c }))) o)
             go none = record { other = t; read = ea; listed = ey; is = e }
             go (some n) = tt
         both s t xs ys ea ey X (largest Y) e = go (missing (keysOf E xs) (keysOf E ys) 0)
           where
-            go : (o : Option ℕ) → Judged (judgedByList (comparison E s xs ys (length X) (together Y)) o)
+            go : (o : Option ℕ) → Judged (judgedByList (comparison E s xs ys (length X) (withSet Y)) o)
             go none = sized ys (ltb (length ys) (length X))
             go (some n) = tt
 

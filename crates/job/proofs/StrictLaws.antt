@@ -13,7 +13,7 @@ use Rattle.trees.specs.Token.{Token}
 use Rattle.trees.specs.Tree.{Tree}
 use Rattle.trees.specs.Refusals.{numberOf}
 use Rattle.trees.proofs.Bools.{clash}
-use Rattle.agreement.specs.Strict.{SameLeaves, IsStray, Stray, inFirst, inSecond, nowhere, Told, strayOf}
+use Rattle.agreement.specs.Strict.{SameLeaves, IsStray, Stray, inFirst, inSecond, nowhere, StrayTold, strayOf}
 use Rattle.agreement.proofs.Promises.{stray-promise, stray-leaf}
 use Rattle.claims.specs.Claim.{Verdict, claimFirstLacks, claimSecondLacks, claimLacks, claimDisagrees, claimSmall, claimPasses}
 use Rattle.claims.specs.Judge.{judgementOf}
@@ -21,7 +21,7 @@ use Rattle.contents.specs.Contents.{Bodies, part, firstText, secondText, listTe
 use Rattle.pairs.specs.Outcome.{Outcome, refused, andThen}
 use Rattle.job.specs.Printed.{Reply, claimReply, taskOf, solveBodies, solveJob}
 use Rattle.job.specs.JobOutcome.{TreeBody, JobOutcome, Stopped, withoutLine, editionIn}
-use Rattle.job.specs.JobOutcome.{too-long, no-contents, first-fault, second-fault, list-fault, claim-fault, stray-first, stray-second, first-lacks, second-lacks, disagreement, largest-set, judged}
+use Rattle.job.specs.JobOutcome.{too-long, no-contents, first-fault, second-fault, list-fault, claim-fault, stray-first, stray-second, first-lacks, second-lacks, three-disagree, largest-set, judged}
 use Rattle.job.proofs.OutcomeLaws.{outcome-exactly, body-tree}
 use Rattle.job.proofs.RoomLaws.{fault-low}
 use Rattle.job.proofs.TaskLaws.{task-strict}
@@ -68,7 +68,7 @@ module _ (job : List ℕ) where
       }
   stopped x (first-lacks d s t xs c asks m o) q e n = absurd (omega (arith, told q x _ refl e))
   stopped x (second-lacks d s t xs c asks m o) q e n = absurd (omega (arith, told q x _ refl e))
-  stopped x (disagreement d s t xs g asks a b c held o) q e n = let z : _≡_ {A = ℕ} 0 1 = cc in absurd (omega arith)
+  stopped x (three-disagree d s t xs g asks a b c held o) q e n = let z : _≡_ {A = ℕ} 0 1 = cc in absurd (omega arith)
   stopped x (largest-set d s t xs asks X o) q e n = let z : _≡_ {A = ℕ} 0 1 = cc in absurd (omega arith)
   stopped x (judged d s t xs ys asks clear v o) q e n = absurd (verdict-no-twelve d s xs ys v q e n)
 
@@ -76,7 +76,7 @@ module _ (job : List ℕ) where
   unfolding numberOf
   stops w = go (strayOf (keyed (editionIn (w .bodies)) (w .s)) (keyed (editionIn (w .bodies)) (w .t))) (stray-promise (keyed (editionIn (w .bodies)) (w .s)) (keyed (editionIn (w .bodies)) (w .t)) _ .0 refl)
     where
-      go : (r : Stray) → Told (keyed (editionIn (w .bodies)) (w .s)) (keyed (editionIn (w .bodies)) (w .t)) r → (q : Refusal) × (solveJob job ≡ refused q) × (numberOf (q .reason) ≡ 12)
+      go : (r : Stray) → StrayTold (keyed (editionIn (w .bodies)) (w .s)) (keyed (editionIn (w .bodies)) (w .t)) r → (q : Refusal) × (solveJob job ≡ refused q) × (numberOf (q .reason) ≡ 12)
       go (inFirst x) h =
           (_, outcome-exactly job _ .1 (stray-first (w .bodies) (w .held) (w .strict) (w .s) (w .t) (w .first) (w .second) x h), refl)
       go (inSecond x) h =

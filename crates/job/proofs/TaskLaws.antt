@@ -27,7 +27,7 @@ use Rattle.agreement.specs.RightAnswer.{RightAnswer}
 use Rattle.agreement.specs.Strict.{SameLeaves, IsStray}
 use Rattle.pairs.specs.Outcome.{Outcome, refused, naming, found, andThen, trio}
 use Rattle.pairs.specs.TwoTrees.{Trees, strayFor, treesOf}
-use Rattle.mast.specs.Query.{Task, task, plain, listOf, heldBy, eight, requiredOf}
+use Rattle.queries.specs.Query.{Task, task, plain, listOf, heldBy, disagreement, requiredOf}
 use Rattle.mast.specs.Largest.{Solution, solution, solutionOf, solve}
 use Rattle.mast.specs.Compare.{compareLists, compare}
 use Rattle.mast.specs.Reads.{Reads}
@@ -35,7 +35,8 @@ use Rattle.pairs.proofs.StrayLaws.{shared-nowhere}
 use Rattle.pairs.proofs.StepLaws as step
 use Rattle.mast.proofs.WayLaws as way
 use Rattle.pairs.proofs.StepLaws.{then-refused}
-use Rattle.mast.proofs.WayLaws.{list-unread, solve-stopped, solve-unlisted}
+use Rattle.queries.proofs.ListLaws.{list-unread}
+use Rattle.mast.proofs.WayLaws.{solve-stopped, solve-unlisted}
 use Rattle.mast.proofs.Promises as mast
 use Rattle.claims.specs.Claim.{Verdict, Clear, VerdictIs}
 use Rattle.claims.specs.Judge.{verdictOn, judge, judgementOf}
@@ -135,7 +136,7 @@ module _ (q : Task) (s t : Tree) (xs : List Token) (reads : Reads q s t xs) wher
       claim-as claim _ (claims.seven-promise q claim s t xs (w .0) (record { reads = reads; claim-is = w .1 }) n o)
 
   pub task-clash : (o : Option (List ℕ)) → ReadClaim F o → (a b c : Label) → Common (keyed F s) (keyed F t) (setOf (keysOf F xs))
-      → IsDisagreement (keyed F s) (keyed F t) (keysOf F xs) a b c → solveTask q o ≡ naming eight (trio F s xs a b c)
+      → IsDisagreement (keyed F s) (keyed F t) (keysOf F xs) a b c → solveTask q o ≡ naming disagreement (trio F s xs a b c)
   unfolding solutionOf requiredOf heldBy
   task-clash none w a b c held o = plain-as (disagree a b c) (held, o)
   task-clash (some claim) w a b c held o =

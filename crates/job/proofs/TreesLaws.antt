@@ -19,7 +19,7 @@ use Rattle.agreement.specs.Strict.{Stray, inFirst, inSecond, nowhere}
 use Rattle.pairs.specs.declared.Options.{Options}
 use Rattle.pairs.specs.Outcome.{Outcome, refused, andThen}
 use Rattle.pairs.specs.TwoTrees.{Trees, bodyOf, strayFor, sharedBy, treesOf}
-use Rattle.mast.specs.Query.{listOf}
+use Rattle.queries.specs.Query.{listOf}
 
 module _ {A : Type 0} (o : Options) (first second : List ℕ) (on : Trees → Outcome A) (P : Outcome A → Type 0)
     (one : (r : Reason) (i : ℕ) → readTreeIn (o .edition) first ≡ unread r i → P (refused (record { reason = r; body = S; place = i })))

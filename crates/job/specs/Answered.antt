@@ -2,57 +2,23 @@
 -- printed lines (`printedOf`). 01, "Job and printed result" and "Why a job is turned down".
 use Prim.Native.Nat.{ℕ, _+_}
 use mathlib.Core.Bool.{Bool, cond}
-use mathlib.Core.List.{List, [], _++_}
-use lib.Dec.{eqb, leb}
-use lib.ListN.{length, take, drop}
+use mathlib.Core.List.{List}
+use lib.Dec.{eqb}
 use Rattle.trees.specs.declared.Body.{Body}
 use Rattle.trees.specs.declared.Body.the-variants.{S, K, C}
-use Rattle.trees.specs.declared.Refusal.{Refusal}
 use Rattle.trees.specs.Refusals.{letterOf}
-use Rattle.trees.specs.Label.{Label, labelLimit}
-use Rattle.trees.specs.Stored.{partOf}
-use Rattle.trees.specs.Token.{spelling}
 use Rattle.contents.specs.Contents.{layoutOf, bodyPlace}
 use Rattle.mast.specs.declared.Named.{Named}
 use Rattle.mast.specs.declared.NamedLabel.{NamedLabel}
 use Rattle.pairs.specs.Outcome.{Outcome, refused, naming, found}
 use Rattle.mast.specs.NamedLabels.{namedOf}
-use Rattle.mast.specs.Largest.{tooShort}
 use Rattle.job.specs.declared.Begin.{Begin}
 use Rattle.job.specs.declared.JobAnswer.{JobAnswer}
 use Rattle.job.specs.declared.JobAnswer.the-variants as job-answer
-use Rattle.job.specs.Printed.{Reply, namingLine, threeLine, replyLines, solveJob}
-use Rattle.job.specs.declared.LineAnswer.{LineAnswer}
-use Rattle.job.specs.declared.LineAnswer.the-variants.{Written, TooShort}
-
--- "An output is too short exactly if it has fewer bytes than the text that belongs in it"
-abbrev pub fits : List ℕ → ℕ → Bool
-fits text room = leb (length text) room
-
--- a text for an output of `room` bytes, or number 9, "O 0"
-unfoldable pub lineAnswer : List ℕ → ℕ → LineAnswer
-lineAnswer text room = cond (fits text room) (Written (length text)) (TooShort tooShort)
-
--- the output holds the text, further bytes unchanged; if it is too short, it keeps every byte
-unfoldable pub lineOutput : List ℕ → List ℕ → List ℕ
-lineOutput text out = cond (fits text (length out)) (text ++ drop (length text) out) out
-
--- the part of the output that the answer wrote
-unfoldable pub writtenPart : List ℕ → LineAnswer → List ℕ
-unfolding partOf
-writtenPart out (Written n) = partOf 0 n out
-writtenPart out (TooShort q) = []
-
--- the label that the `size` bytes at a place of a text decode to, cut at the limit; nothing if they run past the end
-unfoldable pub labelIn : List ℕ → ℕ → ℕ → Label
-labelIn text start size = take labelLimit (spelling (partOf start size text))
-
--- the line of a refusal, number 8 or 14, with the labels that places and sizes in the job name
-unfoldable pub namedLine : List ℕ → Refusal → Named → List ℕ
-unfolding namingLine labelIn
-namedLine job q n =
-    threeLine q (labelIn job (n .first .start) (n .first .size)) (labelIn job (n .second .start) (n .second .size))
-    (labelIn job (n .third .start) (n .third .size))
+use Rattle.job.specs.Printed.{Reply, replyLines, solveJob}
+use Rattle.lines.specs.declared.LineAnswer.{LineAnswer}
+use Rattle.lines.specs.Output.{lineAnswer, lineOutput}
+use Rattle.lines.specs.declared.LineAnswer.the-variants.{Written, TooShort}
 
 unfoldable pub linesAnswer : LineAnswer → JobAnswer
 linesAnswer (Written n) = job-answer.Written n

@@ -30,7 +30,7 @@ use Rattle.contents.specs.Contents.{Bodies, editionOf, firstText, secondText, l
 use Rattle.claims.specs.Claim.{HoldsRequired, IsClaim, Verdict, Clear, VerdictIs}
 use Rattle.claims.specs.Judge.{judgementOf}
 use Rattle.pairs.specs.Outcome.{Outcome, refused, naming, andThen, trio}
-use Rattle.mast.specs.Query.{eight}
+use Rattle.queries.specs.Query.{disagreement}
 use Rattle.mast.specs.Largest.{solution}
 use Rattle.job.specs.Printed.{jobLimit, Reply, setReply, claimReply}
 
@@ -112,9 +112,9 @@ pub data JobOutcome (job : List ℕ) : Outcome Reply → Type 0 where
   second-lacks : (e : Edition) (s t : Tree) (xs : List Token) (c : Option (List Token)) → Asks job e s t xs c → (n : ℕ)
       → IsSecondLacks (keyed e s) (keyed e t) (keysOf e xs) n → JobOutcome job (refusal SecondLacks K (placeOfNumber xs n))
   -- 8: "three required leaves have different closer pairs"
-  disagreement : (e : Edition) (s t : Tree) (xs : List Token) (o : Option (List Token)) → Asks job e s t xs o → (a b c : Label)
+  three-disagree : (e : Edition) (s t : Tree) (xs : List Token) (o : Option (List Token)) → Asks job e s t xs o → (a b c : Label)
       → Common (keyed e s) (keyed e t) (setOf (keysOf e xs)) → IsDisagreement (keyed e s) (keyed e t) (keysOf e xs) a b c
-      → JobOutcome job (naming eight (trio e s xs a b c))
+      → JobOutcome job (naming disagreement (trio e s xs a b c))
   -- demand 3, for jobs without a claim: the set; its text is `solutionText`, "the normal text of the common restriction"
   largest-set : (e : Edition) (s t : Tree) (xs : List Token) → Asks job e s t xs none → (X : List Label)
       → IsAnswer (keyed e s) (keyed e t) (keysOf e xs) X → JobOutcome job (setReply (solution e s X))
@@ -139,7 +139,7 @@ pub record SetAnswered (job : List ℕ) (names : List Label) (text : List ℕ) :
 
 -- Number 8 for three printed labels. The bodies are read, both trees have the required labels, and these are the first three with different
 -- closer pairs, as the first tree spells them.
-pub record EightAnswered (job : List ℕ) (one two three : Label) : Type 0 where
+pub record DisagreementAnswered (job : List ℕ) (one two three : Label) : Type 0 where
   pub e : Edition
   pub s : Tree
   pub t : Tree
@@ -169,7 +169,7 @@ pub record ClaimAnswered (job : List ℕ) (n : ℕ) : Type 0 where
 
 -- Number 14 for three printed labels. The bodies are read, no number before 14 is given, and these are the first three of the claim with
 -- different closer pairs, "named as 8 names them".
-pub record FourteenAnswered (job : List ℕ) (one two three : Label) : Type 0 where
+pub record ClaimDisagreementAnswered (job : List ℕ) (one two three : Label) : Type 0 where
   pub e : Edition
   pub s : Tree
   pub t : Tree

@@ -1,6 +1,6 @@
 pub mod Answered
-pub mod Areas
 pub mod JobOutcome
+pub mod NamedPlaces
 pub mod PaperNumbers
 pub mod PaperTable
 pub mod Printed

@@ -2,16 +2,8 @@
 use Prim.Native.Nat.{ℕ}
 use Rattle.trees.specs.Refusals.{Said, value, rowOf, rowNamingOf}
 use Rattle.mast.specs.PaperNumbers.{placesIn}
-use Rattle.job.specs.declared.LineAnswer.{LineAnswer}
-use Rattle.job.specs.declared.LineAnswer.the-variants.{Written, TooShort}
 use Rattle.job.specs.declared.JobAnswer.{JobAnswer}
 use Rattle.job.specs.declared.JobAnswer.the-variants as job-answer
-
--- the length of the line, or number 9
-unfoldable pub saidOfLine : LineAnswer → Said ℕ
-unfolding rowOf
-saidOfLine (Written n) = value n
-saidOfLine (TooShort q) = rowOf q
 
 -- the length of the lines, number 8 or 14 with the places of its labels in the job, or another row
 unfoldable pub saidOfJob : JobAnswer → Said ℕ

@@ -1,57 +1,31 @@
--- What is printed for a job. 01, "Job and printed result" and "Why a job is turned down". "Labels are printed as the first tree spells
--- them" (C-15), each in its one written form (C-12: "for trees and every printed label").
-use Prim.Native.Nat.{ℕ, _+_, _-_, _*_}
+-- What a job comes to, what is shown of it, and what is printed. 01, "Job and printed result" and "Why a job is turned down".
+use Prim.Native.Nat.{ℕ}
 use mathlib.Core.Bool.{cond}
-use mathlib.Core.List.{List, [], _∷_, _++_, map}
+use mathlib.Core.List.{List, [], _∷_, map}
 use mathlib.Core.Option.{Option, some, none}
 use lib.Dec.{leb}
 use lib.ListN.{length}
 use Rattle.trees.specs.declared.Reason.the-variants.{Contents, JobTooLong}
 use Rattle.trees.specs.declared.Body.the-variants.{J}
-use Rattle.trees.specs.declared.Refusal.{Refusal}
-use Rattle.trees.specs.Refusals.{numberOf, letterOf}
 use Rattle.trees.specs.declared.Edition.{Edition}
 use Rattle.trees.specs.Edition.{normalIn, rewritten}
 use Rattle.trees.specs.Label.{Label}
 use Rattle.trees.specs.Text.{textOf, treeRoom}
-use Rattle.trees.specs.Token.{Token, tokenOf, tokenLimit}
-use Rattle.trees.specs.Tree.{Tree, leafLimit, relabel}
-use Rattle.trees.specs.Words.{bytesOf}
-use Rattle.lists.specs.ReadList.{joined}
-use Rattle.decimals.specs.Decimal.{digitRoom, decimalOf}
+use Rattle.trees.specs.Token.{Token}
+use Rattle.trees.specs.Tree.{Tree, relabel}
 use Rattle.agreement.specs.Sets.{setOf}
 use Rattle.agreement.specs.Restrict.{restrictIn}
 use Rattle.agreement.specs.Places.{spelledIn}
-use Rattle.contents.specs.Contents.{Bodies, editionOf, firstText, secondText, listText, claimText, bodiesOf, line}
+use Rattle.contents.specs.Contents.{Bodies, editionOf, firstText, secondText, listText, claimText, bodiesOf}
 use Rattle.pairs.specs.Outcome.{Outcome, refused, naming, found, andThen, Trio}
-use Rattle.mast.specs.Query.{Task, task, eight}
+use Rattle.queries.specs.Query.{Task, task, disagreement}
 use Rattle.mast.specs.Largest.{Solution, solve}
-use Rattle.claims.specs.Judge.{fourteen, judge}
+use Rattle.claims.specs.Judge.{claimDisagreement, judge}
+use Rattle.lines.specs.Lines.{refusedLine, namingLine, setLines, claimLine, threeLine}
 
 -- "the job limit becomes 16,384 bytes" (C-14)
 abbrev pub jobLimit : ℕ
 jobLimit = 16384
-
--- a label as it is printed, and a comma
-abbrev pub itemRoom : ℕ
-itemRoom = tokenLimit + 1
-
--- `refused`, number, letter and place, with three blanks
-abbrev pub wordsRoom : ℕ
-wordsRoom = 11 + 2 * digitRoom
-
--- `claim ok`, a blank, a size and the line end
-abbrev pub claimRoom : ℕ
-claimRoom = 9 + digitRoom + 1
-
--- a refusal's line, with three labels
-abbrev pub lineRoom : ℕ
-lineRoom = wordsRoom + 2 + 3 * itemRoom
-
--- the longest lines of a set: `size `, `set ` and `tree `, three line ends, a size of two digits, 80 labels with commas between them, and
--- the longest text of a tree
-abbrev pub recordRoom : ℕ
-recordRoom = 17 + 2 + (leafLimit * itemRoom - 1) + treeRoom
 
 -- what these bodies give the engine
 abbrev pub taskOf : Bodies → Task
@@ -89,40 +63,11 @@ solveJob job =
 
 -- ---- lines
 
--- "A refusal is one line, `refused`, number, body letter, place"
-unfoldable pub refusedWords : Refusal → List ℕ
-unfolding bytesOf numberOf letterOf decimalOf
-refusedWords q =
-    bytesOf "refused " ++ (decimalOf (numberOf (q .reason)) ++ (32 ∷ letterOf (q .body) ∷ 32 ∷ decimalOf (q .place)))
+abbrev pub disagreementLine : Label → Label → Label → List ℕ
+disagreementLine = threeLine disagreement
 
--- a refusal that names labels: "adds a space and its three labels joined by commas."
-unfoldable pub namingLine : Refusal → List Token → List ℕ
-unfolding refusedWords joined line
-namingLine q X = line (refusedWords q ++ (32 ∷ joined X))
-
--- "They are the count of leaves, the set in label order, and the normal text of the common restriction."
-unfoldable pub setLines : List Token → List ℕ → List ℕ
-unfolding bytesOf decimalOf joined line
-setLines X text =
-    line (bytesOf "size " ++ decimalOf (length X)) ++ (line (bytesOf "set " ++ joined X) ++ line (bytesOf "tree " ++ text))
-
--- C-16: "The program then prints only `claim ok`, a blank and the size"
-unfoldable pub claimLine : ℕ → List ℕ
-unfolding bytesOf decimalOf line
-claimLine n = line (bytesOf "claim ok " ++ decimalOf n)
-
--- these lines for labels in their written forms
-abbrev pub recordLines : List Label → List ℕ → List ℕ
-recordLines X text = setLines (map tokenOf X) text
-
-abbrev pub threeLine : Refusal → Label → Label → Label → List ℕ
-threeLine q a b c = namingLine q (map tokenOf (a ∷ b ∷ c ∷ []))
-
-abbrev pub eightLine : Label → Label → Label → List ℕ
-eightLine = threeLine eight
-
-abbrev pub fourteenLine : Label → Label → Label → List ℕ
-fourteenLine = threeLine fourteen
+abbrev pub claimDisagreementLine : Label → Label → Label → List ℕ
+claimDisagreementLine = threeLine claimDisagreement
 
 -- ---- what is shown, and how its labels are named
 
@@ -170,10 +115,10 @@ replyLines (solved r) = linesBy rewritten (shownOf r)
 replyLines (passed n) = claimLine n
 
 unfoldable pub printedOf : Outcome Reply → List ℕ
-unfolding replyLines namingLine threeOf refusedWords line
+unfolding replyLines namingLine threeOf refusedLine
 printedOf (found x) = replyLines x
 printedOf (naming q n) = namingLine q (map rewritten (threeOf n))
-printedOf (refused q) = line (refusedWords q)
+printedOf (refused q) = refusedLine q
 
 unfoldable pub printed : List ℕ → List ℕ
 unfolding printedOf solveJob

@@ -5,58 +5,34 @@ use claims::ClaimAnswer;
 use contents::Layout;
 use contents::Span;
 use contents::Table;
-use decimals::DIGIT_ROOM;
-use lists::LabelPlaces;
+use lines::LineAnswer;
 use mast::LargestAnswer;
 use mast::Named;
 use mast::NamedLabel;
 use pairs::Options;
 use trees::Body;
-use trees::LEAF_LIMIT;
 use trees::Reason;
 use trees::Refusal;
-use trees::TOKEN_LIMIT;
 use trees::TREE_ROOM;
 ghost use mathlib.Core.Path.{_≡_};
-ghost use lib.ListN.{length};
+ghost use lib.ListN.{length, replicate};
 ghost use Prim.Native.Nat.{_+_, _≤_};
-ghost use lib.ListN.{replicate};
 ghost use Rattle.contents.specs.declared.Layout.the-variants as layout;
 ghost use Rattle.contents.specs.Contents.{layoutOf};
 ghost use mathlib.Core.Option.{some, none};
-ghost use Rattle.pairs.specs.Outcome.{refused};
-ghost use Rattle.mast.specs.Query.{task};
+ghost use Rattle.queries.specs.Query.{task};
 ghost use Rattle.job.specs.declared.JobAnswer as JobAnswer;
 ghost use Rattle.trees.specs.declared.Body.the-variants.{J};
-ghost use Rattle.trees.specs.Text.{treeRoom};
-ghost use Rattle.trees.specs.Tree.{leafLimit};
-ghost use Rattle.job.specs.Printed.{printedOf, printed, recordLines, claimLine, solveTask, solveJob, jobLimit};
-ghost use Rattle.job.specs.Areas.{labelsIn, Near};
-ghost use Rattle.job.specs.Answered.{lineAnswer, lineOutput, writtenPart, namedLine, baseOf, movedBy, answered, answerTo, jobOutput, recordAnswer};
-
-mod lines;
+ghost use Rattle.job.specs.Printed.{printed, solveTask, solveJob, jobLimit};
+ghost use Rattle.job.specs.NamedPlaces.{Near};
+ghost use Rattle.lines.specs.Output.{lineAnswer, lineOutput};
+ghost use Rattle.job.specs.Answered.{linesAnswer, baseOf, movedBy, answered, answerTo, jobOutput};
 
 // The most bytes of a job.
 const JOB_LIMIT: usize = 16384;
 
 // One more byte.
 const JOB_AREA: usize = JOB_LIMIT + 1;
-
-// A label as it is printed, and a comma.
-const ITEM_ROOM: usize = TOKEN_LIMIT + 1;
-
-// A refusal's line: words with two numbers, three labels with their commas, a blank and a line end.
-const LINE_ROOM: usize = 11 + 2 * DIGIT_ROOM + 2 + 3 * ITEM_ROOM;
-
-// The three lines at their longest: their words, a size of two digits, 80 labels with commas between them, and the tree's text. An
-// output of so many bytes always suffices.
-pub const RECORD_ROOM: usize = 17 + 2 + (LEAF_LIMIT * ITEM_ROOM - 1) + TREE_ROOM;
-
-// The number of bytes written to the output, or number 9 if it is too short for the lines.
-pub enum LineAnswer {
-    Written(usize),
-    TooShort(Refusal),
-}
 
 // Where the first tree, the list and the claim begin in a job.
 pub struct Begin {
@@ -80,38 +56,6 @@ pub fn job_area() -> [u8; JOB_AREA]
     [0; JOB_AREA]
 }
 
-// The part of an output that the answer wrote: its lines, or nothing.
-pub fn written<'a>(out: &'a [u8], answer: LineAnswer) -> &'a [u8]
-    ensures { λ r. ⌜ now r ≡ writtenPart (now (out .entry)) answer ⌝ }
-{
-    match answer {
-        LineAnswer::Written(bytes) => trees::part(out, 0, bytes),
-        LineAnswer::TooShort(_) => trees::part(out, 0, 0),
-    }
-}
-
-// Writes the line of a refusal into `out`.
-pub fn refusal_line(refusal: Refusal, out: &mut [u8]) -> LineAnswer
-    ensures answer { λ r. ⌜ r ≡ lineAnswer (printedOf (refused refusal)) (length (now (out .entry))) ⌝ }
-    ensures output { λ _. ⌜ now (out .exit) ≡ lineOutput (printedOf (refused refusal)) (now (out .entry)) ⌝ }
-{
-    let mut line = [0u8; LINE_ROOM];
-    let end = lines::put_refusal(refusal, &mut line);
-    let n = lines::put_byte(b'\n', &mut line, end);
-    lines::hand_over(&line[..n], out)
-}
-
-// Writes the line of a refusal that names three labels, number 8 or 14, into `out`. Starts and sizes name parts of the job; the labels are
-// those that these parts decode to.
-pub fn disagreement_line(job: &[u8], refusal: Refusal, named: Named, out: &mut [u8]) -> LineAnswer
-    ensures answer { λ r. ⌜ r ≡ lineAnswer (namedLine (now (job .entry)) refusal named) (length (now (out .entry))) ⌝ }
-    ensures output { λ _. ⌜ now (out .exit) ≡ lineOutput (namedLine (now (job .entry)) refusal named) (now (out .entry)) ⌝ }
-{
-    let mut line = [0u8; LINE_ROOM];
-    let n = lines::put_disagreement(job, refusal, named, &mut line);
-    lines::hand_over(&line[..n], out)
-}
-
 // The refusals that the job itself gives: their place is J 0.
 fn job_refusal(reason: Reason) -> JobAnswer
     ensures { λ r. ⌜ r ≡ JobAnswer.Refused (record { reason = reason; body = J; place = 0 }) ⌝ }
@@ -123,46 +67,14 @@ fn job_refusal(reason: Reason) -> JobAnswer
     })
 }
 
-// The lines of an answer into `out`.
-fn hand_lines(text: &[u8], out: &mut [u8]) -> JobAnswer
-    ensures answer { λ r. ⌜ r ≡ recordAnswer (now (text .entry)) (length (now (out .entry))) ⌝ }
-    ensures output { λ _. ⌜ now (out .exit) ≡ lineOutput (now (text .entry)) (now (out .entry)) ⌝ }
+// The answer that a job's lines make.
+fn lines_answer(given: LineAnswer) -> JobAnswer
+    ensures { λ r. ⌜ r ≡ linesAnswer given ⌝ }
 {
-    let given = lines::hand_over(text, out);
     match given {
-        LineAnswer::Written(k) => JobAnswer::Written(k),
+        LineAnswer::Written(n) => JobAnswer::Written(n),
         LineAnswer::TooShort(refusal) => JobAnswer::Refused(refusal),
     }
-}
-
-// The three lines of a set into `out`.
-fn answer_set(first: &[u8], set: LabelPlaces, tree: &[u8], out: &mut [u8]) -> JobAnswer
-    requires { ⌜ set .count ≤ leafLimit ⌝ }
-    requires { ⌜ length (now tree) ≤ treeRoom ⌝ }
-    ensures answer { λ r.
-        ⌜ r ≡ recordAnswer
-        (recordLines (labelsIn (now (first .entry)) (set .start) (set .size) (set .count)) (now (tree .entry)))
-        (length (now (out .entry))) ⌝ }
-    ensures output { λ _.
-        ⌜ now (out .exit) ≡ lineOutput
-        (recordLines (labelsIn (now (first .entry)) (set .start) (set .size) (set .count)) (now (tree .entry)))
-        (now (out .entry)) ⌝ }
-{
-    let mut area = [0u8; RECORD_ROOM];
-    let start = set.start;
-    let size = set.size;
-    let n = lines::put_record(first, &start, &size, set.count, tree, &mut area);
-    hand_lines(&area[..n], out)
-}
-
-// The line of a claim that passes into `out`.
-fn answer_size(size: usize, out: &mut [u8]) -> JobAnswer
-    ensures answer { λ r. ⌜ r ≡ recordAnswer (claimLine size) (length (now (out .entry))) ⌝ }
-    ensures output { λ _. ⌜ now (out .exit) ≡ lineOutput (claimLine size) (now (out .entry)) ⌝ }
-{
-    let mut line = [0u8; LINE_ROOM];
-    let n = lines::put_claim(size, &mut line);
-    hand_lines(&line[..n], out)
 }
 
 // Where the list of a refusal that names labels begins: that of the claim for the letter C, otherwise the required one.
@@ -225,7 +137,12 @@ fn answer_bodies(
     let answer = result.answer;
     let set = result.set;
     match answer {
-        LargestAnswer::Found(_, bytes) => answer_set(first, set, &tree[..bytes], out),
+        LargestAnswer::Found(_, bytes) => lines_answer(lines::set_lines(
+            first,
+            set,
+            &tree[..bytes],
+            out,
+        )),
         LargestAnswer::Naming(refusal, named) => {
             let body = refusal.body;
             JobAnswer::Naming(refusal, named_in(at.tree, base_of(at, body), named))
@@ -256,7 +173,7 @@ fn answer_claim(
 {
     let answer = claims::judge(options, first, second, list, claim);
     match answer {
-        ClaimAnswer::Passed(size) => answer_size(size, out),
+        ClaimAnswer::Passed(size) => lines_answer(lines::claim_line(size, out)),
         ClaimAnswer::Naming(refusal, named) => {
             let body = refusal.body;
             JobAnswer::Naming(refusal, named_in(at.tree, base_of(at, body), named))
@@ -321,13 +238,13 @@ pub fn print_job(job: &[u8], out: &mut [u8]) -> LineAnswer
     let answer = answer_job(job, out);
     match answer {
         JobAnswer::Written(n) => LineAnswer::Written(n),
-        JobAnswer::Naming(refusal, named) => disagreement_line(job, refusal, named, out),
+        JobAnswer::Naming(refusal, named) => lines::naming_line(job, refusal, named, out),
         JobAnswer::Refused(refusal) => {
             let reason = refusal.reason;
             if trees::number(reason) == 9 {
                 return LineAnswer::TooShort(refusal);
             }
-            refusal_line(refusal, out)
+            lines::refusal_line(refusal, out)
         }
     }
 }

@@ -29,8 +29,8 @@ use Rattle.trees.proofs.ReadingLaws.{is-other, kind-view, kind-label, kind-inne
 use Rattle.trees.proofs.ReadingLaws.{none-first, repeats-ended, repeats-long, repeats-unclosed, repeats-empty}
 use Rattle.lists.specs.declared.Stage.{Stage}
 use Rattle.lists.specs.declared.Stage.the-variants.{Start, Due, Bare, Quoted, Closed}
-use Rattle.lists.specs.declared.Outcome.{Outcome}
-use Rattle.lists.specs.declared.Outcome.the-variants.{Next, Stop}
+use Rattle.lists.specs.declared.Move.{Move}
+use Rattle.lists.specs.declared.Move.the-variants.{Next, Stop}
 use Rattle.lists.specs.declared.ListAnswer.the-variants.{Labels}
 use Rattle.lists.specs.declared.ListRead.{ListRead}
 use Rattle.lists.specs.ReadList.{labelDue, inBare, inQuotes, afterQuote, next, stop, begins, goesOn, stepDue, stepAfter}
@@ -53,7 +53,7 @@ sizing : List Token → List ℕ
 sizing seen = padded (sizesOf seen)
 
 -- an outcome beside them
-abbrev storing : List Token → Outcome → After
+abbrev storing : List Token → Move → After
 storing seen o = after o (starting seen) (sizing seen)
 
 -- ---- a complete token in its place after those seen, as the machine compares and keeps it
@@ -289,7 +289,7 @@ module _ (text : List ℕ) (body : Body) where
             overlong l (omega (arith, w .short))
 
     -- the label is complete, as the token tok before what follows: what comes next matters only where it is new
-    settled : (tok : Token) (after-it : List ℕ) (o : Outcome) → Placed text seen tok first after-it
+    settled : (tok : Token) (after-it : List ℕ) (o : Move) → Placed text seen tok first after-it
         → repeats (map spelling seen) (soFar q x ++ (b ∷ rest)) ≡ isIn (spelling tok) (map spelling seen)
         → stepped ≡ closeOf text (starting seen) (sizing seen) (length seen) first (length tok) o
         → (after o (starting (seen ++ (tok ∷ []))) (sizing (seen ++ (tok ∷ []))) ≡ stepped
@@ -311,7 +311,7 @@ module _ (text : List ℕ) (body : Body) where
     abbrev bareStep : After
     bareStep = stepOf text (kindOf b) at (Bare first (length x) (length seen)) (starting seen) (sizing seen)
 
-    abbrev closing : Outcome → After
+    abbrev closing : Move → After
     closing o = closeOf text (starting seen) (sizing seen) (length seen) first (length x) o
 
     bad-after : isLabelByte b ≡ false → bareStep ≡ closing (Stop BadByte at) → step (inBare x) seen b rest ≡ stop BadByte
@@ -476,7 +476,7 @@ module _ (text : List ℕ) (body : Body) where
       abbrev again : Bool
       again = repeats (map spelling seen) (b ∷ rest)
 
-      machine-does : (o : Outcome) → dueOf (kindOf b) at (length seen) ≡ o
+      machine-does : (o : Move) → dueOf (kindOf b) at (length seen) ≡ o
           → storing seen o ≡ stepOf text (kindOf b) at stage (starting seen) (sizing seen)
       machine-does o e = sym (machine (kindOf b) ∙ ap (storing seen) e)
 

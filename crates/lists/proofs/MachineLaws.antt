@@ -17,8 +17,8 @@ use Rattle.trees.specs.Label.{labelLimit}
 use Rattle.trees.specs.Reading.{refused}
 use Rattle.lists.specs.declared.Stage.{Stage}
 use Rattle.lists.specs.declared.Stage.the-variants.{Start, Due, Bare, Quoted, Closed}
-use Rattle.lists.specs.declared.Outcome.{Outcome}
-use Rattle.lists.specs.declared.Outcome.the-variants.{Next, Stop}
+use Rattle.lists.specs.declared.Move.{Move}
+use Rattle.lists.specs.declared.Move.the-variants.{Next, Stop}
 use Rattle.lists.specs.declared.ListAnswer.{ListAnswer}
 use Rattle.lists.specs.declared.ListAnswer.the-variants.{Labels, Refused}
 use Rattle.lists.specs.declared.ListRead.{ListRead}
@@ -34,12 +34,12 @@ Kept text start size count first len b start′ size′ =
 module _
     (text start size : List ℕ) (count first len : ℕ) (b : Bool) (start′ size′ : List ℕ)
     (kept : Kept text start size count first len b start′ size′) where
-  pub close-repeat : (following : Outcome) → b ≡ true
+  pub close-repeat : (following : Move) → b ≡ true
       → after (Stop Repeated first) start′ size′ ≡ closeOf text start size count first len following
   unfolding closeOf
   close-repeat following h = rw (kept .1 .0, kept .1 .1, ← kept .0, h) refl
 
-  pub close-new : (following : Outcome) → b ≡ false
+  pub close-new : (following : Move) → b ≡ false
       → after following start′ size′ ≡ closeOf text start size count first len following
   unfolding closeOf
   close-new following h = rw (kept .1 .0, kept .1 .1, ← kept .0, h) refl
@@ -56,12 +56,12 @@ module _
   end-new body at h = rw (kept .1 .0, kept .1 .1, ← kept .0, h) refl
 
 -- after the byte at place `at` the next stage has room, if there is one
-abbrev RoomAfter : (at : ℕ) → Outcome → Type 0
+abbrev RoomAfter : (at : ℕ) → Move → Type 0
 RoomAfter at (Next stage) = Room stage (at + 1)
 RoomAfter at (Stop r place) = 0 ≤ listLimit
 
 -- the choice that a test makes has what both outcomes have
-room-cond : (at : ℕ) (b : Bool) (o u : Outcome) → (b ≡ true → RoomAfter at o) → RoomAfter at u → RoomAfter at (cond b o u)
+room-cond : (at : ℕ) (b : Bool) (o u : Move) → (b ≡ true → RoomAfter at o) → RoomAfter at u → RoomAfter at (cond b o u)
 room-cond at true o u p q = p refl
 room-cond at false o u p q = q
 
@@ -82,7 +82,7 @@ room-due Blank at count h = omega arith
 room-due Other at count h = omega arith
 
 module _ (text : List ℕ) (at first len count : ℕ) (start size : List ℕ) where
-  room-close : (n : ℕ) (o : Outcome) → RoomAfter at o → RoomAfter at (closeOf text start size count first n o .outcome)
+  room-close : (n : ℕ) (o : Move) → RoomAfter at o → RoomAfter at (closeOf text start size count first n o .outcome)
   unfolding closeOf
   room-close n o h = room-cond at (repeatOf text start size count first n) (Stop Repeated first) o (λ _. omega arith) h
 

@@ -13,8 +13,8 @@ use Rattle.trees.specs.declared.Body.{Body}
 use Rattle.trees.specs.Bytes.{kindOf}
 use Rattle.lists.specs.declared.Stage.{Stage}
 use Rattle.lists.specs.declared.Stage.the-variants.{Start}
-use Rattle.lists.specs.declared.Outcome.{Outcome}
-use Rattle.lists.specs.declared.Outcome.the-variants.{Next, Stop}
+use Rattle.lists.specs.declared.Move.{Move}
+use Rattle.lists.specs.declared.Move.the-variants.{Next, Stop}
 use Rattle.lists.specs.declared.ListAnswer.{ListAnswer}
 use Rattle.lists.specs.declared.ListAnswer.the-variants.{Refused}
 use Rattle.lists.specs.ReadList.{listLimit, listRead, readList}
@@ -35,7 +35,7 @@ module _
     (text : List ℕ) (body : Body) (stage : Stage) (start size : List ℕ) (i : ℕ) (r : Running text body stage start size i)
   where
     module _
-        (k : Kind) (o : Outcome) (start′ size′ : List ℕ) (more : i < length text) (kind : k ≡ kindOf (getD text i 0))
+        (k : Kind) (o : Move) (start′ size′ : List ℕ) (more : i < length text) (kind : k ≡ kindOf (getD text i 0))
         (stepped : after o start′ size′ ≡ stepOf text k i stage start size) where
       pub running-next : (stage′ : Stage) → o ≡ Next stage′ → Running text body stage′ start′ size′ (i + 1)
       running-next stage′ e =

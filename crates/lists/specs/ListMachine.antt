@@ -16,8 +16,8 @@ use Rattle.trees.specs.Stored.{partOf, isAmong}
 use Rattle.trees.specs.Reading.{refused}
 use Rattle.lists.specs.declared.Stage.{Stage}
 use Rattle.lists.specs.declared.Stage.the-variants.{Start, Due, Bare, Quoted, Closed}
-use Rattle.lists.specs.declared.Outcome.{Outcome}
-use Rattle.lists.specs.declared.Outcome.the-variants.{Next, Stop}
+use Rattle.lists.specs.declared.Move.{Move}
+use Rattle.lists.specs.declared.Move.the-variants.{Next, Stop}
 use Rattle.lists.specs.declared.ListAnswer.{ListAnswer}
 use Rattle.lists.specs.declared.ListAnswer.the-variants.{Labels, Refused}
 use Rattle.lists.specs.declared.ListRead.{ListRead}
@@ -25,11 +25,11 @@ use Rattle.lists.specs.ReadList.{listLimit, listRead, placesOf}
 
 -- a step's outcome with the arrays after it
 pub record After : Type 0 where
-  pub outcome : Outcome
+  pub outcome : Move
   pub start : List ℕ
   pub size : List ℕ
 
-abbrev pub after : Outcome → List ℕ → List ℕ → After
+abbrev pub after : Move → List ℕ → List ℕ → After
 after o start size = record { outcome = o; start = start; size = size }
 
 -- the end's answer with the arrays after it
@@ -65,10 +65,10 @@ unfoldable pub repeatOf : List ℕ → List ℕ → List ℕ → (count first le
 repeatOf text start size count first len = isAmong text start size count (partOf first len text)
 
 -- a label begins here
-unfoldable pub beginOf : (at count : ℕ) → Stage → Outcome
+unfoldable pub beginOf : (at count : ℕ) → Stage → Move
 beginOf at count stage = cond (ltb count listLimit) (Next stage) (Stop TooMany at)
 
-unfoldable pub dueOf : Kind → (at count : ℕ) → Outcome
+unfoldable pub dueOf : Kind → (at count : ℕ) → Move
 unfolding beginOf
 dueOf LabelByte at count = beginOf at count (Bare at 1 count)
 dueOf Quote at count = beginOf at count (Quoted at 0 count)
@@ -80,13 +80,13 @@ dueOf Blank at count = Stop BadByte at
 dueOf Other at count = Stop BadByte at
 
 -- the label has ended; if it is new, `following` counts
-unfoldable pub closeOf : List ℕ → List ℕ → List ℕ → (count first len : ℕ) → Outcome → After
+unfoldable pub closeOf : List ℕ → List ℕ → List ℕ → (count first len : ℕ) → Move → After
 unfolding repeatOf
 closeOf text start size count first len following =
     after (cond (repeatOf text start size count first len) (Stop Repeated first) following) (set start count first) (set size count len)
 
 -- one more byte of a label that has len bytes
-unfoldable pub moreOf : (at len : ℕ) → Stage → Outcome
+unfoldable pub moreOf : (at len : ℕ) → Stage → Move
 moreOf at len stage = cond (ltb len labelLimit) (Next stage) (Stop LabelTooLong at)
 
 unfoldable pub bareOf : List ℕ → Kind → (at : ℕ) → (first len count : ℕ) → List ℕ → List ℕ → After
@@ -119,7 +119,7 @@ quotedOf text Semicolon at first len count start size = after (Stop BadByte at) 
 quotedOf text Other at first len count start size = after (Stop BadByte at) start size
 
 -- just after a closing quote
-unfoldable pub closedOf : Kind → (at count : ℕ) → Outcome
+unfoldable pub closedOf : Kind → (at count : ℕ) → Move
 closedOf Comma at count = Next (Due count)
 closedOf LabelByte at count = Stop BadByte at
 closedOf Quote at count = Stop BadByte at

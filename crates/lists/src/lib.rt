@@ -13,7 +13,7 @@ ghost use Prim.Native.Nat.{_+_};
 ghost use lib.ListN.{length, set};
 ghost use Rattle.lists.specs.ReadList.{listLimit, listRead, readListIn};
 ghost use Rattle.trees.specs.Edition.{inEdition};
-ghost use Rattle.trees.specs.Slots.{Marked};
+ghost use Rattle.trees.specs.Slots.{SlotMarks};
 ghost use Rattle.trees.specs.declared.Reason.the-variants.{EndsTooSoon};
 ghost use Rattle.lists.specs.declared.Stage.the-variants.{Quoted};
 ghost use Rattle.lists.specs.declared.ListAnswer.the-variants.{Refused};
@@ -66,24 +66,24 @@ enum Stage {
 }
 
 // What a byte leads to: the next stage, or a refusal's reason and place.
-enum Outcome {
+enum Move {
     Next(Stage),
     Stop(Reason, usize),
 }
 
 // A label begins with this byte. The 81st is refused before it is compared.
-fn begin(at: usize, count: usize, stage: Stage) -> Outcome
+fn begin(at: usize, count: usize, stage: Stage) -> Move
     ensures { λ r. ⌜ r ≡ beginOf at count stage ⌝ }
 {
     if count < LIST_LIMIT {
-        Outcome::Next(stage)
+        Move::Next(stage)
     } else {
-        Outcome::Stop(Reason::TooMany, at)
+        Move::Stop(Reason::TooMany, at)
     }
 }
 
 // A byte where a label must begin: a quote opens one.
-fn due(kind: Kind, at: usize, count: usize) -> Outcome
+fn due(kind: Kind, at: usize, count: usize) -> Move
     ensures { λ r. ⌜ r ≡ dueOf kind at count ⌝ }
 {
     match kind {
@@ -105,12 +105,12 @@ fn due(kind: Kind, at: usize, count: usize) -> Outcome
                 count,
             },
         ),
-        Kind::Open => Outcome::Stop(Reason::BadByte, at),
-        Kind::Close => Outcome::Stop(Reason::BadByte, at),
-        Kind::Comma => Outcome::Stop(Reason::BadByte, at),
-        Kind::Semicolon => Outcome::Stop(Reason::BadByte, at),
-        Kind::Blank => Outcome::Stop(Reason::BadByte, at),
-        Kind::Other => Outcome::Stop(Reason::BadByte, at),
+        Kind::Open => Move::Stop(Reason::BadByte, at),
+        Kind::Close => Move::Stop(Reason::BadByte, at),
+        Kind::Comma => Move::Stop(Reason::BadByte, at),
+        Kind::Semicolon => Move::Stop(Reason::BadByte, at),
+        Kind::Blank => Move::Stop(Reason::BadByte, at),
+        Kind::Other => Move::Stop(Reason::BadByte, at),
     }
 }
 
@@ -127,11 +127,11 @@ fn keep(
     seen: &mut [u8; SLOTS],
 ) -> bool
     requires { ⌜ Fits first len count ⌝ }
-    requires { ⌜ Marked listLimit (inEdition edition (now text)) (now start) (now size) (now seen) ⌝ }
+    requires { ⌜ SlotMarks listLimit (inEdition edition (now text)) (now start) (now size) (now seen) ⌝ }
     ensures { λ r. ⌜ r ≡ repeatOf (inEdition edition (now (text .entry))) (now (start .entry)) (now (size .entry)) count first len ⌝ }
     ensures { λ r. ⌜ now (start .exit) ≡ set (now (start .entry)) count first ⌝ }
     ensures { λ r. ⌜ now (size .exit) ≡ set (now (size .entry)) count len ⌝ }
-    ensures { λ r. ⌜ Marked listLimit (inEdition edition (now (text .entry))) (now (start .exit)) (now (size .exit)) (now (seen .exit)) ⌝ }
+    ensures { λ r. ⌜ SlotMarks listLimit (inEdition edition (now (text .entry))) (now (start .exit)) (now (size .exit)) (now (seen .exit)) ⌝ }
 {
     let token = trees::part(text, first, len);
     let slot = trees::slot(edition, token);
@@ -152,18 +152,18 @@ fn close(
     start: &mut [u16; LIST_LIMIT],
     size: &mut [u8; LIST_LIMIT],
     seen: &mut [u8; SLOTS],
-    following: Outcome,
-) -> Outcome
+    following: Move,
+) -> Move
     requires { ⌜ Fits first len count ⌝ }
-    requires { ⌜ Marked listLimit (inEdition edition (now text)) (now start) (now size) (now seen) ⌝ }
+    requires { ⌜ SlotMarks listLimit (inEdition edition (now text)) (now start) (now size) (now seen) ⌝ }
     ensures { λ r. ⌜
         after r (now (start .exit)) (now (size .exit))
         ≡ closeOf (inEdition edition (now (text .entry))) (now (start .entry)) (now (size .entry)) count first len following
         ⌝ }
-    ensures { λ r. ⌜ Marked listLimit (inEdition edition (now (text .entry))) (now (start .exit)) (now (size .exit)) (now (seen .exit)) ⌝ }
+    ensures { λ r. ⌜ SlotMarks listLimit (inEdition edition (now (text .entry))) (now (start .exit)) (now (size .exit)) (now (seen .exit)) ⌝ }
 {
     if keep(edition, text, first, len, count, start, size, seen) {
-        return Outcome::Stop(Reason::Repeated, first);
+        return Move::Stop(Reason::Repeated, first);
     }
     following
 }
@@ -180,26 +180,26 @@ fn bare(
     start: &mut [u16; LIST_LIMIT],
     size: &mut [u8; LIST_LIMIT],
     seen: &mut [u8; SLOTS],
-) -> Outcome
+) -> Move
     requires { ⌜ Fits first len count ⌝ }
-    requires { ⌜ Marked listLimit (inEdition edition (now text)) (now start) (now size) (now seen) ⌝ }
+    requires { ⌜ SlotMarks listLimit (inEdition edition (now text)) (now start) (now size) (now seen) ⌝ }
     ensures { λ r. ⌜
         after r (now (start .exit)) (now (size .exit))
         ≡ bareOf (inEdition edition (now (text .entry))) kind at first len count (now (start .entry)) (now (size .entry))
         ⌝ }
-    ensures { λ r. ⌜ Marked listLimit (inEdition edition (now (text .entry))) (now (start .exit)) (now (size .exit)) (now (seen .exit)) ⌝ }
+    ensures { λ r. ⌜ SlotMarks listLimit (inEdition edition (now (text .entry))) (now (start .exit)) (now (size .exit)) (now (seen .exit)) ⌝ }
 {
-    let bad = Outcome::Stop(Reason::BadByte, at);
+    let bad = Move::Stop(Reason::BadByte, at);
     match kind {
         Kind::Label => {
             if len < LABEL_LIMIT {
-                Outcome::Next(Stage::Bare {
+                Move::Next(Stage::Bare {
                     first,
                     len: len + 1,
                     count,
                 })
             } else {
-                Outcome::Stop(Reason::LabelTooLong, at)
+                Move::Stop(Reason::LabelTooLong, at)
             }
         }
         Kind::Comma => close(
@@ -211,7 +211,7 @@ fn bare(
             start,
             size,
             seen,
-            Outcome::Next(Stage::Due { count: count + 1 }),
+            Move::Next(Stage::Due { count: count + 1 }),
         ),
         Kind::Quote => close(edition, text, first, len, count, start, size, seen, bad),
         Kind::Open => close(edition, text, first, len, count, start, size, seen, bad),
@@ -223,17 +223,17 @@ fn bare(
 }
 
 // One more byte between quotes.
-fn more(at: usize, first: usize, len: usize, count: usize) -> Outcome
+fn more(at: usize, first: usize, len: usize, count: usize) -> Move
     ensures { λ r. ⌜ r ≡ moreOf at len (Quoted first (len + 1) count) ⌝ }
 {
     if len < LABEL_LIMIT {
-        Outcome::Next(Stage::Quoted {
+        Move::Next(Stage::Quoted {
             first,
             len: len + 1,
             count,
         })
     } else {
-        Outcome::Stop(Reason::LabelTooLong, at)
+        Move::Stop(Reason::LabelTooLong, at)
     }
 }
 
@@ -248,19 +248,19 @@ fn quote(
     start: &mut [u16; LIST_LIMIT],
     size: &mut [u8; LIST_LIMIT],
     seen: &mut [u8; SLOTS],
-) -> Outcome
+) -> Move
     requires { ⌜ Fits first (len + 2) count ⌝ }
-    requires { ⌜ Marked listLimit (inEdition edition (now text)) (now start) (now size) (now seen) ⌝ }
+    requires { ⌜ SlotMarks listLimit (inEdition edition (now text)) (now start) (now size) (now seen) ⌝ }
     ensures { λ r. ⌜
         after r (now (start .exit)) (now (size .exit))
         ≡ quoteOf (inEdition edition (now (text .entry))) at first len count (now (start .entry)) (now (size .entry))
         ⌝ }
-    ensures { λ r. ⌜ Marked listLimit (inEdition edition (now (text .entry))) (now (start .exit)) (now (size .exit)) (now (seen .exit)) ⌝ }
+    ensures { λ r. ⌜ SlotMarks listLimit (inEdition edition (now (text .entry))) (now (start .exit)) (now (size .exit)) (now (seen .exit)) ⌝ }
 {
     if len == 0 {
-        return Outcome::Stop(Reason::BadByte, at);
+        return Move::Stop(Reason::BadByte, at);
     }
-    let next = Outcome::Next(Stage::Closed { count: count + 1 });
+    let next = Move::Next(Stage::Closed { count: count + 1 });
     close(
         edition,
         text,
@@ -286,40 +286,40 @@ fn quoted(
     start: &mut [u16; LIST_LIMIT],
     size: &mut [u8; LIST_LIMIT],
     seen: &mut [u8; SLOTS],
-) -> Outcome
+) -> Move
     requires { ⌜ Fits first (len + 2) count ⌝ }
-    requires { ⌜ Marked listLimit (inEdition edition (now text)) (now start) (now size) (now seen) ⌝ }
+    requires { ⌜ SlotMarks listLimit (inEdition edition (now text)) (now start) (now size) (now seen) ⌝ }
     ensures { λ r. ⌜
         after r (now (start .exit)) (now (size .exit))
         ≡ quotedOf (inEdition edition (now (text .entry))) kind at first len count (now (start .entry)) (now (size .entry))
         ⌝ }
-    ensures { λ r. ⌜ Marked listLimit (inEdition edition (now (text .entry))) (now (start .exit)) (now (size .exit)) (now (seen .exit)) ⌝ }
+    ensures { λ r. ⌜ SlotMarks listLimit (inEdition edition (now (text .entry))) (now (start .exit)) (now (size .exit)) (now (seen .exit)) ⌝ }
 {
     match kind {
         Kind::Label => more(at, first, len, count),
         Kind::Blank => more(at, first, len, count),
         Kind::Quote => quote(edition, text, at, first, len, count, start, size, seen),
-        Kind::Open => Outcome::Stop(Reason::BadByte, at),
-        Kind::Close => Outcome::Stop(Reason::BadByte, at),
-        Kind::Comma => Outcome::Stop(Reason::BadByte, at),
-        Kind::Semicolon => Outcome::Stop(Reason::BadByte, at),
-        Kind::Other => Outcome::Stop(Reason::BadByte, at),
+        Kind::Open => Move::Stop(Reason::BadByte, at),
+        Kind::Close => Move::Stop(Reason::BadByte, at),
+        Kind::Comma => Move::Stop(Reason::BadByte, at),
+        Kind::Semicolon => Move::Stop(Reason::BadByte, at),
+        Kind::Other => Move::Stop(Reason::BadByte, at),
     }
 }
 
 // A byte just after a closing quote.
-fn after_quote(kind: Kind, at: usize, count: usize) -> Outcome
+fn after_quote(kind: Kind, at: usize, count: usize) -> Move
     ensures { λ r. ⌜ r ≡ closedOf kind at count ⌝ }
 {
     match kind {
-        Kind::Comma => Outcome::Next(Stage::Due { count }),
-        Kind::Label => Outcome::Stop(Reason::BadByte, at),
-        Kind::Quote => Outcome::Stop(Reason::BadByte, at),
-        Kind::Open => Outcome::Stop(Reason::BadByte, at),
-        Kind::Close => Outcome::Stop(Reason::BadByte, at),
-        Kind::Semicolon => Outcome::Stop(Reason::BadByte, at),
-        Kind::Blank => Outcome::Stop(Reason::BadByte, at),
-        Kind::Other => Outcome::Stop(Reason::BadByte, at),
+        Kind::Comma => Move::Next(Stage::Due { count }),
+        Kind::Label => Move::Stop(Reason::BadByte, at),
+        Kind::Quote => Move::Stop(Reason::BadByte, at),
+        Kind::Open => Move::Stop(Reason::BadByte, at),
+        Kind::Close => Move::Stop(Reason::BadByte, at),
+        Kind::Semicolon => Move::Stop(Reason::BadByte, at),
+        Kind::Blank => Move::Stop(Reason::BadByte, at),
+        Kind::Other => Move::Stop(Reason::BadByte, at),
     }
 }
 
@@ -333,14 +333,14 @@ fn step(
     start: &mut [u16; LIST_LIMIT],
     size: &mut [u8; LIST_LIMIT],
     seen: &mut [u8; SLOTS],
-) -> Outcome
+) -> Move
     requires { ⌜ Room stage at ⌝ }
-    requires { ⌜ Marked listLimit (inEdition edition (now text)) (now start) (now size) (now seen) ⌝ }
+    requires { ⌜ SlotMarks listLimit (inEdition edition (now text)) (now start) (now size) (now seen) ⌝ }
     ensures { λ r. ⌜
         after r (now (start .exit)) (now (size .exit))
         ≡ stepOf (inEdition edition (now (text .entry))) kind at stage (now (start .entry)) (now (size .entry))
         ⌝ }
-    ensures { λ r. ⌜ Marked listLimit (inEdition edition (now (text .entry))) (now (start .exit)) (now (size .exit)) (now (seen .exit)) ⌝ }
+    ensures { λ r. ⌜ SlotMarks listLimit (inEdition edition (now (text .entry))) (now (start .exit)) (now (size .exit)) (now (seen .exit)) ⌝ }
 {
     match stage {
         Stage::Start => due(kind, at, 0),
@@ -395,7 +395,7 @@ fn at_end(
     seen: &mut [u8; SLOTS],
 ) -> ListAnswer
     requires { ⌜ Room stage (length (now text)) ⌝ }
-    requires { ⌜ Marked listLimit (inEdition edition (now text)) (now start) (now size) (now seen) ⌝ }
+    requires { ⌜ SlotMarks listLimit (inEdition edition (now text)) (now start) (now size) (now seen) ⌝ }
     ensures { λ r. ⌜
         ended r (now (start .exit)) (now (size .exit))
         ≡ endAt (inEdition edition (now (text .entry))) body stage (length (now (text .entry))) (now (start .entry)) (now (size .entry))
@@ -465,10 +465,10 @@ pub fn read_list(edition: Edition, text: &[u8], body: Body) -> ListRead
             &mut size,
             &mut seen,
         ) {
-            Outcome::Next(next) => {
+            Move::Next(next) => {
                 stage = next;
             }
-            Outcome::Stop(reason, place) => {
+            Move::Stop(reason, place) => {
                 return told(
                     ListAnswer::Refused(Refusal {
                         reason,

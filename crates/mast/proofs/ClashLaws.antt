@@ -1,8 +1,8 @@
 -- Number 8 by ranks: the three required labels that clash first, and where they stand in the list. Assumes nothing.
-use Prim.Native.Nat.{ℕ, zero, suc, _-_, _<_, _≤_}
+use Prim.Native.Nat.{ℕ, suc, _-_, _<_, _≤_}
 use mathlib.Core.Path.{_≡_, refl, sym, _∙_, ap, subst}
 use mathlib.Core.Bool.{true}
-use mathlib.Core.List.{List, [], _∷_, map}
+use mathlib.Core.List.{List, [], map}
 use mathlib.Core.Option.{Option, some, none}
 use native.Mathlib.Omega.{arith}
 use lib.ListN.{length, getD, length-map}
@@ -22,14 +22,14 @@ use Rattle.agreement.proofs.SetLaws.{in-sorted, length-sorted, sorted-inc, inc-
 use Rattle.agreement.proofs.AnswerLaws.{FirstThree}
 use Rattle.agreement.proofs.DemandLaws.{required-clash, clash-answer, set-answered}
 use Rattle.leaves.specs.Numbered.{LeafIs}
-use Rattle.triples.specs.declared.Three as Ranks
+use Rattle.triples.specs.declared.Indices as Ranks
 use Rattle.triples.specs.Clash.{rankOf, clashRanks, RankedTree}
 use Rattle.triples.proofs.Ranks.{place-of}
 use Rattle.triples.proofs.RowLaws.{rank-at}
 use Rattle.pairs.specs.declared.CommonOrder.{CommonOrder}
 use Rattle.mast.specs.declared.NamedLabel.{NamedLabel}
 use Rattle.mast.specs.ListMarks.{ranksFrom, Entries, Nameable, namedAt}
-use Rattle.mast.specs.RankedQuery.{RankedArrays, AskedOf}
+use Rattle.queries.specs.RankedList.{RankedArrays, AskedOf}
 use Rattle.pairs.proofs.RankLaws.{proper-nodes}
 use Rattle.pairs.proofs.LeafPlaces.{own-start, own-size}
 use Rattle.mast.proofs.RequiredLaws.{rank-label, rank-low, ranks-count}
@@ -111,7 +111,7 @@ module _ (s t : Tree) (K : List Token) (tree1 tree2 : TreeArrays) (order : Commo
       let rank : rankOf (sorted L) x ≡ i .at = ap (rankOf (sorted L)) (sym (i .is)) ∙ rank-at (sorted L) (i .at) sorted-distinct (i .below) in
       omega (arith, rank, i .below, length-sorted L)
 
-  module _ (leaf1 leaf2 : List ℕ) (three : Ranks.Three)
+  module _ (leaf1 leaf2 : List ℕ) (three : Ranks.Indices)
       (at1 : (i : ℕ) → i < places .count → i < 80 → getD leaf1 i 0 ≡ getD (order .first) (getD ranks i 0) 0)
       (at2 : (i : ℕ) → i < places .count → i < 80 → getD leaf2 i 0 ≡ getD (order .second) (getD ranks i 0) 0)
       (told : (s t : Tree) (xs : List Label) → increasing xs ≡ true → places .count ≡ length xs → places .count ≤ 80

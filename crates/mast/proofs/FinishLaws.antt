@@ -1,5 +1,5 @@
 -- The chosen labels one rank further; places stored and leaves flagged rank by rank are those of the chosen labels. Assumes nothing.
-use Prim.Native.Nat.{ℕ, zero, suc, _+_, _-_, _<_, _≤_}
+use Prim.Native.Nat.{ℕ, suc, _+_, _-_, _<_, _≤_}
 use mathlib.Core.Path.{_≡_, refl, sym, _∙_, ap}
 use mathlib.Core.Bool.{Bool, true, false, cond, or-false}
 use mathlib.Core.Logic.{_⊎_, inl, inr}
@@ -7,27 +7,20 @@ use mathlib.Core.List.{List, [], _∷_, _++_, map, append-nil, map-append}
 use native.Mathlib.Omega.{arith}
 use native.Mathlib.Numerals.{add-one}
 use lib.Dec.{eqb}
-use lib.ListN.{length, getD, set, take, drop, replicate, length-append, length-take, length-drop, length-set, length-map, getD-replicate, List·getD-append}
-use lib.Seq.{take-suc, take-all, length-take-le, getD-set-same, getD-set-other}
-use borrow.Author.Tests.{eqb-true, eqb-false, eq-eqb}
-use Rattle.trees.specs.Label.{Label, isIn, distinct}
-use Rattle.trees.specs.Tree.{Tree, leaf, node, leaves, relabel, decoded, Valid, Proper}
-use Rattle.trees.specs.Text.{written, textOf}
-use Rattle.trees.specs.Arrays.{nodesOf, nodeLimit, starts, sizes, arraysOf, isLeaf}
+use lib.ListN.{length, getD, set, take, replicate, length-append, length-take, length-set, length-map, getD-replicate}
+use lib.Seq.{take-suc, take-all, getD-set-same, getD-set-other}
+use borrow.Author.Tests.{eqb-true, eqb-false}
+use Rattle.trees.specs.Label.{Label, isIn}
+use Rattle.trees.specs.Tree.{Tree, leaf, decoded, Valid, Proper}
+use Rattle.trees.specs.Arrays.{nodeLimit, arraysOf}
 use Rattle.trees.specs.Postorder.{postorder, subtree}
-use Rattle.trees.proofs.Bools.{bool-cases, clash, refute}
-use Rattle.trees.proofs.ListLaws.{in-one, in-one-eq, in-append, in-right, distinct-left, distinct-right, distinct-apart}
-use Rattle.trees.proofs.ArrayLaws.{own-stands, good-at, label-inside, starts-length}
-use Rattle.trees.proofs.DecodedLaws.{decoded-nodes}
-use Rattle.trees.proofs.TokenLaws.{valid-decoded}
-use Rattle.trees.proofs.PostorderLaws.{Third, in-first, in-second, at-last, third, third-first, third-second, at-left, at-right, at-root}
-use Rattle.trees.proofs.PostorderLaws.{subtree-in, holds-leaf, node-leaf, leaf-once, label-shown, leaf-label}
+use Rattle.trees.proofs.Bools.{bool-cases, refute}
+use Rattle.trees.proofs.ListLaws.{in-one, in-one-eq, in-append, in-right}
+use Rattle.trees.proofs.PostorderLaws.{leaf-once, leaf-label}
 use Rattle.lists.specs.declared.LabelPlaces.{LabelPlaces}
 use Rattle.lists.specs.ReadList.{padded, listLimit}
 use Rattle.lists.proofs.ListPlaces.{store}
-use Rattle.agreement.specs.Closer.{holds}
 use Rattle.agreement.specs.Places.{placeIn, tokenIn}
-use Rattle.leaves.proofs.OwnLaws.{own-leaf}
 use Rattle.leaves.specs.Numbered.{LeafIs, Numbered}
 use Rattle.table.specs.Choice.{chosenFrom}
 use Rattle.mast.specs.Largest.{setPlaces}

@@ -1,10 +1,8 @@
 pub mod ClashLaws
 pub mod FinishLaws
-pub mod MarkLaws
 pub mod MissingLaws
 pub mod OutcomeLaws
 pub mod Promises
-pub mod ReadLaws
 pub mod RequiredLaws
 pub mod SettleLaws
 pub mod ShownLaws

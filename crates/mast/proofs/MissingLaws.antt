@@ -28,7 +28,7 @@ use Rattle.table.specs.Choice.{Marked}
 use Rattle.triples.proofs.Ranks.{place-number}
 use Rattle.pairs.specs.declared.CommonOrder.{CommonOrder}
 use Rattle.mast.specs.ListMarks.{nearerOf, leastMissing}
-use Rattle.mast.specs.RankedQuery.{AskedOf}
+use Rattle.queries.specs.RankedList.{AskedOf}
 use Rattle.mast.specs.Compare.{missing, IsMissing, isThere, placeIf}
 
 -- ---- the first label of a list that another lacks

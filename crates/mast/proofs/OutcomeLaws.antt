@@ -32,7 +32,7 @@ use Rattle.agreement.proofs.EditionText.{one-text-in}
 use Rattle.agreement.proofs.Promises as agreement
 use Rattle.pairs.specs.Outcome.{Outcome, Trio, refused, naming, found, trio}
 use Rattle.mast.specs.NamedLabels.{namedOf}
-use Rattle.mast.specs.Query.{Task, apart, together, answerTo, heldBy, eight, requiredOf}
+use Rattle.queries.specs.Query.{Task, withClash, withSet, answerTo, heldBy, disagreement, requiredOf}
 use Rattle.mast.specs.Largest.{Solution, solution, solutionText, tooShort, fitted, solutionOf, solveList, solve, largestOf}
 use Rattle.mast.specs.declared.Named.{Named}
 use Rattle.mast.specs.Compare.{Comparison, clashOf, comparison, compareOther, compareAnswers, compareLists, compare, namedIf}
@@ -87,7 +87,7 @@ module _ (e : Edition) (s : Tree) (xs : List Token) (room : ℕ) where
   set-of X = refl
 
   pub named-only : (A : Answer) (q : Refusal) (n : Trio) → Of A ≡ naming q n
-      → (a : Label) × (b : Label) × (c : Label) × (A ≡ disagree a b c) × (q ≡ eight) × (n ≡ trio e s xs a b c)
+      → (a : Label) × (b : Label) × (c : Label) × (A ≡ disagree a b c) × (q ≡ disagreement) × (n ≡ trio e s xs a b c)
   unfolding solutionOf requiredOf heldBy
   named-only (firstLacks k) q n d = refused-naming d
   named-only (secondLacks k) q n d = refused-naming d
@@ -95,13 +95,13 @@ module _ (e : Edition) (s : Tree) (xs : List Token) (room : ℕ) where
   named-only (largest X) q n d = go (fits-or-short room (solution e s X))
     where
       go : FitsOrShort room (solution e s X)
-          → (a : Label) × (b : Label) × (c : Label) × (largest X ≡ disagree a b c) × (q ≡ eight) × (n ≡ trio e s xs a b c)
+          → (a : Label) × (b : Label) × (c : Label) × (largest X ≡ disagree a b c) × (q ≡ disagreement) × (n ≡ trio e s xs a b c)
       go (inl h) = found-naming (sym (h .1) ∙ sym (set-of X) ∙ d)
       go (inr h) = refused-naming (sym (h .1) ∙ sym (set-of X) ∙ d)
 
-  clashed-only : (A : Answer) (a b c : Label) → Of A ≡ naming eight (trio e s xs a b c) → A ≡ disagree a b c
+  clashed-only : (A : Answer) (a b c : Label) → Of A ≡ naming disagreement (trio e s xs a b c) → A ≡ disagree a b c
   clashed-only A a b c d =
-      let k = named-only A eight (trio e s xs a b c) d in
+      let k = named-only A disagreement (trio e s xs a b c) d in
       let w : trio e s xs a b c ≡ trio e s xs (k .0) (k .1) (k .2) = k .5 in
       let x : k .0 ≡ a = sym (ap (λ (n : Trio). n .labels .one) w) in
       let y : k .1 ≡ b = sym (ap (λ (n : Trio). n .labels .two) w) in
@@ -152,7 +152,7 @@ module _ (e : Edition) (s : Tree) (xs ys : List Token) where
   other-named n (largest X) q r d = found-naming d
 
   pub compared-named : (A B : Answer) (q : Refusal) (n : Trio) → compareAnswers e s xs ys A B ≡ naming q n
-      → (a : Label) × (b : Label) × (c : Label) × (A ≡ disagree a b c) × (q ≡ eight) × (n ≡ trio e s xs a b c)
+      → (a : Label) × (b : Label) × (c : Label) × (A ≡ disagree a b c) × (q ≡ disagreement) × (n ≡ trio e s xs a b c)
   unfolding compareAnswers requiredOf heldBy
   compared-named (firstLacks k) B q n d = refused-naming d
   compared-named (secondLacks k) B q n d = refused-naming d
@@ -160,35 +160,35 @@ module _ (e : Edition) (s : Tree) (xs ys : List Token) where
   compared-named (largest X) B q n d = other-named (length X) B q n d
 
   -- three labels of the further list, by the comparison's own parts
-  abbrev Apart : Answer → Comparison → Three → Type 0
-  Apart B c r =
+  abbrev ClashTold : Answer → Comparison → Three → Type 0
+  ClashTold B c r =
       (B ≡ disagree (r .one) (r .two) (r .three))
       × (namedIf (c .edition) (c .first) (c .further) (c .clash) ≡ namedOf (trio e s ys (r .one) (r .two) (r .three)))
 
-  other-apart : (n : ℕ) (B : Answer) (c : Comparison) (r : Three) → compareOther e s xs ys n B ≡ found c → c .clash ≡ some r → Apart B c r
+  other-clash : (n : ℕ) (B : Answer) (c : Comparison) (r : Three) → compareOther e s xs ys n B ≡ found c → c .clash ≡ some r → ClashTold B c r
   unfolding compareOther heldBy comparison clashOf namedIf
-  other-apart n (firstLacks k) c r d h = refused-found d
-  other-apart n (secondLacks k) c r d h = refused-found d
-  other-apart n (disagree x y z) c r d h =
-      let w : comparison e s xs ys n (apart (record { one = x; two = y; three = z })) ≡ c = same-found d in
+  other-clash n (firstLacks k) c r d h = refused-found d
+  other-clash n (secondLacks k) c r d h = refused-found d
+  other-clash n (disagree x y z) c r d h =
+      let w : comparison e s xs ys n (withClash (record { one = x; two = y; three = z })) ≡ c = same-found d in
       let k : record { one = x; two = y; three = z } ≡ r = same-some (ap (λ (p : Comparison). p .clash) w ∙ h) in (
         ap (λ (p : Three). disagree (p .one) (p .two) (p .three)) k,
         ap (λ (p : Comparison). namedIf (p .edition) (p .first) (p .further) (p .clash)) (sym w)
             ∙ ap (λ (p : Three). namedOf (trio e s ys (p .one) (p .two) (p .three))) k,
       )
-  other-apart n (largest X) c r d h =
-      let w : comparison e s xs ys n (together X) ≡ c = same-found d in
+  other-clash n (largest X) c r d h =
+      let w : comparison e s xs ys n (withSet X) ≡ c = same-found d in
       let k : none ≡ some r = ap (λ (p : Comparison). p .clash) w ∙ h in
       let z : _≡_ {A = ℕ} 0 1 = cc in
       absurd (omega arith)
 
-  pub compared-apart : (A B : Answer) (c : Comparison) (r : Three) → compareAnswers e s xs ys A B ≡ found c → c .clash ≡ some r
-      → Apart B c r
+  pub compared-clash : (A B : Answer) (c : Comparison) (r : Three) → compareAnswers e s xs ys A B ≡ found c → c .clash ≡ some r
+      → ClashTold B c r
   unfolding compareAnswers requiredOf heldBy
-  compared-apart (firstLacks k) B c r d h = refused-found d
-  compared-apart (secondLacks k) B c r d h = refused-found d
-  compared-apart (disagree x y z) B c r d h = found-naming (sym d)
-  compared-apart (largest X) B c r d h = other-apart (length X) B c r d h
+  compared-clash (firstLacks k) B c r d h = refused-found d
+  compared-clash (secondLacks k) B c r d h = refused-found d
+  compared-clash (disagree x y z) B c r d h = found-naming (sym d)
+  compared-clash (largest X) B c r d h = other-clash (length X) B c r d h
 
 -- the same of texts that are read
 module _ (q : Task) (s t : Tree) (xs : List Token) (reads : Reads q s t xs) where
@@ -243,7 +243,7 @@ module _ (q : Task) (s t : Tree) (xs : List Token) (reads : Reads q s t xs) wher
 
     pub eight-exactly : Common (keyed E s) (keyed E t) (setOf L)
         → ((a : Label) × (b : Label) × (c : Label) × Clash (keyed E s) (keyed E t) L a b c)
-        ↔ ((a : Label) × (b : Label) × (c : Label) × (solve q room ≡ naming eight (trio E s xs a b c)))
+        ↔ ((a : Label) × (b : Label) × (c : Label) × (solve q room ≡ naming disagreement (trio E s xs a b c)))
     unfolding solutionOf requiredOf heldBy
     eight-exactly held = (
       λ k.
@@ -291,7 +291,7 @@ module _ (q : Task) (s t : Tree) (xs : List Token) (reads : Reads q s t xs) wher
         set-is-shown E s X valid-first (λ x h. held x h .0) r (q .first) (accepts-in E (q .first) s (reads .first-is) .0) (solve q room) d
 
     pub names-given-shown : (p : Refusal) (n : Trio) → solve q room ≡ naming p n
-        → (p ≡ eight) × NamesShown E (q .first) (q .required) (namedOf n) (n .labels)
+        → (p ≡ disagreement) × NamesShown E (q .first) (q .required) (namedOf n) (n .labels)
     names-given-shown p n d =
         let k = named-only E s xs room ANS p n (sym solve-answer ∙ d) in
         (k .4, required-shown (k .0) (k .1) (k .2) (k .3) n (k .5))
@@ -312,7 +312,7 @@ module _ (q : Task) (s t : Tree) (xs : List Token) (reads : Reads q s t xs) wher
         ∙ size-first E s xs ys ANS FURTHER X (agreement.set-promise (keyed E s) (keyed E t) L proper different X .1 h)
 
     pub compare-names-shown : (p : Refusal) (n : Trio) → compare q other ≡ naming p n
-        → (p ≡ eight) × NamesShown E (q .first) (q .required) (namedOf n) (n .labels)
+        → (p ≡ disagreement) × NamesShown E (q .first) (q .required) (namedOf n) (n .labels)
     compare-names-shown p n d =
         let k = compared-named E s xs ys ANS FURTHER p n (sym compare-answer ∙ d) in
         (k .4, required-shown (k .0) (k .1) (k .2) (k .3) n (k .5))
@@ -320,6 +320,6 @@ module _ (q : Task) (s t : Tree) (xs : List Token) (reads : Reads q s t xs) wher
     pub further-names-shown : (c : Comparison) (r : Three) → compare q other ≡ found c → c .clash ≡ some r
         → NamesShown E (q .first) other (namedIf (c .edition) (c .first) (c .further) (c .clash)) r
     further-names-shown c r d h =
-        let k = compared-apart E s xs ys ANS FURTHER c r (sym compare-answer ∙ d) h in
+        let k = compared-clash E s xs ys ANS FURTHER c r (sym compare-answer ∙ d) h in
         subst (λ (n : Named). NamesShown E (q .first) other n r) (sym (k .1))
         (three-shown other ys g (r .one) (r .two) (r .three) (k .0))

@@ -39,7 +39,7 @@ use Rattle.mast.specs.declared.Compared.{Compared}
 use Rattle.mast.specs.declared.Named.{Named}
 use Rattle.pairs.specs.Outcome.{Trio, refused, naming, found, trio}
 use Rattle.mast.specs.NamedLabels.{namedOf}
-use Rattle.mast.specs.Query.{Task, task, plain, eight}
+use Rattle.queries.specs.Query.{Task, task, plain, disagreement}
 use Rattle.mast.specs.Largest.{Solution, solution, solutionText, tooShort, solutionOf, solve, outputOf, largestOf, setPlaces}
 use Rattle.mast.specs.Compare.{Comparison, missing, IsMissing, compareOther, compare, namedIf}
 use Rattle.mast.specs.PaperNumbers.{saidOfLargest, saidOfCompare}
@@ -47,7 +47,7 @@ use Rattle.mast.specs.Reads.{Reads, SetGiven}
 use Rattle.mast.specs.Shown.{ShownInTree, NamesShown, HeldAndListed}
 use Rattle.mast.proofs.ShownLaws.{set-is-shown, names-are-shown}
 use Rattle.pairs.proofs.StepLaws.{trees-first, trees-second, trees-both, stray-first, stray-second}
-use Rattle.mast.proofs.WayLaws.{list-unread}
+use Rattle.queries.proofs.ListLaws.{list-unread}
 use Rattle.mast.proofs.WayLaws.{solve-stopped, solve-unlisted, strict-as-plain}
 use Rattle.pairs.proofs.StrayLaws.{shared-nowhere}
 use Rattle.mast.proofs.OutcomeLaws.{outcome-decides, eight-exactly, set-exactly, nine-exactly, compare-decides}
@@ -106,7 +106,7 @@ module _ (q : Task) (room : ℕ) (s t : Tree) (xs : List Token) (reads : Reads q
   pub eight-promise : Common (keyed (q .options .edition) s) (keyed (q .options .edition) t) (setOf (keysOf (q .options .edition) xs))
       → ((a : Label) × (b : Label) × (c : Label)
       × Clash (keyed (q .options .edition) s) (keyed (q .options .edition) t) (keysOf (q .options .edition) xs) a b c)
-      ↔ ((a : Label) × (b : Label) × (c : Label) × (solve q room ≡ naming eight (trio (q .options .edition) s xs a b c)))
+      ↔ ((a : Label) × (b : Label) × (c : Label) × (solve q room ≡ naming disagreement (trio (q .options .edition) s xs a b c)))
   eight-promise = eight-exactly q s t xs reads room
 
   -- A set is returned exactly if it is the largest, the first among equals, and the text of the common restriction fits.
@@ -130,7 +130,7 @@ module _ (q : Task) (room : ℕ) (s t : Tree) (xs : List Token) (reads : Reads q
   -- And of labels that are named: the refusal is number 8, each place is where the required list has that label as a whole, and each start and
   -- size name the whole leaf with it in the first text.
   pub names-shown-promise : (p : Refusal) (n : Trio) → solve q room ≡ naming p n
-      → (p ≡ eight) × NamesShown (q .options .edition) (q .first) (q .required) (namedOf n) (n .labels)
+      → (p ≡ disagreement) × NamesShown (q .options .edition) (q .first) (q .required) (namedOf n) (n .labels)
   names-shown-promise = names-given-shown q s t xs reads room
 
 -- "an output keeps every byte"; "On success the output holds the normal text and its further bytes are unchanged"
@@ -155,7 +155,7 @@ size-promise r = (refl, refl)
 -- "If an answer is an enum, the promises use a definition that gives this paper's number and values for each of its cases."
 pub rows-promise : (size bytes : ℕ) (n : Named) (q : Refusal)
     → (saidOfLargest (Found size bytes) ≡ value (size ∷ bytes ∷ []))
-    × (saidOfLargest (Naming eight n) ≡ rowNaming 8 75 0 (n .first .place ∷ n .second .place ∷ n .third .place ∷ []))
+    × (saidOfLargest (Naming disagreement n) ≡ rowNaming 8 75 0 (n .first .place ∷ n .second .place ∷ n .third .place ∷ []))
     × (saidOfLargest (Refused tooShort) ≡ row 9 79 0)
     × (saidOfLargest (Refused q) ≡ row (numberOf (q .reason)) (letterOf (q .body)) (q .place))
 unfolding saidOfLargest rowOf rowNamingOf
@@ -163,7 +163,7 @@ rows-promise size bytes n q = (refl, refl, refl, refl)
 
 pub compare-rows-promise : (d : Compared) (n : Named) (q : Refusal)
     → (saidOfCompare (compare-answer.Compared d) ≡ value d)
-    × (saidOfCompare (compare-answer.Naming eight n) ≡ rowNaming 8 75 0 (n .first .place ∷ n .second .place ∷ n .third .place ∷ []))
+    × (saidOfCompare (compare-answer.Naming disagreement n) ≡ rowNaming 8 75 0 (n .first .place ∷ n .second .place ∷ n .third .place ∷ []))
     × (saidOfCompare (compare-answer.Refused q) ≡ row (numberOf (q .reason)) (letterOf (q .body)) (q .place))
 unfolding saidOfCompare rowOf rowNamingOf
 compare-rows-promise d n q = (refl, refl, refl)
@@ -187,7 +187,7 @@ compare-promise q other s t xs ys reads = compare-decides q s t xs reads other y
 module _ (q : Task) (other : List ℕ) (s t : Tree) (xs ys : List Token) (reads : Reads q s t xs)
     (g : readListIn (q .options .edition) other ≡ good ys) where
   pub compare-names-promise : (p : Refusal) (n : Trio) → compare q other ≡ naming p n
-      → (p ≡ eight) × NamesShown (q .options .edition) (q .first) (q .required) (namedOf n) (n .labels)
+      → (p ≡ disagreement) × NamesShown (q .options .edition) (q .first) (q .required) (namedOf n) (n .labels)
   compare-names-promise = compare-names-shown q s t xs reads other ys g
 
   pub further-names-promise : (c : Comparison) (r : Three) → compare q other ≡ found c → c .clash ≡ some r

@@ -1,16 +1,15 @@
 -- The required list settled, and a further list beside the largest set: what the parts return is what the definitions say. Assumes nothing.
-use Prim.Native.Nat.{ℕ, _≤_}
+use Prim.Native.Nat.{ℕ}
 use mathlib.Core.Path.{_≡_, refl, sym, _∙_, ap, subst}
 use mathlib.Core.Bool.{Bool, true, false}
 use mathlib.Core.List.{List, map}
 use native.Mathlib.Omega.{arith}
 use lib.ListN.{length, length-map}
-use Rattle.trees.specs.declared.Body.{Body}
 use Rattle.trees.specs.declared.Body.the-variants.{K, C}
 use Rattle.trees.specs.declared.Refusal.{Refusal}
 use Rattle.trees.specs.declared.TreeArrays.{TreeArrays}
 use Rattle.trees.specs.declared.Edition.{Edition}
-use Rattle.trees.specs.Edition.{folded, keyed}
+use Rattle.trees.specs.Edition.{folded}
 use Rattle.trees.specs.Label.{Label}
 use Rattle.trees.specs.Token.{Token, spelling}
 use Rattle.trees.specs.Tree.{Tree, decoded}
@@ -22,25 +21,24 @@ use Rattle.lists.specs.ReadList.{foldedList, keysOf}
 use Rattle.agreement.specs.Sets.{common}
 use Rattle.agreement.specs.Answer.{Answer, disagree, largest}
 use Rattle.agreement.specs.Places.{placeIn, tokenIn, placeOfLabel}
-use Rattle.table.specs.Choice.{Ranked, Posed, Solved}
+use Rattle.table.specs.Choice.{Ranked, Posed}
 use Rattle.pairs.specs.declared.CommonOrder.{CommonOrder}
-use Rattle.mast.specs.declared.clash.Clash.{Clash}
+use Rattle.mast.specs.declared.clash.FirstClash.{FirstClash}
 use Rattle.mast.specs.declared.settle.Chosen.{Chosen}
 use Rattle.mast.specs.declared.settle.Settled.{Settled}
-use Rattle.mast.specs.declared.settle.Fate.{Fate}
-use Rattle.mast.specs.declared.settle.Fate.the-variants as fate
+use Rattle.mast.specs.declared.settle.ListFate.the-variants as fate
 use Rattle.mast.specs.declared.Named.{Named}
 use Rattle.mast.specs.declared.NamedLabel.{NamedLabel}
-use Rattle.mast.specs.declared.CompareAnswer.{CompareAnswer}
 use Rattle.mast.specs.declared.CompareAnswer.the-variants as compare-answer
-use Rattle.pairs.specs.Outcome.{Outcome, refused, naming, found, andThen, trio}
-use Rattle.mast.specs.NamedLabels.{namedLabel, namedOf}
-use Rattle.mast.specs.Query.{AllHeld, apart, together, answerTo, heldBy, agreedOn, eight, requiredOf, requiredSet}
+use Rattle.pairs.specs.Outcome.{Outcome, refused, found, andThen, trio}
+use Rattle.mast.specs.NamedLabels.{namedOf}
+use Rattle.queries.specs.Query.{AllHeld, withClash, withSet, answerTo, heldBy, agreedOn, disagreement, requiredOf, requiredSet}
 use Rattle.mast.specs.Compare.{Comparison, missing, clashOf, comparison, compareOther, compareAnswers, compareLists, isThere, placeIf, noName, namedIf, comparedOf}
 use Rattle.pairs.specs.PairRead.{OwnTrees, treesIn}
-use Rattle.mast.specs.ListRead.{OwnLabels}
-use Rattle.mast.specs.RankedQuery.{Asked, AskedOf, ClashIs}
-use Rattle.mast.specs.Settled.{chosenOf, NamingIs, ChosenIs, AgreedOn, SettledIs}
+use Rattle.queries.specs.ListRead.{OwnLabels}
+use Rattle.queries.specs.RankedList.{Asked, AskedOf}
+use Rattle.mast.specs.RankedQuery.{ClashIs}
+use Rattle.mast.specs.Settled.{chosenOf, NamingIs, ChosenIs, SettledIs}
 use Rattle.pairs.proofs.StepLaws.{then-refused, then-found}
 
 -- what the table is asked
@@ -88,21 +86,21 @@ module _ (e : Edition) (s t : Tree) (xs : List Token) where
   abbrev Set : Outcome (List Label)
   Set = requiredSet e (record { first = s; second = t }) xs
 
-  pub clash-none : (r : Clash) (X : List Label) → A ≡ largest X → r .apart ≡ false → r .named ≡ noName → ClashIs e s t xs r
+  pub clash-none : (r : FirstClash) (X : List Label) → A ≡ largest X → r .clashes ≡ false → r .named ≡ noName → ClashIs e s t xs r
   unfolding heldBy clashOf isThere namedIf
-  clash-none r X h p n = record { held = together X; is = λ body. ap (heldBy body xs) h; apart-is = p; named-is = n }
+  clash-none r X h p n = record { held = withSet X; is = λ body. ap (heldBy body xs) h; clashes-is = p; named-is = n }
 
-  pub clash-some : (r : Clash) (a b c : Label) → A ≡ disagree a b c → r .apart ≡ true → r .named ≡ namedOf (trio e s xs a b c) → ClashIs e s t xs r
+  pub clash-some : (r : FirstClash) (a b c : Label) → A ≡ disagree a b c → r .clashes ≡ true → r .named ≡ namedOf (trio e s xs a b c) → ClashIs e s t xs r
   unfolding heldBy clashOf isThere namedIf
   clash-some r a b c h p n =
-      record { held = apart (record { one = a; two = b; three = c }); is = λ body. ap (heldBy body xs) h; apart-is = p; named-is = n }
+      record { held = withClash (record { one = a; two = b; three = c }); is = λ body. ap (heldBy body xs) h; clashes-is = p; named-is = n }
 
   -- number 8
-  pub eight-named : (r : Clash) (a b c : Label) → A ≡ disagree a b c → ClashIs e s t xs r → NamingIs Set eight (r .named)
+  pub eight-named : (r : FirstClash) (a b c : Label) → A ≡ disagree a b c → ClashIs e s t xs r → NamingIs Set disagreement (r .named)
   unfolding requiredSet requiredOf heldBy agreedOn clashOf namedIf
   eight-named r a b c h k =
-      let f : found (apart (record { one = a; two = b; three = c })) ≡ found (k .held) = sym (ap (heldBy K xs) h) ∙ k .is K in
-      let g : apart (record { one = a; two = b; three = c }) ≡ k .held = cc in
+      let f : found (withClash (record { one = a; two = b; three = c })) ≡ found (k .held) = sym (ap (heldBy K xs) h) ∙ k .is K in
+      let g : withClash (record { one = a; two = b; three = c }) ≡ k .held = cc in
       record {
         labels = trio e s xs a b c;
         is = ap (requiredOf e s xs) h;
@@ -122,7 +120,7 @@ module _ (e : Edition) (s t : Tree) (xs : List Token) where
         → ChosenIs e s t xs chosen (record { fate = fate.Agreed; size = size })
     chosen-set size h k = record {
       never = λ q f. other f;
-      eight = λ q n f. absurd (naming-other f);
+      disagreement = λ q n f. absurd (naming-other f);
       set = λ _. set-found _ h;
       count = λ _. k;
     }
@@ -133,25 +131,25 @@ module _ (e : Edition) (s t : Tree) (xs : List Token) where
         naming-other : {q : Refusal} {n : Named} → fate.Agreed ≡ fate.Naming q n → ⊥
         naming-other f = let z : _≡_ {A = ℕ} 0 1 = cc in omega arith
 
-    pub chosen-eight : (n : Named) → NamingIs Set eight n → ChosenIs e s t xs chosen (record { fate = fate.Naming eight n; size = 0 })
+    pub chosen-eight : (n : Named) → NamingIs Set disagreement n → ChosenIs e s t xs chosen (record { fate = fate.Naming disagreement n; size = 0 })
     chosen-eight n k = record {
       never = λ q f. never-refused f;
-      eight = λ q m f. subst-naming f;
+      disagreement = λ q m f. subst-naming f;
       set = λ f. absurd (other f);
       count = λ f. absurd (other f);
     }
       where
-        never-refused : {q : Refusal} → fate.Naming eight n ≡ fate.Refused q → ⊥
+        never-refused : {q : Refusal} → fate.Naming disagreement n ≡ fate.Refused q → ⊥
         never-refused f = let z : _≡_ {A = ℕ} 0 1 = cc in omega arith
 
-        other : fate.Naming eight n ≡ fate.Agreed → ⊥
+        other : fate.Naming disagreement n ≡ fate.Agreed → ⊥
         other f = let z : _≡_ {A = ℕ} 0 1 = cc in omega arith
 
-        subst-naming : {q : Refusal} {m : Named} → fate.Naming eight n ≡ fate.Naming q m → NamingIs Set q m
+        subst-naming : {q : Refusal} {m : Named} → fate.Naming disagreement n ≡ fate.Naming q m → NamingIs Set q m
         subst-naming {q = q} {m = m} f =
-            let x : eight ≡ q = cc in
+            let x : disagreement ≡ q = cc in
             let y : n ≡ m = cc in
-            subst (λ (p : Refusal). NamingIs Set p m) x (subst (NamingIs Set eight) y k)
+            subst (λ (p : Refusal). NamingIs Set p m) x (subst (NamingIs Set disagreement) y k)
 
 -- settled
 
@@ -161,7 +159,7 @@ module _ {e : Edition} {first : List ℕ} {tree1 tree2 : TreeArrays} {order : Co
       → heldBy K (l .xs) (answerTo e (treesIn b) (l .xs)) ≡ refused q → SettledIs b l r
   settled-lack q w h = record {
     lack = λ p f. set-lacking e (b .s) (b .t) (l .xs) q h ∙ ap refused (same (sym w ∙ f));
-    eight = λ p n f. absurd (naming-other (sym w ∙ f));
+    disagreement = λ p n f. absurd (naming-other (sym w ∙ f));
     agreed = λ f. absurd (other (sym w ∙ f));
   }
     where
@@ -179,7 +177,7 @@ module _ {e : Edition} {first : List ℕ} {tree1 tree2 : TreeArrays} {order : Co
       → ChosenIs e (b .s) (b .t) (l .xs) (r .chosen) c → SettledIs b l r
   settled-chosen c w k a h = record {
     lack = λ q f. absurd (h .never q (sym w ∙ f));
-    eight = λ q n f. h .eight q n (sym w ∙ f);
+    disagreement = λ q n f. h .disagreement q n (sym w ∙ f);
     agreed = λ f. record { asked = a; set = h .set (sym w ∙ f); count = k ∙ h .count (sym w ∙ f) };
   }
 
@@ -191,20 +189,20 @@ module _ (e : Edition) (s : Tree) (xs ys : List Token) (size : ℕ) where
   unfolding compareOther comparedOf
   other-lacking B q h = ap comparedOf (sym (then-refused (heldBy C ys B) _ q h))
 
-  pub other-compared : (t : Tree) (r : Clash) → ClashIs e s t ys r → (n count place : ℕ) (lacks : Bool) → n ≡ size → count ≡ length ys
+  pub other-compared : (t : Tree) (r : FirstClash) → ClashIs e s t ys r → (n count place : ℕ) (lacks : Bool) → n ≡ size → count ≡ length ys
       → lacks ≡ isThere (missing (keysOf e xs) (keysOf e ys) 0) → place ≡ placeIf xs (missing (keysOf e xs) (keysOf e ys) 0)
       → compare-answer.Compared (record {
         size = n;
         count = count;
         lacks = lacks;
         missing = place;
-        apart = r .apart;
+        clashes = r .clashes;
         named = r .named;
       })
       ≡ comparedOf (compareOther e s xs ys size (answerTo e (record { first = s; second = t }) ys))
   unfolding compareOther comparedOf comparison
   other-compared t r k n count place lacks d c f g =
-      rw (d, c, f, g, k .apart-is, k .named-is) refl
+      rw (d, c, f, g, k .clashes-is, k .named-is) refl
       ∙ ap comparedOf (sym (then-found (heldBy C ys (answerTo e (record { first = s; second = t }) ys))
       (λ (h : AllHeld). found (comparison e s xs ys size h)) (k .held) (k .is C)))
 

@@ -1,5 +1,5 @@
 -- What the writer says of the restriction to a set is what the set comes to. Assumes nothing.
-use Prim.Native.Nat.{ℕ, _<_}
+use Prim.Native.Nat.{ℕ}
 use mathlib.Core.Path.{_≡_, refl, sym, _∙_, ap}
 use mathlib.Core.Bool.{Bool, true, false}
 use mathlib.Core.Logic.{_⊎_, inl, inr}
@@ -7,7 +7,7 @@ use mathlib.Core.List.{List, [], _∷_}
 use mathlib.Core.Option.{Option, some, none}
 use native.Mathlib.Omega.{arith}
 use lib.Dec.{leb}
-use lib.ListN.{getD, length}
+use lib.ListN.{length}
 use types.Run.{OneOf}
 use denote.Enum.Declared.{tagOf}
 use Rattle.trees.specs.declared.TreeArrays.{TreeArrays}
@@ -39,7 +39,7 @@ use Rattle.mast.specs.declared.Named.{Named}
 use Rattle.pairs.specs.Outcome.{Outcome, Trio, refused, naming, found}
 use Rattle.mast.specs.NamedLabels.{namedOf}
 use Rattle.pairs.specs.TwoTrees.{Trees}
-use Rattle.mast.specs.Query.{requiredSet}
+use Rattle.queries.specs.Query.{requiredSet}
 use Rattle.mast.specs.Largest.{Solution, solution, solutionText, tooShort, fitted, solutionOf, solveList, setPlaces, largestOf, outputOf}
 use Rattle.pairs.specs.declared.CommonOrder.{CommonOrder}
 use Rattle.pairs.specs.PairRead.{OwnTrees}

@@ -3,7 +3,6 @@ use Prim.Native.Nat.{ℕ}
 use mathlib.Core.Path.{_≡_, refl, sym, _∙_, ap}
 use mathlib.Core.List.{List}
 use lib.ListN.{length}
-use Rattle.trees.specs.declared.Body.{Body}
 use Rattle.trees.specs.declared.Body.the-variants.{K, C}
 use Rattle.trees.specs.declared.Refusal.{Refusal}
 use Rattle.trees.specs.declared.Edition.{Edition}
@@ -19,8 +18,9 @@ use Rattle.agreement.specs.Strict.{SameLeaves}
 use Rattle.pairs.specs.Outcome.{Outcome, refused, found, andThen}
 use Rattle.pairs.specs.TwoTrees.{Trees, strayFor, treesOf}
 use Rattle.pairs.proofs.StrayLaws.{shared-nowhere}
-use Rattle.pairs.proofs.StepLaws.{then-refused, then-found, Unread, body-unread, body-read, trees-both}
-use Rattle.mast.specs.Query.{Task, task, plain, listOf, heldBy, requiredOf}
+use Rattle.pairs.proofs.StepLaws.{then-refused, then-found, trees-both}
+use Rattle.queries.specs.Query.{Task, task, plain, listOf, heldBy, requiredOf}
+use Rattle.queries.proofs.ListLaws.{list-read}
 use Rattle.mast.specs.Largest.{solveList, solve}
 use Rattle.mast.specs.Compare.{compareOther, compareAnswers, compareLists, compare}
 use Rattle.mast.specs.Reads.{Reads}
@@ -29,16 +29,6 @@ pub trees-reads : (q : Task) (s t : Tree) (xs : List Token) → Reads q s t xs
     → treesOf (q .options) (q .first) (q .second) ≡ found (record { first = s; second = t })
 trees-reads q s t xs r =
     trees-both (q .options) (q .first) (q .second) s (r .first-is) t (r .second-is) (shared-nowhere (q .options) s t (r .shared))
-
--- a list
-module _ (e : Edition) (body : Body) (text : List ℕ) where
-  pub list-unread : (a : Refusal) → Unread (List Token) (readListIn e text) body a → listOf e body text ≡ refused a
-  unfolding listOf
-  list-unread = body-unread body (readListIn e text)
-
-  pub list-read : (xs : List Token) → readListIn e text ≡ good xs → listOf e body text ≡ found xs
-  unfolding listOf
-  list-read = body-read body (readListIn e text)
 
 module _ (q : Task) where
   abbrev E : Edition

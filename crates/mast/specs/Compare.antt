@@ -20,7 +20,7 @@ use Rattle.mast.specs.declared.CompareAnswer.the-variants as compare-ans
 use Rattle.pairs.specs.Outcome.{Outcome, refused, naming, found, andThen, trio}
 use Rattle.pairs.specs.TwoTrees.{Trees, treesOf}
 use Rattle.mast.specs.NamedLabels.{namedOf}
-use Rattle.mast.specs.Query.{Task, AllHeld, apart, together, listOf, answerTo, heldBy, requiredOf}
+use Rattle.queries.specs.Query.{Task, AllHeld, withClash, withSet, listOf, answerTo, heldBy, requiredOf}
 
 pub record Comparison : Type 0 where
   pub edition : Edition
@@ -48,8 +48,8 @@ pub record IsMissing (K Y : List Label) (n : ℕ) : Type 0 where
 
 -- three labels with different closer pairs, if there are such
 unfoldable pub clashOf : AllHeld → Option Three
-clashOf (apart r) = some r
-clashOf (together X) = none
+clashOf (withClash r) = some r
+clashOf (withSet X) = none
 
 unfoldable pub comparison : Edition → Tree → List Token → List Token → ℕ → AllHeld → Comparison
 unfolding missing clashOf
@@ -121,7 +121,7 @@ comparedOf (found c) =
       count = length (c .further);
       lacks = isThere (c .missed);
       missing = placeIf (c .required) (c .missed);
-      apart = isThere (c .clash);
+      clashes = isThere (c .clash);
       named = namedIf (c .edition) (c .first) (c .further) (c .clash);
     })
 comparedOf (naming q n) = compare-answer.Naming q (namedOf n)

@@ -23,7 +23,7 @@ use Rattle.mast.specs.declared.LargestResult.{LargestResult}
 use Rattle.pairs.specs.Outcome.{Outcome, refused, naming, found, andThen}
 use Rattle.pairs.specs.TwoTrees.{Trees, treesOf}
 use Rattle.mast.specs.NamedLabels.{namedOf}
-use Rattle.mast.specs.Query.{Task, listOf, answerTo, requiredOf}
+use Rattle.queries.specs.Query.{Task, listOf, answerTo, requiredOf}
 
 -- the answer: the set in label order, by its keys, and the first tree, which spells all that is printed
 pub record Solution : Type 0 where

@@ -1,10 +1,8 @@
 pub mod Compare
 pub mod Largest
 pub mod ListMarks
-pub mod ListRead
 pub mod NamedLabels
 pub mod PaperNumbers
-pub mod Query
 pub mod RankedQuery
 pub mod Reads
 pub mod SetByRank

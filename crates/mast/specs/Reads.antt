@@ -15,7 +15,7 @@ use Rattle.newick.specs.ReadTree.{readTreeIn}
 use Rattle.lists.specs.ReadList.{readListIn, keysOf}
 use Rattle.agreement.specs.Demand.{IsAnswer}
 use Rattle.agreement.specs.Strict.{SameLeaves}
-use Rattle.mast.specs.Query.{Task}
+use Rattle.queries.specs.Query.{Task}
 use Rattle.mast.specs.Largest.{solution, solutionText}
 
 -- The texts are read as these two trees and this list. If the job is strict, both trees have the same leaves (C-11). So no number before 6

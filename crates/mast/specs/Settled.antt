@@ -1,5 +1,5 @@
 -- The required list settled: 6, 7, 8, or the set by rank. Intermediate: nothing public rests on this text.
-use Prim.Native.Nat.{ℕ, _≤_}
+use Prim.Native.Nat.{ℕ}
 use mathlib.Core.Path.{_≡_}
 use mathlib.Core.Bool.{Bool, cond}
 use mathlib.Core.List.{List}
@@ -18,16 +18,16 @@ use Rattle.agreement.specs.Sets.{common}
 use Rattle.table.specs.Choice.{chosenFrom}
 use Rattle.mast.specs.declared.Named.{Named}
 use Rattle.mast.specs.declared.beside.Lacked.{Lacked}
-use Rattle.mast.specs.declared.settle.Fate.the-variants as fate
+use Rattle.mast.specs.declared.settle.ListFate.the-variants as fate
 use Rattle.mast.specs.declared.settle.Chosen.{Chosen}
 use Rattle.mast.specs.declared.settle.Settled.{Settled}
 use Rattle.pairs.specs.declared.CommonOrder.{CommonOrder}
 use Rattle.pairs.specs.Outcome.{Outcome, Trio, refused, naming, found}
 use Rattle.pairs.specs.PairRead.{OwnTrees, treesIn}
 use Rattle.mast.specs.NamedLabels.{namedOf}
-use Rattle.mast.specs.Query.{requiredSet}
-use Rattle.mast.specs.ListRead.{OwnLabels}
-use Rattle.mast.specs.RankedQuery.{AskedOf}
+use Rattle.queries.specs.Query.{requiredSet}
+use Rattle.queries.specs.ListRead.{OwnLabels}
+use Rattle.queries.specs.RankedList.{AskedOf}
 
 -- the labels chosen among the common ones
 abbrev pub chosenOf : Edition → Tree → Tree → List Bool → List Label
@@ -42,7 +42,7 @@ pub record NamingIs (x : Outcome (List Label)) (q : Refusal) (n : Named) : Type 
 -- for a list whose labels are all common
 pub record ChosenIs (e : Edition) (s t : Tree) (xs : List Token) (chosen : List Bool) (r : Chosen) : Type 0 where
   pub never : (q : Refusal) → r .fate ≡ fate.Refused q → ⊥
-  pub eight : (q : Refusal) (n : Named) → r .fate ≡ fate.Naming q n → NamingIs (requiredSet e (record { first = s; second = t }) xs) q n
+  pub disagreement : (q : Refusal) (n : Named) → r .fate ≡ fate.Naming q n → NamingIs (requiredSet e (record { first = s; second = t }) xs) q n
   pub set : r .fate ≡ fate.Agreed → requiredSet e (record { first = s; second = t }) xs ≡ found (chosenOf e s t chosen)
   pub count : r .fate ≡ fate.Agreed → r .size ≡ length (chosenOf e s t chosen)
 
@@ -56,7 +56,7 @@ module _ {e : Edition} {first : List ℕ} {tree1 tree2 : TreeArrays} {order : Co
 
   pub record SettledIs (r : Settled) : Type 0 where
     pub lack : (q : Refusal) → r .fate ≡ fate.Refused q → requiredSet e (treesIn b) (l .xs) ≡ refused q
-    pub eight : (q : Refusal) (n : Named) → r .fate ≡ fate.Naming q n → NamingIs (requiredSet e (treesIn b) (l .xs)) q n
+    pub disagreement : (q : Refusal) (n : Named) → r .fate ≡ fate.Naming q n → NamingIs (requiredSet e (treesIn b) (l .xs)) q n
     pub agreed : r .fate ≡ fate.Agreed → AgreedOn r
 
 -- the place in the required list of its label k, if it has so many

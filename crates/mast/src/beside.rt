@@ -7,27 +7,56 @@ ghost use mathlib.Core.List.{List};
 ghost use Prim.Native.Nat.{ℕ, _≤_};
 ghost use lib.Dec.{ltb};
 ghost use lib.ListN.{length, getD};
-ghost use Rattle.mast.specs.Query.{answerTo};
+ghost use Rattle.queries.specs.Query.{answerTo};
 ghost use Rattle.mast.specs.Compare.{compareLists, compareOther, comparedOf};
 ghost use Rattle.pairs.specs.PairRead.{OwnTrees, treesIn};
-ghost use Rattle.mast.specs.ListRead.{OwnLabels};
-ghost use Rattle.mast.specs.ListMarks.{leastMissing};
+ghost use Rattle.queries.specs.ListRead.{OwnLabels};
+ghost use Rattle.mast.specs.ListMarks.{nearerOf, leastMissing};
 ghost use Rattle.mast.specs.Settled.{lackedAt, chosenOf, AgreedOn};
 use crate::CompareAnswer;
 use crate::Compared;
 use crate::clash::clash_in;
-use crate::marks::first_missing;
-use crate::marks::mark_list;
-use crate::settle::Fate;
+use crate::settle::ListFate;
 use crate::settle::Settled;
 use crate::settle::settle;
 use lists::LabelPlaces;
 use pairs::CommonOrder;
 use pairs::Way;
+use queries::mark_list;
 use table::RANKS;
 use trees::Body;
 use trees::Edition;
 use trees::TreeArrays;
+use trees::wide;
+
+// Smallest index so far of a required label that the other list lacks. `number` and `other` are the label's position in each list, counted
+// from 1; 0 means the list does not contain it.
+fn nearer(best: usize, number: u8, other: u8) -> usize
+    ensures { λ r. ⌜ r ≡ nearerOf best number other ⌝ }
+{
+    if number == 0 {
+        return best;
+    }
+    if other != 0 {
+        return best;
+    }
+    trees::least(best, wide(number) - 1)
+}
+
+// Index in the required list, from 0, of its first label that a further list lacks, or `count`. `number` and `other` have, by rank, the
+// label's position in each list.
+fn first_missing(number: &[u8; RANKS], other: &[u8; RANKS], m: usize, count: usize) -> usize
+    requires { ⌜ m ≤ 80 ⌝ }
+    ensures { λ r. ⌜ r ≡ leastMissing (now (number .entry)) (now (other .entry)) m count ⌝ }
+{
+    let mut best = count;
+    let mut r: usize = 0;
+    while r < m {
+        best = nearer(best, number[r], other[r]);
+        r += 1;
+    }
+    best
+}
 
 // Where label k of a list stands in it; 0 if it has no such label.
 fn place_if(places: LabelPlaces, k: usize) -> usize
@@ -92,7 +121,7 @@ fn beside(
         count: others.count,
         lacks: lacked.lacks,
         missing: lacked.missing,
-        apart: clash.apart,
+        clashes: clash.clashes,
         named,
     })
 }
@@ -118,7 +147,7 @@ pub(crate) fn compare_lists(
     let settled = settle(edition, first, tree1, tree2, order, list, places);
     let fate = settled.fate;
     match fate {
-        Fate::Agreed => {
+        ListFate::Agreed => {
             beside(
                 edition,
                 first,
@@ -131,7 +160,7 @@ pub(crate) fn compare_lists(
                 others,
             )
         }
-        Fate::Naming(refusal, named) => CompareAnswer::Naming(refusal, named),
-        Fate::Refused(refusal) => CompareAnswer::Refused(refusal),
+        ListFate::Naming(refusal, named) => CompareAnswer::Naming(refusal, named),
+        ListFate::Refused(refusal) => CompareAnswer::Refused(refusal),
     }
 }

@@ -3,7 +3,7 @@
 // Names that end in 1 are of the first tree, in 2 of the second.
 ghost use mathlib.Core.Path.{_≡_};
 ghost use mathlib.Core.List.{List};
-ghost use Prim.Native.Nat.{ℕ, _-_, _<_, _≤_};
+ghost use Prim.Native.Nat.{_-_, _<_, _≤_};
 ghost use lib.ListN.{getD};
 ghost use Rattle.trees.specs.Edition.{folded};
 ghost use Rattle.trees.specs.Token.{Token};
@@ -11,7 +11,8 @@ ghost use Rattle.trees.specs.Tree.{Tree};
 ghost use Rattle.lists.specs.ReadList.{foldedList};
 ghost use Rattle.mast.specs.Compare.{noName};
 ghost use Rattle.mast.specs.ListMarks.{ranksFrom, Entries, Added, Nameable, namedAt};
-ghost use Rattle.mast.specs.RankedQuery.{AskedOf, SomeAsked, Gathered, ClashIs};
+ghost use Rattle.queries.specs.RankedList.{AskedOf};
+ghost use Rattle.mast.specs.RankedQuery.{SomeAsked, RanksGathered, ClashIs};
 use crate::Named;
 use crate::NamedLabel;
 use lists::LabelPlaces;
@@ -24,7 +25,7 @@ use trees::NODE_LIMIT;
 use trees::TreeArrays;
 use trees::wide;
 use trees::wide_place;
-use triples::Three;
+use triples::Indices;
 
 // Stores rank r behind n others if it is that of a marked label, and says how many there are then.
 fn add_rank(ranks: &mut [usize; LEAF_LIMIT], n: usize, number: u8, r: usize) -> usize
@@ -121,7 +122,7 @@ fn named_three(
     ranks: &[usize; LEAF_LIMIT],
     tree1: TreeArrays,
     leaf1: &[usize; LEAF_LIMIT],
-    three: Three,
+    three: Indices,
 ) -> Named
     requires { ⌜ Nameable (now number) (now ranks) (now leaf1) (three .first)
         × Nameable (now number) (now ranks) (now leaf1) (three .second) × Nameable (now number) (now ranks) (now leaf1) (three .third) ⌝ }
@@ -153,7 +154,7 @@ fn gather(
     leaf2: &mut [usize; LEAF_LIMIT],
 ) -> [usize; LEAF_LIMIT]
     requires { ⌜ order .count ≤ 80 ⌝ }
-    ensures { λ ranks. ⌜ Gathered (now (number .entry)) order count ranks (now (leaf1 .exit)) (now (leaf2 .exit)) ⌝ }
+    ensures { λ ranks. ⌜ RanksGathered (now (number .entry)) order count ranks (now (leaf1 .exit)) (now (leaf2 .exit)) ⌝ }
 {
     let order1 = order.first;
     let order2 = order.second;
@@ -164,8 +165,8 @@ fn gather(
 }
 
 // Whether three labels of a list have different closer pairs, and the first such three.
-pub(crate) struct Clash {
-    pub apart: bool,
+pub(crate) struct FirstClash {
+    pub clashes: bool,
     pub named: Named,
 }
 
@@ -176,7 +177,7 @@ pub(crate) fn clash_in(
     order: CommonOrder,
     number: &[u8; RANKS],
     places: LabelPlaces,
-) -> Clash
+) -> FirstClash
     requires { ⌜ SomeAsked tree1 tree2 order (now number) places ⌝ }
     ensures { λ r. ⌜ ((e : Edition) (s t : Tree) (xs : List Token)
         → AskedOf (folded e s) (folded e t) (foldedList e xs) tree1 tree2 order (now (number .entry)) places → ClashIs e s t xs r) ⌝ }
@@ -197,13 +198,13 @@ pub(crate) fn clash_in(
         count,
     );
     if count <= three.first {
-        return Clash {
-            apart: false,
+        return FirstClash {
+            clashes: false,
             named: no_name(),
         };
     }
-    Clash {
-        apart: true,
+    FirstClash {
+        clashes: true,
         named: named_three(places, number, &ranks, tree1, &leaf1, three),
     }
 }

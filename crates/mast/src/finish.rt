@@ -15,11 +15,11 @@ ghost use Rattle.table.specs.Choice.{chosenFrom};
 ghost use Rattle.lists.specs.ReadList.{placesOf};
 ghost use Rattle.mast.specs.Largest.{solution, fitted, solveList, setPlaces, largestOf, outputOf};
 ghost use Rattle.pairs.specs.PairRead.{OwnTrees, treesIn};
-ghost use Rattle.mast.specs.ListRead.{OwnLabels};
+ghost use Rattle.queries.specs.ListRead.{OwnLabels};
 ghost use Rattle.mast.specs.SetByRank.{InRange, placesFrom, Stored, Flagged, ByRank, resultFrom};
 use crate::LargestAnswer;
 use crate::LargestResult;
-use crate::settle::Fate;
+use crate::settle::ListFate;
 use crate::settle::settle;
 use lists::LabelPlaces;
 use pairs::CommonOrder;
@@ -186,12 +186,12 @@ pub(crate) fn answer_list(
     let settled = settle(edition, first, tree1, tree2, order, list, places);
     let fate = settled.fate;
     match fate {
-        Fate::Agreed => {
+        ListFate::Agreed => {
             let order1 = order.first;
             let chosen = settled.chosen;
             solution(edition, tree1, first, &order1, order.count, &chosen, out)
         }
-        Fate::Naming(refusal, named) => without_set(LargestAnswer::Naming(refusal, named)),
-        Fate::Refused(refusal) => without_set(LargestAnswer::Refused(refusal)),
+        ListFate::Naming(refusal, named) => without_set(LargestAnswer::Naming(refusal, named)),
+        ListFate::Refused(refusal) => without_set(LargestAnswer::Refused(refusal)),
     }
 }

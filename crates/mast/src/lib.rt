@@ -4,23 +4,22 @@
 use crate::beside::compare_lists;
 use crate::finish::answer_list;
 use crate::finish::without_set;
-use crate::marks::read_labels;
 use lists::LabelPlaces;
 use pairs::Options;
 use pairs::Way;
 use pairs::read_pair;
+use queries::read_labels;
 use trees::Body;
 use trees::Refusal;
 ghost use mathlib.Core.Path.{_≡_};
 ghost use lib.ListN.{length};
-ghost use Rattle.mast.specs.Query.{task};
+ghost use Rattle.queries.specs.Query.{task};
 ghost use Rattle.mast.specs.Largest.{solve, largestOf, outputOf};
 ghost use Rattle.mast.specs.Compare.{compare, comparedOf};
 
 mod beside;
 mod clash;
 mod finish;
-mod marks;
 mod settle;
 
 // A label that a refusal names: its place in its list, and its place and size in the first tree's text.
@@ -58,7 +57,7 @@ pub struct Compared {
     pub count: usize,
     pub lacks: bool,
     pub missing: usize,
-    pub apart: bool,
+    pub clashes: bool,
     pub named: Named,
 }
 

@@ -7,18 +7,19 @@ ghost use Rattle.trees.specs.Edition.{folded};
 ghost use Rattle.trees.specs.Token.{Token};
 ghost use Rattle.trees.specs.Tree.{Tree};
 ghost use Rattle.lists.specs.ReadList.{foldedList};
-ghost use Rattle.mast.specs.Query.{eight};
+ghost use Rattle.queries.specs.Query.{disagreement};
 ghost use Rattle.pairs.specs.PairRead.{OwnTrees};
-ghost use Rattle.mast.specs.ListRead.{OwnLabels};
-ghost use Rattle.mast.specs.RankedQuery.{AskedOf, SomeAsked};
+ghost use Rattle.queries.specs.ListRead.{OwnLabels};
+ghost use Rattle.queries.specs.RankedList.{AskedOf};
+ghost use Rattle.mast.specs.RankedQuery.{SomeAsked};
 ghost use Rattle.mast.specs.Settled.{ChosenIs, SettledIs};
 use crate::Named;
 use crate::clash::clash_in;
-use crate::marks::mark_list;
 use lists::LabelPlaces;
 use pairs::CommonOrder;
 use pairs::Way;
 use pairs::rank_leaves;
+use queries::mark_list;
 use table::RANKS;
 use table::largest_set;
 use trees::Body;
@@ -30,15 +31,15 @@ use trees::Refusal;
 use trees::TreeArrays;
 
 // What becomes of the required list: the trees agree on it, or a refusal.
-pub(crate) enum Fate {
+pub(crate) enum ListFate {
     Agreed,
     Naming(Refusal, Named),
     Refused(Refusal),
 }
 
 // Number 8.
-fn eight() -> Refusal
-    ensures { λ r. ⌜ r ≡ eight ⌝ }
+fn disagreement() -> Refusal
+    ensures { λ r. ⌜ r ≡ disagreement ⌝ }
 {
     Refusal {
         reason: Reason::Disagree,
@@ -49,7 +50,7 @@ fn eight() -> Refusal
 
 // What becomes of a list of common labels, and how many labels are chosen.
 struct Chosen {
-    fate: Fate,
+    fate: ListFate,
     size: usize,
 }
 
@@ -86,14 +87,14 @@ fn choose(
     );
     if largest.found {
         return Chosen {
-            fate: Fate::Agreed,
+            fate: ListFate::Agreed,
             size: largest.size,
         };
     }
     let clash = clash_in(tree1, tree2, order, number, places);
     let named = clash.named;
     Chosen {
-        fate: Fate::Naming(eight(), named),
+        fate: ListFate::Naming(disagreement(), named),
         size: 0,
     }
 }
@@ -101,7 +102,7 @@ fn choose(
 // The required list settled, with the list's marks and the labels chosen, whose number is `size`. If the trees do not agree on the list, nothing
 // reads these.
 pub(crate) struct Settled {
-    pub fate: Fate,
+    pub fate: ListFate,
     pub size: usize,
     pub number: [u8; RANKS],
     pub chosen: [bool; LEAF_LIMIT],
@@ -127,7 +128,7 @@ pub(crate) fn settle(
     let mut chosen = [false; LEAF_LIMIT];
     if let Way::Stopped(refusal) = way {
         return Settled {
-            fate: Fate::Refused(refusal),
+            fate: ListFate::Refused(refusal),
             size: 0,
             number,
             chosen,

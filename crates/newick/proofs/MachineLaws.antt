@@ -14,7 +14,7 @@ use Rattle.newick.specs.declared.Mode.the-variants.{Due, Inside, Quoted,
 use Rattle.newick.specs.declared.Scan.{Scan}
 use Rattle.newick.specs.declared.Move.{Move}
 use Rattle.newick.specs.declared.Move.the-variants.{On, Stop}
-use Rattle.newick.specs.Machine.{Arrays, Outcome, on, halt, outcome, repeatOf, dueOf, afterOf, leafScan, leafArrays, leafOf, afterLeaf}
+use Rattle.newick.specs.Machine.{Arrays, Progress, on, halt, progressOf, repeatOf, dueOf, afterOf, leafScan, leafArrays, leafOf, afterLeaf}
 use Rattle.newick.specs.Machine.{labelEnd, insideOf, quotedOf, moveOf, answerOf, Room, Ready}
 
 -- a step where the mode is known
@@ -63,7 +63,7 @@ module _ (text : List ℕ) (st : Scan) (a : Arrays) (first len : ℕ) (q : Bool)
       → labelEnd text st a first len i k
       ≡ cond q (halt Repeated first) (afterOf (leafScan st) (leafArrays st a first len) (st .nodes) i k)
   unfolding labelEnd
-  end-known i k = ap (λ (o : Outcome). afterLeaf o (st .nodes) i k) leaf-known ∙ go q
+  end-known i k = ap (λ (o : Progress). afterLeaf o (st .nodes) i k) leaf-known ∙ go q
     where
       go : (t : Bool)
           → afterLeaf (cond t (halt Repeated first) (on (leafScan st) (leafArrays st a first len))) (st .nodes) i k
@@ -72,21 +72,21 @@ module _ (text : List ℕ) (st : Scan) (a : Arrays) (first len : ℕ) (q : Bool)
       go false = refl
 
 -- what the end of a label leads to
-module _ (m : Move) (text : List ℕ) (st : Scan) (a b : Arrays) (first len : ℕ) (h : outcome m b ≡ leafOf text st a first len) where
+module _ (m : Move) (text : List ℕ) (st : Scan) (a b : Arrays) (first len : ℕ) (h : progressOf m b ≡ leafOf text st a first len) where
   -- where it stops
-  pub end-stops : (d : Arrays) (i : ℕ) (k : Kind) {r : Reason} {j : ℕ} → m ≡ Stop r j → outcome m d ≡ labelEnd text st a first len i k
+  pub end-stops : (d : Arrays) (i : ℕ) (k : Kind) {r : Reason} {j : ℕ} → m ≡ Stop r j → progressOf m d ≡ labelEnd text st a first len i k
   unfolding labelEnd
   end-stops d i k e =
-      ap (λ (w : Move). outcome w d) e ∙ ap (λ (o : Outcome). afterLeaf o (st .nodes) i k) (sym (ap (λ (w : Move). outcome w b) e) ∙ h)
+      ap (λ (w : Move). progressOf w d) e ∙ ap (λ (o : Progress). afterLeaf o (st .nodes) i k) (sym (ap (λ (w : Move). progressOf w b) e) ∙ h)
 
   -- where it goes on
   module _ {n : Scan} (e : m ≡ On n) where
     goes-on : on n b ≡ leafOf text st a first len
-    goes-on = sym (ap (λ (w : Move). outcome w b) e) ∙ h
+    goes-on = sym (ap (λ (w : Move). progressOf w b) e) ∙ h
 
     pub end-goes-on : (i : ℕ) (k : Kind) → afterOf n b (st .nodes) i k ≡ labelEnd text st a first len i k
     unfolding labelEnd
-    end-goes-on i k = ap (λ (o : Outcome). afterLeaf o (st .nodes) i k) goes-on
+    end-goes-on i k = ap (λ (o : Progress). afterLeaf o (st .nodes) i k) goes-on
 
     pub leaf-ready : Room st → st .nodes + st .depth ≤ 2 * st .opens
         → Room n × ((n .nodes + n .depth ≤ 2 * n .opens + 1) × (st .nodes < nodeLimit))

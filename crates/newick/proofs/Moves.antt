@@ -29,7 +29,7 @@ use Rattle.newick.specs.declared.Mode.the-variants.{Due, Inside}
 use Rattle.newick.specs.declared.Scan.{Scan}
 use Rattle.newick.specs.ReadTree.{Opened, first, second, Phase, nodeDue, inLabel, inQuotes, afterNode, ended, State, Step, next}
 use Rattle.newick.specs.ReadTree.{stop, step, stepAfter, stepDue, stepLabel, stepInner, stepClosing, stepQuotes, readFrom}
-use Rattle.newick.specs.Machine.{openLimit, Arrays, arrays, Outcome, on, halt, scan, leafScan, leafArrays, repeatOf, dueOf}
+use Rattle.newick.specs.Machine.{openLimit, Arrays, arrays, Progress, on, halt, scan, leafScan, leafArrays, repeatOf, dueOf}
 use Rattle.newick.specs.Machine.{closeOf, commaOf, afterOf, leafOf, afterLeaf, labelEnd, insideOf, innerOf, closingOf, quotedOf, moveOf}
 use Rattle.newick.proofs.MachineLaws.{move-due, move-inside, move-quoted, move-after, move-done, leaf-known, end-known}
 use Rattle.newick.proofs.OpenNodes.{textIn, nodesIn}
@@ -63,17 +63,17 @@ pub record Follower (text : List ℕ) (R : Reading Tree) (st : Scan) (a : Arrays
   pub told : expected ph s seen st i rest ≡ R
 
 -- where a step leads
-abbrev pub Leads : List ℕ → Reading Tree → ℕ → List ℕ → Outcome → Type 0
+abbrev pub Leads : List ℕ → Reading Tree → ℕ → List ℕ → Progress → Type 0
 Leads text R i rest (on st a) = Follower text R st a i rest
 Leads text R i rest (halt r j) = R ≡ refused r j
 
-pub leads-as : (text : List ℕ) (i : ℕ) (rest : List ℕ) {R Q : Reading Tree} {x y : Outcome} → R ≡ Q → x ≡ y
+pub leads-as : (text : List ℕ) (i : ℕ) (rest : List ℕ) {R Q : Reading Tree} {x y : Progress} → R ≡ Q → x ≡ y
     → Leads text R i rest x → Leads text Q i rest y
 leads-as text i rest {R} {Q} {x} {y} e f h =
-    subst (λ (r : Reading Tree). Leads text r i rest y) e (subst (λ (o : Outcome). Leads text R i rest o) f h)
+    subst (λ (r : Reading Tree). Leads text r i rest y) e (subst (λ (o : Progress). Leads text R i rest o) f h)
 
 -- a label that is complete: if it repeats, the reading told so at its first byte, and the machine does now
-told-or : (text : List ℕ) (i : ℕ) (rest : List ℕ) (p : ℕ) (q : Bool) (R : Reading Tree) (o : Outcome) → Leads text R i rest o
+told-or : (text : List ℕ) (i : ℕ) (rest : List ℕ) (p : ℕ) (q : Bool) (R : Reading Tree) (o : Progress) → Leads text R i rest o
     → Leads text (cond q (refused Repeated p) R) i rest (cond q (halt Repeated p) o)
 told-or text i rest p true R o h = refl
 told-or text i rest p false R o h = h
@@ -218,7 +218,7 @@ module _ {text : List ℕ} {x : Token} {s : List Opened} {seen : List Label} {st
 -- a byte after an opening quote
 module _ {text : List ℕ} {x : List ℕ} {s : List Opened} {seen : List Label} {st : Scan} {a : Arrays} {i b : ℕ} {rest : List ℕ}
     (F : Follows text (inQuotes x) s seen st a i (b ∷ rest)) where
-  abbrev Goes : Step → Outcome → Type 0
+  abbrev Goes : Step → Progress → Type 0
   Goes z o =
       Leads text (cond (repeats seen (quoteByte ∷ (x ++ (b ∷ rest)))) (refused Repeated (length (textIn s))) (after z i rest)) (i + 1) rest o
 

@@ -27,7 +27,7 @@ use Rattle.newick.specs.declared.TreeAnswer.{TreeAnswer}
 use Rattle.newick.specs.declared.TreeAnswer.the-variants.{Leaves, Refused}
 use Rattle.newick.specs.ReadTree.{Opened, Phase, nodeDue, inLabel, inQuotes, afterNode, ended, readFrom, endOf}
 use Rattle.newick.specs.ReadTree.{readTree, treeRead}
-use Rattle.newick.specs.Machine.{openLimit, Arrays, arrays, Outcome, outcome, scan, moveOf, answerOf, refusal, turnedDown}
+use Rattle.newick.specs.Machine.{openLimit, Arrays, arrays, Progress, progressOf, scan, moveOf, answerOf, refusal, turnedDown}
 use Rattle.newick.specs.Machine.{withArrays, Room, Fits, Ready}
 use Rattle.newick.proofs.MachineLaws.{ready-as, answer-as}
 use Rattle.newick.proofs.OpenNodes.{nodes-inner, leaves-inner, textIn, nodesIn, leavesIn, opensIn, heading, nodes-bound}
@@ -109,7 +109,7 @@ module _ (text : List ℕ) (st : Scan) (a : Arrays) (i : ℕ) (S : Simulates tex
       ready-by (S .ph) F (record { few = C .few; deep = omega (arith, C .depth, C .opens, depth-bound (S .s)) })
 
   -- what its result says
-  leads-so : (x : Outcome) → i < length text → x ≡ moveOf (st .mode) text st a i (kindOf (getD text i 0))
+  leads-so : (x : Progress) → i < length text → x ≡ moveOf (st .mode) text st a i (kindOf (getD text i 0))
       → Leads text (readTree text) (i + 1) (drop (i + 1) text) x
   leads-so x h e =
       let d : drop i text ≡ getD text i 0 ∷ drop (i + 1) text
@@ -119,17 +119,17 @@ module _ (text : List ℕ) (st : Scan) (a : Arrays) (i : ℕ) (S : Simulates tex
 
   -- where it goes on the machine follows
   pub goes-on-so : (m : Move) (b : Arrays) (n : Scan) → i < length text
-      → outcome m b ≡ moveOf (st .mode) text st a i (kindOf (getD text i 0)) → m ≡ On n → Simulates text n b (i + 1)
+      → progressOf m b ≡ moveOf (st .mode) text st a i (kindOf (getD text i 0)) → m ≡ On n → Simulates text n b (i + 1)
   goes-on-so m b n h e q =
-      subst (λ (x : Move). Leads text (readTree text) (i + 1) (drop (i + 1) text) (outcome x b)) q (leads-so (outcome m b) h e)
+      subst (λ (x : Move). Leads text (readTree text) (i + 1) (drop (i + 1) text) (progressOf x b)) q (leads-so (progressOf m b) h e)
 
   -- where it stops the reading does
   pub stops-so : (body : Body) (m : Move) (b : Arrays) (r : Reason) (p : ℕ) → i < length text
-      → outcome m b ≡ moveOf (st .mode) text st a i (kindOf (getD text i 0)) → m ≡ Stop r p
+      → progressOf m b ≡ moveOf (st .mode) text st a i (kindOf (getD text i 0)) → m ≡ Stop r p
       → turnedDown (refusal body r p) ≡ treeRead body (readTree text)
   stops-so body m b r p h e q =
       refused-so text body r p
-      (sym (subst (λ (x : Move). Leads text (readTree text) (i + 1) (drop (i + 1) text) (outcome x b)) q (leads-so (outcome m b) h e)))
+      (sym (subst (λ (x : Move). Leads text (readTree text) (i + 1) (drop (i + 1) text) (progressOf x b)) q (leads-so (progressOf m b) h e)))
 
 -- what the answer at the end says of the reading
 abbrev Ends : List ℕ → Body → Scan → Arrays → TreeAnswer → Type 0

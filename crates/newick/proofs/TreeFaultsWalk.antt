@@ -70,13 +70,13 @@ Marks text i (afterNode t) stack = KnownOf text (stackLabels stack ++ leaves t) 
 Marks text i (ended t) stack = Unit {0}
 
 -- what holds when p was read and rest is left, at place i: p are these bytes, with these labels complete and these marks
-record Holds (text p rest : List ℕ) (i : ℕ) (bytes : List ℕ) (labels : List Token) (Marked : Type 0) (opens : ℕ) (seen : List Label) : Type 0 where
+record Holds (text p rest : List ℕ) (i : ℕ) (bytes : List ℕ) (labels : List Token) (SlotMarks : Type 0) (opens : ℕ) (seen : List Label) : Type 0 where
   base : Read TreeText OpenCrowd text p rest i labels
   told : p ≡ bytes
   known : seen ≡ map spelling labels
   count : opens ≡ occurrences openByte p
   few : opens < leafLimit
-  marks : Marked
+  marks : SlotMarks
 
 -- of a state
 abbrev HoldsAt : (text p rest : List ℕ) → ℕ → Phase → List Opened → ℕ → List Label → Type 0
@@ -108,8 +108,8 @@ so-far-more false x b = refl
 text-continues : (t : Tree) → looseLabels (leaves t) ≡ true → Continues TreeText (textOf t)
 text-continues t h = ([], (t, h, append-nil (textOf t)))
 
-module _ {text p rest : List ℕ} {i : ℕ} {bytes : List ℕ} {labels : List Token} {Marked : Type 0} {opens : ℕ} {seen : List Label}
-    (h : Holds text p rest i bytes labels Marked opens seen) where
+module _ {text p rest : List ℕ} {i : ℕ} {bytes : List ℕ} {labels : List Token} {SlotMarks : Type 0} {opens : ℕ} {seen : List Label}
+    (h : Holds text p rest i bytes labels SlotMarks opens seen) where
   loose : looseLabels labels ≡ true
   loose = good-loose labels (h .base .fine)
 

@@ -40,13 +40,13 @@ abbrev pub arrays : List ℕ → List ℕ → List ℕ → List ℕ → List ℕ
 arrays k l r s z = record { stack = k; left = l; right = r; start = s; size = z }
 
 -- the state and the arrays after a step, or a refusal's reason and place
-pub data Outcome : Type 0 where
-  on : Scan → Arrays → Outcome
-  halt : Reason → ℕ → Outcome
+pub data Progress : Type 0 where
+  on : Scan → Arrays → Progress
+  halt : Reason → ℕ → Progress
 
-abbrev pub outcome : Move → Arrays → Outcome
-outcome (On st) a = on st a
-outcome (Stop r i) a = halt r i
+abbrev pub progressOf : Move → Arrays → Progress
+progressOf (On st) a = on st a
+progressOf (Stop r i) a = halt r i
 
 abbrev pub scan : Mode → ℕ → ℕ → ℕ → Scan
 scan m depth opens nodes = record { mode = m; depth = depth; opens = opens; nodes = nodes }
@@ -56,7 +56,7 @@ unfoldable pub repeatOf : List ℕ → (start size : List ℕ) → ℕ → (firs
 repeatOf text start size n first len = isAmong text start size n (partOf first len text)
 
 -- a byte where a node must begin
-unfoldable pub dueOf : Scan → Arrays → ℕ → Kind → Outcome
+unfoldable pub dueOf : Scan → Arrays → ℕ → Kind → Progress
 dueOf st a i LabelByte = on (scan (Inside i 1) (st .depth) (st .opens) (st .nodes)) a
 dueOf st a i Open =
     cond (ltb (st .opens) openLimit)
@@ -71,7 +71,7 @@ dueOf st a i Blank = halt BadByte i
 dueOf st a i Other = halt BadByte i
 
 -- `)` after node u: the innermost `(` must have its first child, and becomes a node
-unfoldable pub closeOf : Scan → Arrays → ℕ → ℕ → Outcome
+unfoldable pub closeOf : Scan → Arrays → ℕ → ℕ → Progress
 closeOf st a u i =
     cond (eqb (st .depth) 0) (halt BadByte i)
     (cond (eqb (getD (a .stack) (st .depth - 1) 0) 0) (halt BadByte i)
@@ -80,7 +80,7 @@ closeOf st a u i =
     (a .size))))
 
 -- `,` after node u: it is the first child of the innermost `(`, which must lack one
-unfoldable pub commaOf : Scan → Arrays → ℕ → ℕ → Outcome
+unfoldable pub commaOf : Scan → Arrays → ℕ → ℕ → Progress
 commaOf st a u i =
     cond (eqb (st .depth) 0) (halt BadByte i)
     (cond (eqb (getD (a .stack) (st .depth - 1) 0) 0)
@@ -89,7 +89,7 @@ commaOf st a u i =
     (halt BadByte i))
 
 -- a byte just after node u
-unfoldable pub afterOf : Scan → Arrays → ℕ → ℕ → Kind → Outcome
+unfoldable pub afterOf : Scan → Arrays → ℕ → ℕ → Kind → Progress
 unfolding closeOf commaOf
 afterOf st a u i LabelByte = halt BadByte i
 afterOf st a u i Open = halt BadByte i
@@ -111,24 +111,24 @@ leafArrays st a first len =
     (set (a .start) (st .nodes) first) (set (a .size) (st .nodes) len)
 
 -- the label of `len` bytes from `first` is complete: it is a leaf, unless it repeats
-unfoldable pub leafOf : List ℕ → Scan → Arrays → (first len : ℕ) → Outcome
+unfoldable pub leafOf : List ℕ → Scan → Arrays → (first len : ℕ) → Progress
 unfolding repeatOf
 leafOf text st a first len =
     cond (repeatOf text (a .start) (a .size) (st .nodes) first len) (halt Repeated first)
     (on (leafScan st) (leafArrays st a first len))
 
 -- the byte after a label, given the result of the label
-abbrev pub afterLeaf : Outcome → (u i : ℕ) → Kind → Outcome
+abbrev pub afterLeaf : Progress → (u i : ℕ) → Kind → Progress
 afterLeaf (on st a) u i k = afterOf st a u i k
 afterLeaf (halt r j) u i k = halt r j
 
 -- the byte after a bare label
-unfoldable pub labelEnd : List ℕ → Scan → Arrays → (first len i : ℕ) → Kind → Outcome
+unfoldable pub labelEnd : List ℕ → Scan → Arrays → (first len i : ℕ) → Kind → Progress
 unfolding leafOf afterOf
 labelEnd text st a first len i k = afterLeaf (leafOf text st a first len) (st .nodes) i k
 
 -- a byte inside or just after a bare label
-unfoldable pub insideOf : List ℕ → Scan → Arrays → (first len i : ℕ) → Kind → Outcome
+unfoldable pub insideOf : List ℕ → Scan → Arrays → (first len i : ℕ) → Kind → Progress
 unfolding labelEnd
 insideOf text st a first len i LabelByte =
     cond (ltb len labelLimit) (on (scan (Inside first (len + 1)) (st .depth) (st .opens) (st .nodes)) a) (halt LabelTooLong i)
@@ -141,17 +141,17 @@ insideOf text st a first len i Blank = labelEnd text st a first len i Blank
 insideOf text st a first len i Other = labelEnd text st a first len i Other
 
 -- a byte that is allowed between quotes, after the quote at `first` and `inner` bytes
-unfoldable pub innerOf : Scan → Arrays → (first inner i : ℕ) → Outcome
+unfoldable pub innerOf : Scan → Arrays → (first inner i : ℕ) → Progress
 innerOf st a first inner i =
     cond (ltb inner labelLimit) (on (scan (Quoted first (inner + 1)) (st .depth) (st .opens) (st .nodes)) a) (halt LabelTooLong i)
 
 -- a quote there: it ends the label, of which both quotes are a part
-unfoldable pub closingOf : List ℕ → Scan → Arrays → (first len i : ℕ) → Outcome
+unfoldable pub closingOf : List ℕ → Scan → Arrays → (first len i : ℕ) → Progress
 unfolding leafOf
 closingOf text st a first len i = cond (eqb len 0) (halt BadByte i) (leafOf text st a first (len + 2))
 
 -- a byte after an opening quote
-unfoldable pub quotedOf : List ℕ → Scan → Arrays → (first len i : ℕ) → Kind → Outcome
+unfoldable pub quotedOf : List ℕ → Scan → Arrays → (first len i : ℕ) → Kind → Progress
 unfolding innerOf closingOf
 quotedOf text st a first len i LabelByte = innerOf st a first len i
 quotedOf text st a first len i Open = halt BadByte i
@@ -163,7 +163,7 @@ quotedOf text st a first len i Blank = innerOf st a first len i
 quotedOf text st a first len i Other = halt BadByte i
 
 -- one step by mode, on the byte at place i, of kind k
-unfoldable pub moveOf : Mode → List ℕ → Scan → Arrays → ℕ → Kind → Outcome
+unfoldable pub moveOf : Mode → List ℕ → Scan → Arrays → ℕ → Kind → Progress
 unfolding dueOf insideOf quotedOf afterOf
 moveOf Due text st a i k = dueOf st a i k
 moveOf (Inside first len) text st a i k = insideOf text st a first len i k

@@ -19,10 +19,10 @@ ghost use Rattle.trees.specs.Bytes.{kindOf, classTable};
 ghost use Rattle.trees.specs.Edition.{inEdition};
 ghost use Rattle.trees.specs.Label.{labelLimit};
 ghost use Rattle.trees.specs.Arrays.{nodeLimit};
-ghost use Rattle.trees.specs.Slots.{Marked};
+ghost use Rattle.trees.specs.Slots.{SlotMarks};
 ghost use Rattle.newick.specs.ReadTree.{readTreeIn, treeRead};
 ghost use Rattle.newick.specs.declared.Mode.the-variants.{Due};
-ghost use Rattle.newick.specs.Machine.{repeatOf, arrays, outcome, Room, Fits, Ready};
+ghost use Rattle.newick.specs.Machine.{repeatOf, arrays, progressOf, Room, Fits, Ready};
 ghost use Rattle.newick.specs.Machine.{scan, dueOf, closeOf, commaOf, afterOf, leafOf, labelEnd, insideOf, innerOf};
 ghost use Rattle.newick.specs.Machine.{quotedOf, moveOf, answerOf};
 ghost use Rattle.newick.specs.Machine.{refusal, turnedDown, withArrays};
@@ -91,7 +91,7 @@ fn repeated(
 // A byte where a node must begin.
 fn on_due(st: Scan, kind: Kind, at: usize, stack: &mut [u8; OPEN_LIMIT]) -> Move
     requires { ⌜ Room st ⌝ }
-    ensures { λ m. ⌜ ((l r s z : List ℕ) → outcome m (arrays (now (stack .exit)) l r s z)
+    ensures { λ m. ⌜ ((l r s z : List ℕ) → progressOf m (arrays (now (stack .exit)) l r s z)
         ≡ dueOf st (arrays (now (stack .entry)) l r s z) at kind) ⌝ }
 {
     let depth = st.depth;
@@ -136,7 +136,7 @@ fn on_close(
 ) -> Move
     requires { ⌜ Room st ⌝ }
     requires { ⌜ (st .nodes + st .depth ≤ 2 * st .opens + 1) × (u < nodeLimit) ⌝ }
-    ensures { λ m. ⌜ ((s z : List ℕ) → outcome m (arrays (now (stack .entry)) (now (left .exit)) (now (right .exit)) s z)
+    ensures { λ m. ⌜ ((s z : List ℕ) → progressOf m (arrays (now (stack .entry)) (now (left .exit)) (now (right .exit)) s z)
         ≡ closeOf st (arrays (now (stack .entry)) (now (left .entry)) (now (right .entry)) s z) u at) ⌝ }
 {
     let depth = st.depth;
@@ -162,7 +162,7 @@ fn on_close(
 fn on_comma(st: Scan, u: usize, at: usize, stack: &mut [u8; OPEN_LIMIT]) -> Move
     requires { ⌜ Room st ⌝ }
     requires { ⌜ u < nodeLimit ⌝ }
-    ensures { λ m. ⌜ ((l r s z : List ℕ) → outcome m (arrays (now (stack .exit)) l r s z)
+    ensures { λ m. ⌜ ((l r s z : List ℕ) → progressOf m (arrays (now (stack .exit)) l r s z)
         ≡ commaOf st (arrays (now (stack .entry)) l r s z) u at) ⌝ }
 {
     let depth = st.depth;
@@ -194,7 +194,7 @@ fn on_after(
 ) -> Move
     requires { ⌜ Room st ⌝ }
     requires { ⌜ (st .nodes + st .depth ≤ 2 * st .opens + 1) × (u < nodeLimit) ⌝ }
-    ensures { λ m. ⌜ ((s z : List ℕ) → outcome m (arrays (now (stack .exit)) (now (left .exit)) (now (right .exit)) s z)
+    ensures { λ m. ⌜ ((s z : List ℕ) → progressOf m (arrays (now (stack .exit)) (now (left .exit)) (now (right .exit)) s z)
         ≡ afterOf st (arrays (now (stack .entry)) (now (left .entry)) (now (right .entry)) s z) u at kind) ⌝ }
 {
     match kind {
@@ -232,11 +232,11 @@ fn on_leaf(
 ) -> Move
     requires { ⌜ Room st ⌝ }
     requires { ⌜ Fits st first len ⌝ }
-    requires { ⌜ Marked nodeLimit (inEdition edition (now text)) (now start) (now size) (now seen) ⌝ }
-    ensures { λ m. ⌜ ((k : List ℕ) → outcome m (arrays k (now (left .exit)) (now (right .exit)) (now (start .exit)) (now (size .exit)))
+    requires { ⌜ SlotMarks nodeLimit (inEdition edition (now text)) (now start) (now size) (now seen) ⌝ }
+    ensures { λ m. ⌜ ((k : List ℕ) → progressOf m (arrays k (now (left .exit)) (now (right .exit)) (now (start .exit)) (now (size .exit)))
         ≡ leafOf (inEdition edition (now (text .entry))) st
         (arrays k (now (left .entry)) (now (right .entry)) (now (start .entry)) (now (size .entry))) first len) ⌝ }
-    ensures { λ m. ⌜ Marked nodeLimit (inEdition edition (now (text .entry))) (now (start .exit)) (now (size .exit)) (now (seen .exit)) ⌝ }
+    ensures { λ m. ⌜ SlotMarks nodeLimit (inEdition edition (now (text .entry))) (now (start .exit)) (now (size .exit)) (now (seen .exit)) ⌝ }
 {
     let nodes = st.nodes;
     let token = trees::part(text, first, len);
@@ -276,12 +276,12 @@ fn on_label_end(
 ) -> Move
     requires { ⌜ Room st ⌝ }
     requires { ⌜ Fits st first len ⌝ }
-    requires { ⌜ Marked nodeLimit (inEdition edition (now text)) (now start) (now size) (now seen) ⌝ }
-    ensures { λ m. ⌜ outcome m (arrays (now (stack .exit)) (now (left .exit)) (now (right .exit)) (now (start .exit)) (now (size .exit)))
+    requires { ⌜ SlotMarks nodeLimit (inEdition edition (now text)) (now start) (now size) (now seen) ⌝ }
+    ensures { λ m. ⌜ progressOf m (arrays (now (stack .exit)) (now (left .exit)) (now (right .exit)) (now (start .exit)) (now (size .exit)))
         ≡ labelEnd (inEdition edition (now (text .entry))) st
         (arrays (now (stack .entry)) (now (left .entry)) (now (right .entry)) (now (start .entry)) (now (size .entry)))
         first len at kind ⌝ }
-    ensures { λ m. ⌜ Marked nodeLimit (inEdition edition (now (text .entry))) (now (start .exit)) (now (size .exit)) (now (seen .exit)) ⌝ }
+    ensures { λ m. ⌜ SlotMarks nodeLimit (inEdition edition (now (text .entry))) (now (start .exit)) (now (size .exit)) (now (seen .exit)) ⌝ }
 {
     let moved = on_leaf(
         edition,
@@ -319,12 +319,12 @@ fn on_inside(
 ) -> Move
     requires { ⌜ Room st ⌝ }
     requires { ⌜ Fits st first len ⌝ }
-    requires { ⌜ Marked nodeLimit (inEdition edition (now text)) (now start) (now size) (now seen) ⌝ }
-    ensures { λ m. ⌜ outcome m (arrays (now (stack .exit)) (now (left .exit)) (now (right .exit)) (now (start .exit)) (now (size .exit)))
+    requires { ⌜ SlotMarks nodeLimit (inEdition edition (now text)) (now start) (now size) (now seen) ⌝ }
+    ensures { λ m. ⌜ progressOf m (arrays (now (stack .exit)) (now (left .exit)) (now (right .exit)) (now (start .exit)) (now (size .exit)))
         ≡ insideOf (inEdition edition (now (text .entry))) st
         (arrays (now (stack .entry)) (now (left .entry)) (now (right .entry)) (now (start .entry)) (now (size .entry)))
         first len at kind ⌝ }
-    ensures { λ m. ⌜ Marked nodeLimit (inEdition edition (now (text .entry))) (now (start .exit)) (now (size .exit)) (now (seen .exit)) ⌝ }
+    ensures { λ m. ⌜ SlotMarks nodeLimit (inEdition edition (now (text .entry))) (now (start .exit)) (now (size .exit)) (now (seen .exit)) ⌝ }
 {
     match kind {
         Kind::Label => {
@@ -359,7 +359,7 @@ fn on_inside(
 
 // A byte that may stand between quotes, after the quote at `first` and `inner` bytes.
 fn on_inner(st: Scan, first: usize, inner: usize, at: usize) -> Move
-    ensures { λ m. ⌜ ((k l r s z : List ℕ) → outcome m (arrays k l r s z) ≡ innerOf st (arrays k l r s z) first inner at) ⌝ }
+    ensures { λ m. ⌜ ((k l r s z : List ℕ) → progressOf m (arrays k l r s z) ≡ innerOf st (arrays k l r s z) first inner at) ⌝ }
 {
     if inner < LABEL_LIMIT {
         Move::On(Scan {
@@ -390,11 +390,11 @@ fn on_quoted(
 ) -> Move
     requires { ⌜ Room st ⌝ }
     requires { ⌜ Fits st first (len + 2) ⌝ }
-    requires { ⌜ Marked nodeLimit (inEdition edition (now text)) (now start) (now size) (now seen) ⌝ }
-    ensures { λ m. ⌜ ((k : List ℕ) → outcome m (arrays k (now (left .exit)) (now (right .exit)) (now (start .exit)) (now (size .exit)))
+    requires { ⌜ SlotMarks nodeLimit (inEdition edition (now text)) (now start) (now size) (now seen) ⌝ }
+    ensures { λ m. ⌜ ((k : List ℕ) → progressOf m (arrays k (now (left .exit)) (now (right .exit)) (now (start .exit)) (now (size .exit)))
         ≡ quotedOf (inEdition edition (now (text .entry))) st
         (arrays k (now (left .entry)) (now (right .entry)) (now (start .entry)) (now (size .entry))) first len at kind) ⌝ }
-    ensures { λ m. ⌜ Marked nodeLimit (inEdition edition (now (text .entry))) (now (start .exit)) (now (size .exit)) (now (seen .exit)) ⌝ }
+    ensures { λ m. ⌜ SlotMarks nodeLimit (inEdition edition (now (text .entry))) (now (start .exit)) (now (size .exit)) (now (seen .exit)) ⌝ }
 {
     match kind {
         Kind::Label => on_inner(st, first, len, at),
@@ -436,12 +436,12 @@ fn step(
 ) -> Move
     requires { ⌜ (at < length (now text)) × (now table ≡ classTable) ⌝ }
     requires { ⌜ Ready (st .mode) st ⌝ }
-    requires { ⌜ Marked nodeLimit (inEdition edition (now text)) (now start) (now size) (now seen) ⌝ }
-    ensures { λ m. ⌜ outcome m (arrays (now (stack .exit)) (now (left .exit)) (now (right .exit)) (now (start .exit)) (now (size .exit)))
+    requires { ⌜ SlotMarks nodeLimit (inEdition edition (now text)) (now start) (now size) (now seen) ⌝ }
+    ensures { λ m. ⌜ progressOf m (arrays (now (stack .exit)) (now (left .exit)) (now (right .exit)) (now (start .exit)) (now (size .exit)))
         ≡ moveOf (st .mode) (inEdition edition (now (text .entry))) st
         (arrays (now (stack .entry)) (now (left .entry)) (now (right .entry)) (now (start .entry)) (now (size .entry)))
         at (kindOf (getD (inEdition edition (now (text .entry))) at 0)) ⌝ }
-    ensures { λ m. ⌜ Marked nodeLimit (inEdition edition (now (text .entry))) (now (start .exit)) (now (size .exit)) (now (seen .exit)) ⌝ }
+    ensures { λ m. ⌜ SlotMarks nodeLimit (inEdition edition (now (text .entry))) (now (start .exit)) (now (size .exit)) (now (seen .exit)) ⌝ }
 {
     let kind = trees::kind_in(table, text[at]);
     let mode = st.mode;

@@ -16,8 +16,8 @@ const INPUT_ROOM: usize = TREE_ROOM + TOKEN_LIMIT + 1;
 fn print_refusal(refusal: Refusal) {
     let mut area = io::buffer();
     let out: &mut [u8] = &mut area;
-    let answer = job::refusal_line(refusal, out);
-    io::write_all(1, job::written(out, answer));
+    let answer = lines::refusal_line(refusal, out);
+    io::write_all(1, lines::written(out, answer));
 }
 
 // The line for a text. The writer has room for every tree that was read, so it always writes.

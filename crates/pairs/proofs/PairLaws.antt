@@ -22,7 +22,7 @@ use Rattle.agreement.specs.Strict.{Stray, inFirst, inSecond, nowhere}
 use Rattle.pairs.specs.declared.Options.{Options}
 use Rattle.pairs.specs.declared.Pair.{Pair}
 use Rattle.pairs.specs.declared.Way.the-variants.{Clear, Stopped}
-use Rattle.pairs.specs.declared.strict.Shared.the-variants as shared
+use Rattle.pairs.specs.declared.strict.LeavesShared.the-variants as shared
 use Rattle.pairs.specs.Outcome.{refused, found}
 use Rattle.pairs.specs.TwoTrees.{strayFor, treesOf}
 use Rattle.pairs.specs.LoneLeaves.{sharedOf}

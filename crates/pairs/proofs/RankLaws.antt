@@ -36,7 +36,7 @@ use Rattle.leaves.proofs.OwnLaws.{own-leaf, own-inner, own-spelling, ownFound, 
 use Rattle.leaves.specs.Numbered.{LeafIs, Numbered}
 use Rattle.pairs.specs.OwnLeaves.{OwnLeaves, Ordered}
 use Rattle.table.specs.Choice.{Ranked}
-use Rattle.pairs.specs.CommonRanks.{PartnerIs, Partners, NodePartner, storedLabel, Placed, Place, Opened, commonFrom, mostCommon, Collected, ranksOf}
+use Rattle.pairs.specs.CommonRanks.{PartnerIs, Partners, NodePartner, storedLabel, LeafPlaced, Place, OpenedAt, commonFrom, mostCommon, Collected, ranksOf}
 
 -- what the arrays of a tree tell of a leaf
 
@@ -228,7 +228,7 @@ node-partner {s} {left} {nodes} left-is nodes-is t partner p u v h e = record { 
 
 -- the leaf put in at the same place
 pub numbered-insert : (t : Tree) (C : List Label) (p u : ℕ) (x : Label) (old new : List ℕ) → LeafIs t u x → Place x C p
-    → Numbered t C old → Opened p (length C) u old new → Numbered t (insert x C) new
+    → Numbered t C old → OpenedAt p (length C) u old new → Numbered t (insert x C) new
 numbered-insert t C p u x old new l h n o r k = go r (omega (arith, length-insert x C)) (decLt r p) (decLt p r)
   where
     go : (r : ℕ) → r ≤ length C → Dec (r < p) → Dec (p < r) → LeafIs t (getD new r 0) (getD (insert x C) r [])
@@ -275,7 +275,7 @@ module _ (p m : ℕ) (old : List ℕ) where
       let e : suc i - 1 ≡ i = omega arith in
       rw e (shift-next i new l k h)
 
-  pub shift-end : (u i : ℕ) (new : List ℕ) → i ≡ p → p < length old → Shifting p m i old new → Opened p m u old (set new p u)
+  pub shift-end : (u i : ℕ) (new : List ℕ) → i ≡ p → p < length old → Shifting p m i old new → OpenedAt p m u old (set new p u)
   shift-end u i new e l s =
       let h : Shifting p m p old new = subst (λ (j : ℕ). Shifting p m j old new) e s in
       record {
@@ -389,7 +389,7 @@ module _ {s t : Tree} (ps : Proper s) (pt : Proper t) {order1 : List ℕ} {m u v
 
   -- one has
   pub collected-add : (v < 159) → (label : Label) → ((x : Label) → LeafIs s u x → label ≡ x) → (new1 : List ℕ)
-      → Placed u m (commonFrom s t (u + 1)) label order1 new1 → Collected s t u new1 (m + 1)
+      → LeafPlaced u m (commonFrom s t (u + 1)) label order1 new1 → Collected s t u new1 (m + 1)
   collected-add l label is new1 a = go (subtree (postorder s) u) refl
     where
       held-or : (x : Label) → subtree (postorder s) u ≡ leaf x → (holds t x ≡ true) ⊎ (holds t x ≡ false) → Collected s t u new1 (m + 1)

@@ -1,6 +1,6 @@
 -- The steps of a query one after the other, and what each body and 12 make of it. Assumes nothing.
 use Prim.Native.Nat.{ℕ}
-use mathlib.Core.Path.{_≡_, refl, sym, _∙_, ap}
+use mathlib.Core.Path.{_≡_, refl, _∙_, ap}
 use mathlib.Core.Bool.{true}
 use mathlib.Core.List.{List}
 use native.Mathlib.Omega.{arith}
@@ -18,9 +18,9 @@ use Rattle.agreement.specs.Closer.{holds}
 use Rattle.agreement.specs.Places.{placeIn}
 use Rattle.agreement.specs.Strict.{IsStray, Stray, inFirst, inSecond, nowhere}
 use Rattle.pairs.specs.declared.Options.{Options}
-use Rattle.pairs.specs.declared.strict.Shared.the-variants as shared
+use Rattle.pairs.specs.declared.strict.LeavesShared.the-variants as shared
 use Rattle.pairs.specs.Outcome.{Outcome, Trio, refused, naming, found, andThen}
-use Rattle.pairs.specs.TwoTrees.{Trees, bodyOf, strayFor, sharedBy, treesOf}
+use Rattle.pairs.specs.TwoTrees.{bodyOf, strayFor, sharedBy, treesOf}
 use Rattle.pairs.specs.LoneLeaves.{sharedOf}
 use Rattle.pairs.proofs.StrayLaws.{stray-told}
 

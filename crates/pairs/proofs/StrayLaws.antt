@@ -22,10 +22,10 @@ use Rattle.trees.proofs.PostorderLaws.{length-postorder, leaf-labels, leaf-at, 
 use Rattle.leaves.specs.Numbered.{LeafIs}
 use Rattle.leaves.proofs.OwnLaws.{own-leaf, own-inner}
 use Rattle.agreement.specs.Closer.{holds}
-use Rattle.agreement.specs.Strict.{SameLeaves, Told, Stray, nowhere, firstOutside, inEither, strayOf}
+use Rattle.agreement.specs.Strict.{SameLeaves, StrayTold, Stray, nowhere, firstOutside, inEither, strayOf}
 use Rattle.agreement.proofs.StrictLaws.{stray-exactly}
 use Rattle.pairs.specs.declared.Options.{Options}
-use Rattle.pairs.specs.declared.strict.Shared.the-variants as shared
+use Rattle.pairs.specs.declared.strict.LeavesShared.the-variants as shared
 use Rattle.pairs.specs.OwnLeaves.{OwnLeaves}
 use Rattle.pairs.specs.CommonRanks.{Partners, PartnerIs, NodePartner}
 use Rattle.pairs.specs.TwoTrees.{strayFor}
@@ -118,16 +118,16 @@ nowhere-shared o s t e k = stray-exactly (keyed (o .edition) s) (keyed (o .editi
 
 -- what is told of a job that is stopped
 pub stray-strict : (o : Options) (s t : Tree) (r : Stray) → strayFor o s t ≡ r → (r ≡ nowhere → ⊥)
-    → (o .strict ≡ true) × Told (keyed (o .edition) s) (keyed (o .edition) t) r
+    → (o .strict ≡ true) × StrayTold (keyed (o .edition) s) (keyed (o .edition) t) r
 unfolding strayFor
 stray-strict o s t r e n = go (o .strict) refl e
   where
     go : (b : Bool) → o .strict ≡ b → cond b (strayOf (keyed (o .edition) s) (keyed (o .edition) t)) nowhere ≡ r
-        → (o .strict ≡ true) × Told (keyed (o .edition) s) (keyed (o .edition) t) r
+        → (o .strict ≡ true) × StrayTold (keyed (o .edition) s) (keyed (o .edition) t) r
     go true k h = (k, stray-exactly (keyed (o .edition) s) (keyed (o .edition) t) r .0 h)
     go false k h = absurd (n (sym h))
 
-pub stray-told : (o : Options) (s t : Tree) → o .strict ≡ true → (r : Stray) → Told (keyed (o .edition) s) (keyed (o .edition) t) r → strayFor o s t ≡ r
+pub stray-told : (o : Options) (s t : Tree) → o .strict ≡ true → (r : Stray) → StrayTold (keyed (o .edition) s) (keyed (o .edition) t) r → strayFor o s t ≡ r
 unfolding strayFor
 stray-told o s t e r h = rw e (stray-exactly (keyed (o .edition) s) (keyed (o .edition) t) r .1 h)
 

@@ -21,7 +21,7 @@ pub record Place (x : Label) (C : List Label) (p : ℕ) : Type 0 where
   pub at : p < length C → labelLess x (getD C p []) ≡ true
 
 -- the first m entries with u put in at place p
-pub record Opened (p m u : ℕ) (old new : List ℕ) : Type 0 where
+pub record OpenedAt (p m u : ℕ) (old new : List ℕ) : Type 0 where
   pub size : length new ≡ length old
   pub before : (r : ℕ) → r < p → getD new r 0 ≡ getD old r 0
   pub at : getD new p 0 ≡ u
@@ -60,10 +60,10 @@ abbrev pub storedLabel : List ℕ → List ℕ → List ℕ → ℕ → Label
 storedLabel text start size u = storedBytes (storedOf (spelling (leafLabel text start size u)))
 
 -- leaf u is put in at the place of its label x
-pub record Placed (u m : ℕ) (C : List Label) (x : Label) (old new : List ℕ) : Type 0 where
+pub record LeafPlaced (u m : ℕ) (C : List Label) (x : Label) (old new : List ℕ) : Type 0 where
   pub place : ℕ
   pub is : Place x C place
-  pub opened : Opened place m u old new
+  pub opened : OpenedAt place m u old new
 
 -- the ranks after r entries of the order
 unfoldable pub ranksOf : List ℕ → ℕ → List ℕ

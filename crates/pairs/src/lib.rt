@@ -16,7 +16,7 @@ ghost use Rattle.pairs.specs.declared.Way.the-variants.{Stopped};
 ghost use Rattle.pairs.specs.PairRead.{unreadTree, PairIs};
 use crate::ranks::NONE;
 use crate::ranks::order_in;
-use crate::strict::Shared;
+use crate::strict::LeavesShared;
 use crate::strict::pair_leaves;
 use newick::TreeAnswer;
 use trees::Body;
@@ -122,7 +122,7 @@ pub fn read_pair(options: Options, first: &[u8], second: &[u8]) -> Pair
     let tree2 = two.tree;
     let mut partner = [NONE; NODE_LIMIT];
     let shared = pair_leaves(options, first, tree1, second, tree2, &mut partner);
-    if let Shared::Stray(refusal) = shared {
+    if let LeavesShared::Stray(refusal) = shared {
         return no_pair(refusal);
     }
     let most = trees::least(leaves1, leaves2);

@@ -14,7 +14,7 @@ ghost use Rattle.trees.specs.Stored.{storedBytes};
 ghost use Rattle.agreement.specs.Sets.{increasing};
 ghost use Rattle.leaves.specs.Numbered.{Numbered};
 ghost use Rattle.pairs.specs.OwnLeaves.{OwnLeaves, Ordered};
-ghost use Rattle.pairs.specs.CommonRanks.{PartnerIs, Partners, Place, Opened, mostCommon, Collected, NodePartner, storedLabel, Placed};
+ghost use Rattle.pairs.specs.CommonRanks.{PartnerIs, Partners, Place, OpenedAt, mostCommon, Collected, NodePartner, storedLabel, LeafPlaced};
 use crate::CommonOrder;
 use trees::Edition;
 use trees::LEAF_LIMIT;
@@ -122,7 +122,7 @@ fn place_of(
 // Puts u at place p, the entries from p on one place further.
 fn open_at(order: &mut [usize; LEAF_LIMIT], m: usize, p: usize, u: usize)
     requires { ⌜ (p ≤ m) × (m < 80) ⌝ }
-    ensures { λ _. ⌜ (length (now (order .entry)) ≡ 80 → Opened p m u (now (order .entry)) (now (order .exit))) ⌝ }
+    ensures { λ _. ⌜ (length (now (order .entry)) ≡ 80 → OpenedAt p m u (now (order .entry)) (now (order .exit))) ⌝ }
 {
     let mut i: usize = m;
     while p < i {
@@ -146,7 +146,7 @@ fn insert_leaf(
     ensures { λ _. ⌜ ((t : Tree) (left : List ℕ) (nodes : ℕ) (C : List Label)
         → OwnLeaves t (inEdition edition (now (text .entry))) left (now (start .entry)) (now (size .entry)) nodes → increasing C ≡ true
         → m ≡ length C → Numbered (decoded t) C (now (order .entry)) → length (now (order .entry)) ≡ 80
-        → Placed u m C (storedLabel (inEdition edition (now (text .entry))) (now (start .entry)) (now (size .entry)) u) (now (order .entry)) (now (order .exit))) ⌝ }
+        → LeafPlaced u m C (storedLabel (inEdition edition (now (text .entry))) (now (start .entry)) (now (size .entry)) u) (now (order .entry)) (now (order .exit))) ⌝ }
 {
     let label = trees::stored_leaf(edition, text, start, size, u);
     let p = place_of(edition, text, start, size, order, m, label);

@@ -27,7 +27,7 @@ use trees::wide;
 use trees::wide_place;
 
 // Whether both trees hold the same leaves, as far as that is asked; if not, number 12.
-pub(crate) enum Shared {
+pub(crate) enum LeavesShared {
     All,
     Stray(Refusal),
 }
@@ -58,10 +58,10 @@ fn lone_leaf(left: &[u8; NODE_LIMIT], nodes: usize, partner: &[usize; NODE_LIMIT
 }
 
 // Number 12 at the label of a leaf.
-fn stray(body: Body, place: usize) -> Shared
+fn stray(body: Body, place: usize) -> LeavesShared
     ensures { λ r. ⌜ r ≡ strayAt body place ⌝ }
 {
-    Shared::Stray(Refusal {
+    LeavesShared::Stray(Refusal {
         reason: Reason::NotShared,
         body,
         place,
@@ -89,7 +89,7 @@ fn turned_round(
 
 // Number 12 for the first leaf of the first tree that the second lacks; if there is none, for the first leaf of the second that the
 // first lacks.
-fn stray_leaf(tree1: TreeArrays, tree2: TreeArrays, partner: &[usize; NODE_LIMIT]) -> Shared
+fn stray_leaf(tree1: TreeArrays, tree2: TreeArrays, partner: &[usize; NODE_LIMIT]) -> LeavesShared
     requires { ⌜ (tree1 .nodes ≤ 159) × (tree2 .nodes ≤ 159) ⌝ }
     ensures { λ r. ⌜ ((s t : Tree) (first second : List ℕ)
         → OwnLeaves s first (tree1 .left) (tree1 .start) (tree1 .size) (tree1 .nodes)
@@ -110,7 +110,7 @@ fn stray_leaf(tree1: TreeArrays, tree2: TreeArrays, partner: &[usize; NODE_LIMIT
     if v < tree2.nodes {
         return stray(Body::T, wide_place(start2[v]));
     }
-    Shared::All
+    LeavesShared::All
 }
 
 // For each leaf of the first tree its partner in the second; and number 12, where the options are strict.
@@ -121,7 +121,7 @@ pub(crate) fn pair_leaves(
     second: &[u8],
     tree2: TreeArrays,
     partner: &mut [usize; NODE_LIMIT],
-) -> Shared
+) -> LeavesShared
     requires { ⌜ (tree1 .nodes ≤ 159) × (tree2 .nodes ≤ 159) ⌝ }
     ensures { λ r. ⌜ ((s t : Tree)
         → OwnLeaves (folded (options .edition) s) (inEdition (options .edition) (now (first .entry))) (tree1 .left) (tree1 .start)
@@ -133,7 +133,7 @@ pub(crate) fn pair_leaves(
     let edition = options.edition;
     *partner = partners(edition, first, tree1, second, tree2);
     if !options.strict {
-        return Shared::All;
+        return LeavesShared::All;
     }
     stray_leaf(tree1, tree2, partner)
 }

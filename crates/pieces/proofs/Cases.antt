@@ -9,12 +9,12 @@ use Rattle.trees.specs.Tree.{relabel, decoded}
 use Rattle.trees.specs.Reading.{repeats}
 use Rattle.newick.specs.ReadTree.{readTree}
 use Rattle.lists.specs.ReadList.{readList}
-use Rattle.pieces.specs.PieceRows.{Row, shown, rows, NumberRow, numbers, numberRows}
+use Rattle.pieces.specs.PieceRows.{PieceRow, piecesShown, rows, PlaceNumberRow, numbers, numberRows}
 
-pub row-cases : map shown rows ≡ map (λ (r : Row). some (r .expected)) rows
-unfolding shown rows readTree readList kindOf repeats isIn sameLabel labelLess decoded relabel spelling
+pub row-cases : map piecesShown rows ≡ map (λ (r : PieceRow). some (r .expected)) rows
+unfolding piecesShown rows readTree readList kindOf repeats isIn sameLabel labelLess decoded relabel spelling
 row-cases = refl
 
-pub number-cases : map numbers numberRows ≡ map (λ (r : NumberRow). some (r .expected)) numberRows
+pub number-cases : map numbers numberRows ≡ map (λ (r : PlaceNumberRow). some (r .expected)) numberRows
 unfolding numbers numberRows readTree readList kindOf repeats isIn sameLabel labelLess decoded relabel spelling
 number-cases = refl

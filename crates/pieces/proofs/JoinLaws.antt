@@ -24,7 +24,7 @@ use Rattle.agreement.proofs.RestrictLaws.{restrict-none, restrict-empty}
 use Rattle.agreement.proofs.AnswerLaws.{agree-no-clash}
 use Rattle.agreement.proofs.DemandLaws.{largest-answer, required-allowed, answer-unique}
 use Rattle.pieces.specs.Pieces.{headOf, firstOnly, placeOf, cladesOf, hangsAt, HangsThere, hanging, Piece, listed}
-use Rattle.pieces.specs.Pieces.{piecesAt, piecesOver, pieces, setOver, pieceSet, joinedSets, Placed, partAt, At, lineIn}
+use Rattle.pieces.specs.Pieces.{piecesAt, piecesOver, pieces, setOver, pieceSet, joinedSets, PlacedSet, partAt, At, lineIn}
 use Rattle.pieces.proofs.PlaceLaws.{one-place}
 use Rattle.pieces.proofs.HangsAtLaws.{set-cases, hangs-true, hangs-there}
 use Rattle.pieces.proofs.PartLaws.{parts-agree}
@@ -220,7 +220,7 @@ module _ (s t : Tree) (K : List Label) (ds : distinct (leaves s) ≡ true) (dt :
           go (inl z) = let h = other-hangs x n z in h .inFirst ∙ sym (h .inSecond)
           go (inr z) = answer-place x (n-m x m z) n
 
-      n-placed : Placed s t K (setOf N)
+      n-placed : PlacedSet s t K (setOf N)
       n-placed = record {
         commonLeaves = λ x m. in-common s t x (in-keep inN x (common s t) m .0);
         required = n-required;

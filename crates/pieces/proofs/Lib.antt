@@ -1,6 +1,7 @@
 pub mod Cases
 pub mod CladesLaws
 pub mod HangsAtLaws
+pub mod ItemLaws
 pub mod JoinLaws
 pub mod MoveLaws
 pub mod NearLaws

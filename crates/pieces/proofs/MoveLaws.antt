@@ -14,7 +14,7 @@ use Rattle.agreement.proofs.AnswerLaws.{Alike}
 use Rattle.agreement.proofs.CloserLaws.{closer-swap}
 use Rattle.agreement.proofs.CladeLaws.{own-first, own-second, clade}
 use Rattle.pieces.specs.Pieces.{headOf}
-use Rattle.pieces.proofs.TrioLaws.{Trio, turn, pair-only, pair-last, Exchanged, exchange}
+use Rattle.pieces.proofs.TrioLaws.{LeafTrio, turn, pair-only, pair-last, Exchanged, exchange}
 use Rattle.pieces.proofs.NearLaws.{Sits, required-ne, head-required, head-held, in-inside, inside-in, inside-within, within-inside}
 use Rattle.pieces.proofs.NearLaws.{under, under-required, together-pair, head-exchanged}
 
@@ -26,7 +26,7 @@ pub alike-swap : (s t : Tree) (a b c : Label) → Alike s t a b c → Alike s t 
 alike-swap s t a b c h = (closer-swap s b a c ∙ h .0 ∙ closer-swap t a b c, h .2, h .1)
 
 -- the same pair in both trees
-alike-pair : {s t : Tree} {a b c : Label} → Trio s a b c → Trio t a b c → closer s a b c ≡ true → closer t a b c ≡ true → Alike s t a b c
+alike-pair : {s t : Tree} {a b c : Label} → LeafTrio s a b c → LeafTrio t a b c → closer s a b c ≡ true → closer t a b c ≡ true → Alike s t a b c
 alike-pair i j e f = (e ∙ sym f, pair-only i e .0 ∙ sym (pair-only j f .0), pair-only i e .1 ∙ sym (pair-only j f .1))
 
 -- x exchanged for y in both trees
@@ -86,7 +86,7 @@ module _ {s t : Tree} {K : List Label} (held : Common s t (setOf K)) where
         → ((headOf p ≡ b → ⊥) → (headOf p ≡ c → ⊥) → Alike s t (headOf p) b c) → Alike s t a b c
     move-one {a} {b} {c} {p} h n ab ac bc kb kc rest = go (bool-cases (closer s a (headOf p) b)) (bool-cases (closer s a (headOf p) c))
       where
-        trio-s : Trio s a b c
+        trio-s : LeafTrio s a b c
         trio-s = record {
           different = ds;
           ab = ab;
@@ -97,7 +97,7 @@ module _ {s t : Tree} {K : List Label} (held : Common s t (setOf K)) where
           held-c = other-held kc .0;
         }
 
-        trio-t : Trio t a b c
+        trio-t : LeafTrio t a b c
         trio-t = record {
           different = dt;
           ab = ab;
@@ -193,7 +193,7 @@ module _ {s t : Tree} {K : List Label} (held : Common s t (setOf K)) where
           → (c : Label) → isIn c K ≡ true → (a ≡ b → ⊥) → (a ≡ c → ⊥) → (b ≡ c → ⊥) → Alike s t a b c
       two-together {a} {b} {p} h k na nb Y g ya yb yr c kc ab ac bc = go (bool-cases (isIn c p)) (same-cases c (headOf p))
         where
-          trio-s : Trio s a b c
+          trio-s : LeafTrio s a b c
           trio-s = record {
             different = ds;
             ab = ab;
@@ -204,7 +204,7 @@ module _ {s t : Tree} {K : List Label} (held : Common s t (setOf K)) where
             held-c = held c kc .0;
           }
 
-          trio-t : Trio t a b c
+          trio-t : LeafTrio t a b c
           trio-t = record {
             different = dt;
             ab = ab;

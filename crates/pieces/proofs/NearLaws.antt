@@ -15,7 +15,7 @@ use Rattle.agreement.proofs.CladeLaws.{closer-held, own-first, own-second, clad
 use Rattle.pieces.specs.Pieces.{headOf, placeOf, IsPlace}
 use Rattle.pieces.proofs.PlaceLaws.{place-inc, place-is, place-some}
 use Rattle.pieces.proofs.HangsAtLaws.{head-in}
-use Rattle.pieces.proofs.TrioLaws.{Trio, swap, turn, pair-only, pair-last, wider, Exchanged, exchange}
+use Rattle.pieces.proofs.TrioLaws.{LeafTrio, swap, turn, pair-only, pair-last, wider, Exchanged, exchange}
 
 -- the leaf a has the place p, which is not empty
 pub record Sits (t : Tree) (K : List Label) (a : Label) (p : List Label) : Type 0 where
@@ -74,7 +74,7 @@ module _ {t : Tree} {K : List Label} {a b : Label} {p q : List Label} (h : Sits 
 module _ {t : Tree} {K : List Label} {a b : Label} {p q : List Label} (h : Sits t K a p) (k : Sits t K b q)
     (na : isIn a K ≡ false) (nb : isIn b K ≡ false) (ab : a ≡ b → ⊥) where
   -- a, b and the head of b's place
-  with-head : Trio t a b (headOf q)
+  with-head : LeafTrio t a b (headOf q)
   with-head = record {
     different = h .different;
     ab = ab;
@@ -123,7 +123,7 @@ together-pair {t} {K} {a} {b} {p} h k na nb ab c kc n = go (bool-cases (closer t
     outside x i (inl o) = o
     outside x i (inr e) = clash (inside-in i c kc e) n
 
-    three : Trio t a (headOf p) b
+    three : LeafTrio t a (headOf p) b
     three = record {
       different = h .different;
       ab = required-ne K a (headOf p) na (head-required h);
@@ -174,7 +174,7 @@ head-exchanged {t} {K} {a} {b} {p} h k na nb ab c m cr =
     (own-second t c (headOf p) (h .different) (h .place .held c m) (head-held h)) (with c (h .place .chosen c m) (h .place .held c m))
     (with (headOf p) (head-required h) (head-held h)) (place-pair h na c m cr) (place-pair k nb c m cr)
   where
-    with : (x : Label) → isIn x K ≡ true → holds t x ≡ true → Trio t x a b
+    with : (x : Label) → isIn x K ≡ true → holds t x ≡ true → LeafTrio t x a b
     with x kx hx = record {
       different = h .different;
       ab = λ e. required-ne K a x na kx (sym e);

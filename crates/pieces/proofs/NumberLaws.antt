@@ -25,7 +25,7 @@ use Rattle.agreement.proofs.SetLaws.{in-nil, in-head, in-cases, in-sorted, sort
 use Rattle.agreement.proofs.SetLaws.{count-held, Within}
 use Rattle.agreement.proofs.RestrictLaws.{keptLeaves, restrict-leaves, restrict-empty, restrict-distinct}
 use Rattle.agreement.proofs.AgreeRestrict.{agree-restrict}
-use Rattle.pieces.specs.Pieces.{orElse, headOf, sameSet, lowest, placeOf, cladesOf, hangsAt, hanging, At}
+use Rattle.pieces.specs.Pieces.{nonemptyOr, headOf, sameSet, lowest, placeOf, cladesOf, hangsAt, hanging, At}
 use Rattle.pieces.specs.Pieces.{requiredIn, leastIn, numberBelow, lineIn}
 use Rattle.pieces.proofs.PlaceLaws.{lowest-none}
 use Rattle.pieces.proofs.HangsAtLaws.{set-eq, eq-set}
@@ -147,11 +147,11 @@ tree-some t e = absurd (omega (arith, leaves-some t, ap length e))
 -- a node: o is left of the child with the leaf, u of the other child; W are the node's required leaves
 node-numbered : (o u : Option Tree) (line : ℕ → ℕ) (low W : List Label) → (low ≡ [] → keptLeaves o ≡ [])
     → distinct (keptLeaves (joinKept o u)) ≡ true → ((x : Label) → isIn x W ≡ isIn x (keptLeaves (joinKept o u)))
-    → distinct W ≡ true → Numbered line low o → Numbered (λ n. line (numberFor o u n)) (orElse low W) (joinKept o u)
-unfolding numberFor joinKept orElse keptLeaves
-node-numbered none none line low W some′ d e dw h = (h .0, ap (λ (l : List Label). orElse l W) (h .1) ∙ no-members W e)
+    → distinct W ≡ true → Numbered line low o → Numbered (λ n. line (numberFor o u n)) (nonemptyOr low W) (joinKept o u)
+unfolding numberFor joinKept nonemptyOr keptLeaves
+node-numbered none none line low W some′ d e dw h = (h .0, ap (λ (l : List Label). nonemptyOr l W) (h .1) ∙ no-members W e)
 node-numbered none (some b) line low W some′ d e dw h =
-    root-numbered b (orElse low W) line d (ap (λ (l : List Label). sorted (orElse l W)) (h .1) ∙ sorted-members W (leaves b) dw d e) (h .0)
+    root-numbered b (nonemptyOr low W) line d (ap (λ (l : List Label). sorted (nonemptyOr l W)) (h .1) ∙ sorted-members W (leaves b) dw d e) (h .0)
 node-numbered (some a) none line [] W some′ d e dw h = tree-some a (some′ refl)
 node-numbered (some a) none line (w ∷ ws) W some′ d e dw h = h
 node-numbered (some a) (some b) line [] W some′ d e dw h = tree-some a (some′ refl)
@@ -209,11 +209,11 @@ tree-numbered K p q x d f g = go (holds p x)
 
     go : (b : Bool)
         → Numbered (λ (n : ℕ). cond b (lineIn K p x (numberBelow K p q n)) (lineIn K q x (numberBelow K q p n)))
-        (orElse (cond b (lowest K p x) (lowest K q x)) (keep (setOf K) (leaves (node p q))))
+        (nonemptyOr (cond b (lowest K p x) (lowest K q x)) (keep (setOf K) (leaves (node p q))))
         (joinKept (restrict (setOf K) p) (restrict (setOf K) q))
     go true =
         subst
-        (λ (h : ℕ → ℕ). Numbered (λ (n : ℕ). lineIn K p x (h n)) (orElse (lowest K p x) (keep (setOf K) (leaves (node p q))))
+        (λ (h : ℕ → ℕ). Numbered (λ (n : ℕ). lineIn K p x (h n)) (nonemptyOr (lowest K p x) (keep (setOf K) (leaves (node p q))))
         (joinKept (restrict (setOf K) p) (restrict (setOf K) q)))
         (sym (fun-ext (λ n. number-below K p q n dp dq)))
         (node-numbered (restrict (setOf K) p) (restrict (setOf K) q) (lineIn K p x) (lowest K p x) (keep (setOf K) (leaves (node p q)))
@@ -221,9 +221,9 @@ tree-numbered K p q x d f g = go (holds p x)
         (λ y. ap (isIn y) (sym (restrict-leaves (setOf K) (node p q)))) dw f)
     go false =
         other-order (restrict (setOf K) p) (restrict (setOf K) q) (λ (n : ℕ). lineIn K q x (numberBelow K q p n))
-        (orElse (lowest K q x) (keep (setOf K) (leaves (node p q)))) (kept-distinct (setOf K) (node p q) d)
+        (nonemptyOr (lowest K q x) (keep (setOf K) (leaves (node p q)))) (kept-distinct (setOf K) (node p q) d)
         (subst
-        (λ (h : ℕ → ℕ). Numbered (λ (n : ℕ). lineIn K q x (h n)) (orElse (lowest K q x) (keep (setOf K) (leaves (node p q))))
+        (λ (h : ℕ → ℕ). Numbered (λ (n : ℕ). lineIn K q x (h n)) (nonemptyOr (lowest K q x) (keep (setOf K) (leaves (node p q))))
         (joinKept (restrict (setOf K) q) (restrict (setOf K) p)))
         (sym (fun-ext (λ n. number-below K q p n dq dp)))
         (node-numbered (restrict (setOf K) q) (restrict (setOf K) p) (lineIn K q x) (lowest K q x) (keep (setOf K) (leaves (node p q)))

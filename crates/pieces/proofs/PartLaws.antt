@@ -11,14 +11,14 @@ use Rattle.trees.proofs.LabelLaws.{same-refl}
 use Rattle.agreement.specs.Closer.{Agree, Common}
 use Rattle.agreement.specs.Sets.{setOf}
 use Rattle.agreement.proofs.AnswerLaws.{Alike}
-use Rattle.pieces.specs.Pieces.{headOf, placeOf, hangsAt, Placed, partAt}
+use Rattle.pieces.specs.Pieces.{headOf, placeOf, hangsAt, PlacedSet, partAt}
 use Rattle.pieces.proofs.HangsAtLaws.{set-cases, hangs-true}
 use Rattle.pieces.proofs.NearLaws.{head-required, sits}
 use Rattle.pieces.proofs.MoveLaws.{alike-turn, alike-swap, agree-alike, Both, required, elsewhere, move-one, one-out, two-apart}
 use Rattle.pieces.proofs.MoveLaws.{two-together}
 
 module _ (s t : Tree) (K : List Label) (X : Label → Bool) (ds : distinct (leaves s) ≡ true) (dt : distinct (leaves t) ≡ true)
-    (y : Label) (ky : isIn y K ≡ true) (one-each : Placed s t K X) where
+    (y : Label) (ky : isIn y K ≡ true) (one-each : PlacedSet s t K X) where
   held : Common s t (setOf K)
   held x k = one-each .commonLeaves x (one-each .required x k)
 

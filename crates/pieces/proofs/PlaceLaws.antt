@@ -16,7 +16,7 @@ use Rattle.agreement.proofs.SetLaws.{in-nil, in-head, in-keep, keep-in, in-sort
 use Rattle.agreement.proofs.CloserLaws.{closer-top}
 use Rattle.agreement.proofs.Children.{Children, children, flip}
 use Rattle.agreement.proofs.CladeLaws.{closer-held, own-second}
-use Rattle.pieces.specs.Pieces.{orElse, lowest, placeOf, IsPlace}
+use Rattle.pieces.specs.Pieces.{nonemptyOr, lowest, placeOf, IsPlace}
 
 -- the members of a list are what matters
 pub place-members : {t : Tree} {K : List Label} {x : Label} {p q : List Label} → ((y : Label) → isIn y q ≡ isIn y p) → IsPlace t K x p
@@ -62,8 +62,8 @@ child-place {t} {p} {q} {K} {x} {w} {ws} c hx h = record {
 
 node-place : {t p q : Tree} {K : List Label} {x : Label} → Children t p q → holds p x ≡ true → (l : List Label)
     → (l ≡ [] → (z : Label) → isIn z K ≡ true → holds p z ≡ true → ⊥) → IsPlace p K x l
-    → IsPlace t K x (orElse l (keep (setOf K) (leaves t)))
-unfolding orElse
+    → IsPlace t K x (nonemptyOr l (keep (setOf K) (leaves t)))
+unfolding nonemptyOr
 node-place c hx (w ∷ ws) e h = child-place c hx h
 node-place {t} {p} {q} {K} {x} c hx [] e h = whole-place K t x (λ z k l y hy. apart z k y hy (c .cover z l))
   where
@@ -72,8 +72,8 @@ node-place {t} {p} {q} {K} {x} c hx [] e h = whole-place K t x (λ z k l y hy. a
     apart z k y hy (inl i) = absurd (e refl z k i)
     apart z k y hy (inr i) = c .never x z y hx i hy
 
-else-none : (xs ys : List Label) → orElse xs ys ≡ [] → ys ≡ []
-unfolding orElse
+else-none : (xs ys : List Label) → nonemptyOr xs ys ≡ [] → ys ≡ []
+unfolding nonemptyOr
 else-none [] ys e = e
 else-none (x ∷ xs) ys e = let z : _≡_ {A = Bool} true false = cc in clash refl z
 
@@ -102,7 +102,7 @@ lowest-place K (node p q) x d h =
 
     go : (holds p x ≡ true) ⊎ (holds p x ≡ false) → (holds p x ≡ true → IsPlace p K x (lowest K p x))
         → (holds q x ≡ true → IsPlace q K x (lowest K q x))
-        → IsPlace (node p q) K x (orElse (cond (holds p x) (lowest K p x) (lowest K q x)) (keep (setOf K) (leaves (node p q))))
+        → IsPlace (node p q) K x (nonemptyOr (cond (holds p x) (lowest K p x) (lowest K q x)) (keep (setOf K) (leaves (node p q))))
     go (inl i) f g = rw i (node-place c i (lowest K p x) (λ e. none-required K p (lowest-none K p x e)) (f i))
     go (inr n) f g =
         let i : holds q x ≡ true = second n (c .cover x h) in
@@ -114,12 +114,12 @@ lowest-distinct K (leaf y) x d = distinct-keep (setOf K) (y ∷ []) d
 lowest-distinct K (node p q) x d =
     go (holds p x) (lowest-distinct K p x (distinct-node p q d .one)) (lowest-distinct K q x (distinct-node p q d .two))
   where
-    pick : (l : List Label) → distinct l ≡ true → distinct (orElse l (keep (setOf K) (leaves (node p q)))) ≡ true
-    pick [] e = unfold orElse in distinct-keep (setOf K) (leaves (node p q)) d
-    pick (w ∷ ws) e = unfold orElse in e
+    pick : (l : List Label) → distinct l ≡ true → distinct (nonemptyOr l (keep (setOf K) (leaves (node p q)))) ≡ true
+    pick [] e = unfold nonemptyOr in distinct-keep (setOf K) (leaves (node p q)) d
+    pick (w ∷ ws) e = unfold nonemptyOr in e
 
     go : (b : Bool) → distinct (lowest K p x) ≡ true → distinct (lowest K q x) ≡ true
-        → distinct (orElse (cond b (lowest K p x) (lowest K q x)) (keep (setOf K) (leaves (node p q)))) ≡ true
+        → distinct (nonemptyOr (cond b (lowest K p x) (lowest K q x)) (keep (setOf K) (leaves (node p q)))) ≡ true
     go true f g = pick (lowest K p x) f
     go false f g = pick (lowest K q x) g
 
@@ -156,9 +156,9 @@ lowest-required K (node p q) x k h = go (bool-cases (holds p x)) (lowest-require
     second n (inr i) = i
 
     go : (holds p x ≡ true) ⊎ (holds p x ≡ false) → (holds p x ≡ true → lowest K p x ≡ x ∷ []) → (holds q x ≡ true → lowest K q x ≡ x ∷ [])
-        → orElse (cond (holds p x) (lowest K p x) (lowest K q x)) (keep (setOf K) (leaves (node p q))) ≡ x ∷ []
-    go (inl i) f g = rw i (ap (λ (l : List Label). orElse l (keep (setOf K) (leaves (node p q)))) (f i))
-    go (inr n) f g = rw n (ap (λ (l : List Label). orElse l (keep (setOf K) (leaves (node p q)))) (g (second n (holds-cases p q x h))))
+        → nonemptyOr (cond (holds p x) (lowest K p x) (lowest K q x)) (keep (setOf K) (leaves (node p q))) ≡ x ∷ []
+    go (inl i) f g = rw i (ap (λ (l : List Label). nonemptyOr l (keep (setOf K) (leaves (node p q)))) (f i))
+    go (inr n) f g = rw n (ap (λ (l : List Label). nonemptyOr l (keep (setOf K) (leaves (node p q)))) (g (second n (holds-cases p q x h))))
 
 pub place-required : (K : List Label) (t : Tree) (x : Label) → isIn x K ≡ true → holds t x ≡ true → placeOf K t x ≡ x ∷ []
 unfolding placeOf sorted

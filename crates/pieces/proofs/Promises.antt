@@ -14,9 +14,10 @@ use Rattle.agreement.specs.Closer.{holds, Agree, Common}
 use Rattle.agreement.specs.Restrict.{restrict}
 use Rattle.agreement.specs.Sets.{increasing, keep, common, setOf}
 use Rattle.agreement.specs.Answer.{largestSet}
-use Rattle.pieces.specs.Pieces.{headOf, placeOf, IsPlace, cladesOf, hangsAt, HangsThere, hanging, listed, pieces, total, hung}
-use Rattle.pieces.specs.Pieces.{joinedSets, Placed, partAt, At, lineIn}
-use Rattle.pieces.specs.PieceRows.{Row, shown, rows, NumberRow, numbers, numberRows}
+use Rattle.pieces.specs.Pieces.{headOf, placeOf, IsPlace, cladesOf, hangsAt, HangsThere, hanging, Piece, listed, pieces, total, hung}
+use Rattle.pieces.specs.Pieces.{joinedSets, PlacedSet, partAt, At, lineIn}
+use Rattle.pieces.specs.Items.{itemsOf}
+use Rattle.pieces.specs.PieceRows.{PieceRow, piecesShown, rows, PlaceNumberRow, numbers, numberRows}
 use Rattle.pieces.proofs.PlaceLaws.{place-is, place-inc, place-required, one-place}
 use Rattle.pieces.proofs.HangsAtLaws
 use Rattle.pieces.proofs.PartLaws
@@ -24,6 +25,7 @@ use Rattle.pieces.proofs.CladesLaws
 use Rattle.pieces.proofs.NumberLaws
 use Rattle.pieces.proofs.JoinLaws
 use Rattle.pieces.proofs.TotalLaws
+use Rattle.pieces.proofs.ItemLaws
 use Rattle.pieces.proofs.Cases
 
 -- "When k required leaves, k at least 1, agree, their common restricted tree has 2k - 1 places, one above each node, the root included."
@@ -100,6 +102,10 @@ pub total-promise : (s t : Tree) (K : List Label) (y : Label) → isIn y K ≡ t
     → Common s t (setOf K) → total (pieces s t K) + 1 ≤ length (common s t) + length K
 total-promise = TotalLaws.total-bound
 
+-- It is the number of labels on the lines, one after the other.
+pub items-promise : (ps : List Piece) → length (itemsOf ps) ≡ total ps
+items-promise = ItemLaws.items-count
+
 -- "The engine's set is the required leaves joined with the sets it gives for the pieces, each with its one required label." K may be empty,
 -- and the set is the first among equally large ones.
 pub joined-promise : (s t : Tree) (K : List Label) → distinct (leaves s) ≡ true → distinct (leaves t) ≡ true → distinct K ≡ true
@@ -110,7 +116,7 @@ joined-promise = JoinLaws.set-by-pieces
 -- 003's reduction (Theorems 4 and 9). Let a set contain the required leaves, and let each other leaf of it have one place. The trees agree
 -- on the set exactly if they agree on the required leaves and on each part that hangs at one place, with the head of that place.
 pub parts-promise : (s t : Tree) (K : List Label) (X : Label → Bool) → distinct (leaves s) ≡ true → distinct (leaves t) ≡ true
-    → (y : Label) → isIn y K ≡ true → Placed s t K X
+    → (y : Label) → isIn y K ≡ true → PlacedSet s t K X
     → Agree s t X ↔ (Agree s t (setOf K) × ((q : List Label) → Agree s t (partAt s t K X q)))
 parts-promise = PartLaws.agree-by-parts
 
@@ -127,8 +133,8 @@ pub lines-room : (s t : Tree) (K : List Label) → distinct (leaves s) ≡ true 
 lines-room = TotalLaws.lines-bound
 
 -- 01's printed case, the starred cases, and cases on which a nearby definition is wrong.
-pub cases-promise : map shown rows ≡ map (λ (r : Row). some (r .expected)) rows
+pub cases-promise : map piecesShown rows ≡ map (λ (r : PieceRow). some (r .expected)) rows
 cases-promise = Cases.row-cases
 
-pub number-cases-promise : map numbers numberRows ≡ map (λ (r : NumberRow). some (r .expected)) numberRows
+pub number-cases-promise : map numbers numberRows ≡ map (λ (r : PlaceNumberRow). some (r .expected)) numberRows
 number-cases-promise = Cases.number-cases

@@ -12,7 +12,7 @@ use Rattle.agreement.proofs.CloserOnce.{closer-once}
 use Rattle.agreement.proofs.CladeLaws.{own-first, own-second, clade}
 
 -- three different leaves of a tree without repeats
-pub record Trio (t : Tree) (a b c : Label) : Type 0 where
+pub record LeafTrio (t : Tree) (a b c : Label) : Type 0 where
   pub different : distinct (leaves t) ≡ true
   pub ab : a ≡ b → ⊥
   pub ac : a ≡ c → ⊥
@@ -22,7 +22,7 @@ pub record Trio (t : Tree) (a b c : Label) : Type 0 where
   pub held-c : holds t c ≡ true
 
 -- in another order
-pub swap : {t : Tree} {a b c : Label} → Trio t a b c → Trio t b a c
+pub swap : {t : Tree} {a b c : Label} → LeafTrio t a b c → LeafTrio t b a c
 swap k = record {
   different = k .different;
   ab = Ne·symm (k .ab);
@@ -33,7 +33,7 @@ swap k = record {
   held-c = k .held-c;
 }
 
-pub turn : {t : Tree} {a b c : Label} → Trio t a b c → Trio t a c b
+pub turn : {t : Tree} {a b c : Label} → LeafTrio t a b c → LeafTrio t a c b
 turn k = record {
   different = k .different;
   ab = k .ac;
@@ -44,7 +44,7 @@ turn k = record {
   held-c = k .held-b;
 }
 
-once : {t : Tree} {a b c : Label} → Trio t a b c → OneOf (closer t a b c) (closer t a c b) (closer t b c a)
+once : {t : Tree} {a b c : Label} → LeafTrio t a b c → OneOf (closer t a b c) (closer t a c b) (closer t b c a)
 once {t} {a} {b} {c} k = closer-once t a b c (k .different) (k .ab) (k .ac) (k .bc) (k .held-a) (k .held-b) (k .held-c)
 
 -- one of three tests
@@ -67,10 +67,10 @@ third-same (inr (inl h)) (inr (inr k)) e f = clash (h .1) (f ∙ k .1)
 third-same (inr (inr h)) k e f = h .2 ∙ sym (last-passes k (sym e ∙ h .0) (sym f ∙ h .1))
 
 -- if a and b are the closer pair no other is
-pub pair-only : {t : Tree} {a b c : Label} → Trio t a b c → closer t a b c ≡ true → (closer t a c b ≡ false) × (closer t b c a ≡ false)
+pub pair-only : {t : Tree} {a b c : Label} → LeafTrio t a b c → closer t a b c ≡ true → (closer t a c b ≡ false) × (closer t b c a ≡ false)
 pair-only k e = others-fail (once k) e
 
-pub pair-last : {t : Tree} {a b c : Label} → Trio t a b c → closer t a b c ≡ false → closer t a c b ≡ false → closer t b c a ≡ true
+pub pair-last : {t : Tree} {a b c : Label} → LeafTrio t a b c → closer t a b c ≡ false → closer t a c b ≡ false → closer t b c a ≡ true
 pair-last k e f = last-passes (once k) e f
 
 -- what is below the ancestor of a and r is below that of a and z, if r is
@@ -81,13 +81,13 @@ wider t a z r c d ha hz e f = refute (closer t a z c) (λ k. clash (clade t a z 
 -- x and y in a clade (that of u and v) without b and c: x can be exchanged for y
 
 module _ {t : Tree} {x y b c : Label} (u v : Label) (xin : closer t u v x ≡ false) (yin : closer t u v y ≡ false) where
-  move : Trio t x b c → Trio t y b c → closer t u v b ≡ true → closer t x b c ≡ true → closer t y b c ≡ true
+  move : LeafTrio t x b c → LeafTrio t y b c → closer t u v b ≡ true → closer t x b c ≡ true → closer t y b c ≡ true
   move i j out e = go (same-cases x y)
     where
       go : (x ≡ y) ⊎ (sameLabel x y ≡ false) → closer t y b c ≡ true
       go (inl k) = ap (λ (w : Label). closer t w b c) (sym k) ∙ e
       go (inr n) =
-          let m : Trio t x y b = record {
+          let m : LeafTrio t x y b = record {
             different = i .different;
             ab = same-ne x y n;
             ac = i .ab;
@@ -103,7 +103,7 @@ module _ {t : Tree} {x y b c : Label} (u v : Label) (xin : closer t u v x ≡ fa
 abbrev pub Exchanged : Tree → Label → Label → Label → Label → Type 0
 Exchanged t x y b c = (closer t x b c ≡ closer t y b c) × (closer t x c b ≡ closer t y c b) × (closer t b c x ≡ closer t b c y)
 
-pub exchange : {t : Tree} {x y b c : Label} (u v : Label) → closer t u v x ≡ false → closer t u v y ≡ false → Trio t x b c → Trio t y b c
+pub exchange : {t : Tree} {x y b c : Label} (u v : Label) → closer t u v x ≡ false → closer t u v y ≡ false → LeafTrio t x b c → LeafTrio t y b c
     → closer t u v b ≡ true → closer t u v c ≡ true → Exchanged t x y b c
 exchange {t} {x} {y} {b} {c} u v xin yin i j ob oc = (one, two, third-same (once i) (once j) one two)
   where

@@ -15,9 +15,9 @@ use Rattle.agreement.specs.Sets.{sorted, keep, common, setOf}
 use Rattle.agreement.specs.Answer.{largestSet}
 
 -- the first list, or the second if the first is empty
-unfoldable pub orElse : List Label → List Label → List Label
-orElse [] ys = ys
-orElse (x ∷ xs) ys = x ∷ xs
+unfoldable pub nonemptyOr : List Label → List Label → List Label
+nonemptyOr [] ys = ys
+nonemptyOr (x ∷ xs) ys = x ∷ xs
 
 -- the first label; the label of no bytes if there is none
 unfoldable pub headOf : List Label → Label
@@ -40,9 +40,9 @@ sameSet (x ∷ xs) (y ∷ ys) = sameLabel x y && sameSet xs ys
 -- "just the required leaves that its lowest ancestor with any holds", in the order of the text: on the way up from x, the first node with
 -- required leaves below it
 unfoldable pub lowest : List Label → Tree → Label → List Label
-unfolding orElse keep holds
+unfolding nonemptyOr keep holds
 lowest K (leaf y) x = keep (setOf K) (y ∷ [])
-lowest K (node p q) x = orElse (cond (holds p x) (lowest K p x) (lowest K q x)) (keep (setOf K) (leaves (node p q)))
+lowest K (node p q) x = nonemptyOr (cond (holds p x) (lowest K p x) (lowest K q x)) (keep (setOf K) (leaves (node p q)))
 
 -- "Every other common leaf hangs at one place in each tree, above the node with just the required leaves that its lowest ancestor with any
 -- holds": a place is the required leaves below it, in label order. Of a required leaf it is the leaf itself.
@@ -140,7 +140,7 @@ joinedSets s t [] = []
 joinedSets s t (p ∷ ps) = pieceSet s t p ++ joinedSets s t ps
 
 -- a set of common leaves that contains the required ones and of which each other leaf has one place in both trees (003, Lemma 6)
-pub record Placed (s t : Tree) (K : List Label) (X : Label → Bool) : Type 0 where
+pub record PlacedSet (s t : Tree) (K : List Label) (X : Label → Bool) : Type 0 where
   pub commonLeaves : Common s t X
   pub required : (x : Label) → isIn x K ≡ true → X x ≡ true
   pub onePlace : (x : Label) → X x ≡ true → isIn x K ≡ false → placeOf K s x ≡ placeOf K t x

@@ -10,8 +10,8 @@ use lib.ListN.{length, getD, set, length-set}
 use lib.Seq.{getD-set-same, getD-set-other}
 use borrow.Author.Tests.{eqb-true, eqb-false, ne-eqb, ltb-true}
 use Rattle.trees.proofs.Bools.{bool-cases}
-use Rattle.restriction.specs.declared.Fate.{Fate}
-use Rattle.restriction.specs.declared.Fate.the-variants.{Known, Fresh}
+use Rattle.restriction.specs.declared.NodeFate.{NodeFate}
+use Rattle.restriction.specs.declared.NodeFate.the-variants.{Known, Fresh}
 use Rattle.restriction.specs.KeptMachine.{Pass, movedTo, joined, fateOf, settled, stepOf, passOf, nodesKept}
 use Rattle.restriction.proofs.PassLaws.{Sized}
 
@@ -20,7 +20,7 @@ abbrev Placed : ℕ → ℕ → Type 0
 Placed n p = (p ≡ 159) ⊎ (p < n)
 
 -- what may become of a node when n is the next new number
-data Allowed (n : ℕ) : Fate → Type 0 where
+data Allowed (n : ℕ) : NodeFate → Type 0 where
   known : {p : ℕ} → Placed n p → Allowed n (Known p)
   leaf : {l r : ℕ} → r ≡ n → Allowed n (Fresh l r)
   inner : {l r : ℕ} → l < n → Allowed n (Fresh l r)
@@ -89,7 +89,7 @@ own-more left right n l r hl hr f p v less = go (bool-cases (eqb v n))
         rw (getD-set-other left n v l 0 (eqb-false v n e), getD-set-other right n v r 0 (eqb-false v n e))
         (f v (omega (arith, eqb-false v n e)))
 
-settle : (f : Fate) (u : ℕ) (s : Pass) → u < 159 → Allowed (s .count) f → Owned u s → Owned (suc u) (settled f u s)
+settle : (f : NodeFate) (u : ℕ) (s : Pass) → u < 159 → Allowed (s .count) f → Owned u s → Owned (suc u) (settled f u s)
 unfolding settled
 settle (Known p) u s h (known k) o =
     record {

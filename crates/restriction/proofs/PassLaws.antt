@@ -18,8 +18,8 @@ use Rattle.trees.proofs.Bools.{bool-cases}
 use Rattle.trees.proofs.ArrayLaws.{label-inside, ChildrenBelow, children-below, good-at, all-good, good-leaf, good-inner, inner-not-leaf, tree-leaf, tree-node}
 use Rattle.agreement.specs.Restrict.{joinKept}
 use Rattle.agreement.proofs.RestrictLaws.{none-join, join-none}
-use Rattle.restriction.specs.declared.Fate.{Fate}
-use Rattle.restriction.specs.declared.Fate.the-variants.{Known, Fresh}
+use Rattle.restriction.specs.declared.NodeFate.{NodeFate}
+use Rattle.restriction.specs.declared.NodeFate.the-variants.{Known, Fresh}
 use Rattle.restriction.specs.Kept.{keptAt}
 use Rattle.restriction.specs.KeptMachine.{Pass, startOf, arraysAt, movedTo, joined, fateOf, settled, stepOf, passOf}
 use Rattle.restriction.proofs.KeptLaws.{kept-leaf, kept-node}
@@ -288,7 +288,7 @@ module _ (a : TreeArrays) (text : List ℕ) (kept : List Bool) (u : ℕ) (s : Pa
       go (inr e) = inner-step e (children-below a text u g e) (kept-node a text kept good u h e)
 
 -- no more new nodes than nodes passed
-settled-count : (f : Fate) (u : ℕ) (s : Pass) → settled f u s .count ≤ s .count + 1
+settled-count : (f : NodeFate) (u : ℕ) (s : Pass) → settled f u s .count ≤ s .count + 1
 unfolding settled
 settled-count (Known p) u s = omega arith
 settled-count (Fresh l r) u s = omega arith

@@ -7,8 +7,8 @@ use lib.Dec.{eqb, ltb}
 use lib.ListN.{getD, set, replicate}
 use Rattle.trees.specs.declared.TreeArrays.{TreeArrays}
 use Rattle.trees.specs.Arrays.{nodeLimit}
-use Rattle.restriction.specs.declared.Fate.{Fate}
-use Rattle.restriction.specs.declared.Fate.the-variants.{Known, Fresh}
+use Rattle.restriction.specs.declared.NodeFate.{NodeFate}
+use Rattle.restriction.specs.declared.NodeFate.the-variants.{Known, Fresh}
 
 -- how far the pass is: the new nodes so far, and the new number of each node passed, 159 if no leaf is kept below it
 pub record Pass : Type 0 where
@@ -35,18 +35,18 @@ unfoldable pub movedTo : List ℕ → ℕ → ℕ → ℕ
 movedTo moved child u = cond (ltb child u) (getD moved child 0) nodeLimit
 
 -- what becomes of an inner node whose children have these new numbers
-unfoldable pub joined : ℕ → ℕ → Fate
+unfoldable pub joined : ℕ → ℕ → NodeFate
 joined p q = cond (eqb p nodeLimit) (Known q) (cond (eqb q nodeLimit) (Known p) (Fresh p q))
 
 -- what becomes of node u if `count` is the next new number
-unfoldable pub fateOf : List ℕ → List ℕ → List ℕ → List Bool → ℕ → ℕ → Fate
+unfoldable pub fateOf : List ℕ → List ℕ → List ℕ → List Bool → ℕ → ℕ → NodeFate
 unfolding movedTo joined
 fateOf left right moved kept u count =
     cond (eqb (getD left u 0) u) (cond (getD kept u false) (Fresh count count) (Known nodeLimit))
     (joined (movedTo moved (getD left u 0) u) (movedTo moved (getD right u 0) u))
 
 -- the pass once that is settled: a new node takes the label of node u
-unfoldable pub settled : Fate → ℕ → Pass → Pass
+unfoldable pub settled : NodeFate → ℕ → Pass → Pass
 settled (Known p) u s =
     record { count = s .count; moved = set (s .moved) u p; left = s .left; right = s .right; start = s .start; size = s .size }
 settled (Fresh l r) u s =

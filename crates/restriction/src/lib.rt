@@ -12,7 +12,7 @@ ghost use Rattle.restriction.specs.Kept.{keptStanding};
 ghost use Rattle.restriction.specs.KeptMachine.{passAt, movedTo, fateOf, stepOf, nodesKept};
 
 // What becomes of a node: it has this new number, 159 where no leaf is kept below it; or it is a new node with these children.
-enum Fate {
+enum NodeFate {
     Known(u8),
     Fresh(u8, u8),
 }
@@ -34,26 +34,26 @@ fn fate_of(
     kept: &[bool; 159],
     u: usize,
     count: u8,
-) -> Fate
+) -> NodeFate
     requires { ⌜ u < 159 ⌝ }
     ensures { λ r. ⌜ r ≡ fateOf (now (left .entry)) (now (right .entry)) (now (moved .entry)) (now (kept .entry)) u count ⌝ }
 {
     let l = trees::wide(left[u]);
     if l == u {
         if kept[u] {
-            return Fate::Fresh(count, count);
+            return NodeFate::Fresh(count, count);
         }
-        return Fate::Known(159);
+        return NodeFate::Known(159);
     }
     let p = moved_to(moved, l, u);
     let q = moved_to(moved, trees::wide(right[u]), u);
     if p == 159 {
-        return Fate::Known(q);
+        return NodeFate::Known(q);
     }
     if q == 159 {
-        return Fate::Known(p);
+        return NodeFate::Known(p);
     }
-    Fate::Fresh(p, q)
+    NodeFate::Fresh(p, q)
 }
 
 // Node u passed: the new count. The `count` new nodes stand at the front of the arrays that are read: they are never more
@@ -77,11 +77,11 @@ fn keep_node(
     let next = trees::narrow(count);
     let fate = fate_of(left, right, moved, kept, u, next);
     match fate {
-        Fate::Known(p) => {
+        NodeFate::Known(p) => {
             moved[u] = p;
             count
         }
-        Fate::Fresh(l, r) => {
+        NodeFate::Fresh(l, r) => {
             left[count] = l;
             right[count] = r;
             start[count] = start[u];

@@ -27,7 +27,7 @@ use Rattle.trees.proofs.PostorderLaws.{length-postorder, subtree-few, leaf-once
 use Rattle.trees.proofs.PostorderLaws.{Third, in-first, in-second, at-last, third, third-first, third-second, third-last}
 use Rattle.leaves.proofs.OwnLaws.{own-laid}
 use Rattle.table.specs.Table.{columnAt, joinNeed, nodesAt, need, LeafOf, no-leaf, one-leaf, Spans, Columns}
-use Rattle.table.specs.Columns.{childAt, needAt, lowAt, leafPlace, Put, NodeIs, NodePut, Gathered}
+use Rattle.table.specs.Columns.{childAt, needAt, lowAt, leafPlace, ColumnPut, NodeIs, NodePut, Gathered}
 use Rattle.table.specs.Choice.{Ranked, Given}
 use Rattle.table.specs.Solving.{Rooted, OwnColumns}
 use Rattle.table.proofs.RowLaws.{NodeCase, is-leaf, is-node, node-case}
@@ -75,7 +75,7 @@ child-laid {l = l} {r = r} {u = u} (laid-node p q) = rw (child-before l r u p q,
 
 -- one entry, and the four of a node
 
-pub put-made : (columns new : List ℕ) (k u x y : ℕ) → k < 6 → u < 159 → y ≡ x → new ≡ set columns (k * 159 + u) y → Put k u x columns new
+pub put-made : (columns new : List ℕ) (k u x y : ℕ) → k < 6 → u < 159 → y ≡ x → new ≡ set columns (k * 159 + u) y → ColumnPut k u x columns new
 put-made columns new k u x y hk hu same e = rw (e, same) (record {
   size = length-set columns (k * 159 + u) x;
   at = λ size. getD-set-same columns (k * 159 + u) x 0 (omega arith);
@@ -99,9 +99,9 @@ module _ (a b u : ℕ) (old new : List ℕ) (kept : (k q : ℕ) → k < 5 → q 
 
 module _ (old c0 c1 c2 c3 c4 new : List ℕ) (u left right rank a b n need low place : ℕ) (hu : u < 159) (ea : a ≡ childAt left right u)
     (eb : b ≡ childAt right left u) (ha : a ≤ u) (hb : b ≤ u) (needed : need ≡ needAt old u a b) (lowest : low ≡ lowAt old u a)
-    (en : n ≡ min rank 80) (placed : place ≡ leafPlace u a n) (p0 : Put 0 u (a % 256) old c0) (p1 : Put 1 u (b % 256) c0 c1)
-    (p2 : Put 2 u (n % 256) c1 c2) (p3 : Put 3 u (need % 256) c2 c3) (p4 : Put 4 u (low % 256) c3 c4)
-    (p5 : Put 5 place (u % 256) c4 new) where
+    (en : n ≡ min rank 80) (placed : place ≡ leafPlace u a n) (p0 : ColumnPut 0 u (a % 256) old c0) (p1 : ColumnPut 1 u (b % 256) c0 c1)
+    (p2 : ColumnPut 2 u (n % 256) c1 c2) (p3 : ColumnPut 3 u (need % 256) c2 c3) (p4 : ColumnPut 4 u (low % 256) c3 c4)
+    (p5 : ColumnPut 5 place (u % 256) c4 new) where
   kept : (k q : ℕ) → k < 5 → q < 159 → (q ≡ u → ⊥) → columnAt new k q ≡ columnAt old k q
   kept k q l h d =
       p5 .others k q h (inl (λ e. omega arith)) ∙ p4 .others k q h (inr d) ∙ p3 .others k q h (inr d) ∙ p2 .others k q h (inr d)

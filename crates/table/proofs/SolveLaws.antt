@@ -239,14 +239,14 @@ module _ (s t : Tree) (K : List Label) (tree1 tree2 : TreeArrays) (rank1 rank2 :
       count = λ k.
           is ∙ sym (told-size s t K own (posed .different) (posed .required) top (w .great) (e ∙ posed .count-is))
           ∙ ap (length {A = Label}) (sym decoded);
-      eight = λ k. clash {b = true} refl k;
+      disagreement = λ k. clash {b = true} refl k;
     }
 
   pub solved-eight : (chosen : List Bool) → (top / whole / requiredUnit ≡ count → ⊥) → Solved s t K false 0 chosen
   solved-eight chosen apart = record {
     set = λ k. clash {b = false} k refl;
     count = λ k. clash {b = false} k refl;
-    eight = λ k. told-eight s t K own (posed .different) (posed .required) top (w .great) (λ e. apart (e ∙ sym (posed .count-is)));
+    disagreement = λ k. told-eight s t K own (posed .different) (posed .required) top (w .great) (λ e. apart (e ∙ sym (posed .count-is)));
   }
 
 -- demand 3 of what comes back
@@ -257,7 +257,7 @@ module _ (s t : Tree) (K : List Label) (proper : Proper s) (different : distinct
   set-told e = largest-exactly s t K (proper .different) different (chosenFrom chosen 0 (common s t)) .0 (solved .set e)
 
   pub eight-told : Common s t (setOf K) → (found ≡ false) ↔ ((a : Label) × (b : Label) × (c : Label) × Clash s t K a b c)
-  eight-told held = (λ e. exactly .1 (solved .eight e), λ p. apart (bool-cases found) (exactly .0 p))
+  eight-told held = (λ e. exactly .1 (solved .disagreement e), λ p. apart (bool-cases found) (exactly .0 p))
     where
       exactly : ((a : Label) × (b : Label) × (c : Label) × Clash s t K a b c)
           ↔ ((a : Label) × (b : Label) × (c : Label) × (answer s t K ≡ disagree a b c))

@@ -54,4 +54,4 @@ chosenFrom chosen r (c ∷ cs) = cond (getD chosen r false) (c ∷ chosenFrom ch
 pub record Solved (s t : Tree) (K : List Label) (found : Bool) (size : ℕ) (chosen : List Bool) : Type 0 where
   pub set : found ≡ true → answer s t K ≡ largest (chosenFrom chosen 0 (common s t))
   pub count : found ≡ true → size ≡ length (chosenFrom chosen 0 (common s t))
-  pub eight : found ≡ false → (a : Label) × (b : Label) × (c : Label) × (answer s t K ≡ disagree a b c)
+  pub disagreement : found ≡ false → (a : Label) × (b : Label) × (c : Label) × (answer s t K ≡ disagree a b c)

@@ -25,7 +25,7 @@ abbrev pub leafPlace : ℕ → ℕ → ℕ → ℕ
 leafPlace u a n = cond (eqb a u) n 81
 
 -- one entry is stored
-pub record Put (k u x : ℕ) (old new : List ℕ) : Type 0 where
+pub record ColumnPut (k u x : ℕ) (old new : List ℕ) : Type 0 where
   pub size : length new ≡ length old
   pub at : length old ≡ 955 → columnAt new k u ≡ x
   pub others : (j q : ℕ) → q < 159 → (j ≡ k → ⊥) ⊎ (q ≡ u → ⊥) → columnAt new j q ≡ columnAt old j q

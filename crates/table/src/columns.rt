@@ -7,7 +7,7 @@ ghost use lib.ListN.{length};
 ghost use Rattle.trees.specs.Label.{Label};
 ghost use Rattle.trees.specs.Tree.{Tree};
 ghost use Rattle.table.specs.Table.{joinNeed};
-ghost use Rattle.table.specs.Columns.{childAt, needAt, lowAt, leafPlace, Put, NodePut, Gathered};
+ghost use Rattle.table.specs.Columns.{childAt, needAt, lowAt, leafPlace, ColumnPut, NodePut, Gathered};
 ghost use Rattle.table.specs.Choice.{Given};
 ghost use Rattle.table.specs.Solving.{Rooted, OwnColumns};
 use crate::fill::COLUMNS;
@@ -79,7 +79,7 @@ fn leaf_place(u: usize, a: usize, n: usize) -> usize
 
 fn put(columns: &mut [u8; COLUMNS], k: usize, u: usize, x: usize)
     requires { ⌜ (k < 6) × (u < 159) ⌝ }
-    ensures { λ _. ⌜ Put k u (x % 256) (now (columns .entry)) (now (columns .exit)) ⌝ }
+    ensures { λ _. ⌜ ColumnPut k u (x % 256) (now (columns .entry)) (now (columns .exit)) ⌝ }
 {
     let i = k * ROW + u;
     columns[i] = trees::narrow(x);

@@ -84,20 +84,20 @@ pub(crate) fn labels(top: Weight) -> usize
 }
 
 // What is left of a sum of powers once a power is looked for in it.
-struct Taken {
+struct PowerTaken {
     held: bool,
     rest: Weight,
 }
 
-fn take(rest: Weight, p: Weight) -> Taken
+fn take(rest: Weight, p: Weight) -> PowerTaken
     ensures { λ r. ⌜ (r .held ≡ leb (valueOf p) (valueOf rest))
         × (valueOf (r .rest) ≡ cond (leb (valueOf p) (valueOf rest)) (valueOf rest - valueOf p) (valueOf rest)) ⌝ }
 {
     if rest.high < p.high {
-        return Taken { held: false, rest };
+        return PowerTaken { held: false, rest };
     }
     if p.low <= rest.low {
-        return Taken {
+        return PowerTaken {
             held: true,
             rest: Weight {
                 high: rest.high - p.high,
@@ -106,9 +106,9 @@ fn take(rest: Weight, p: Weight) -> Taken
         };
     }
     if rest.high == p.high {
-        return Taken { held: false, rest };
+        return PowerTaken { held: false, rest };
     }
-    Taken {
+    PowerTaken {
         held: true,
         rest: Weight {
             high: rest.high - p.high - 1,

@@ -17,8 +17,8 @@ ghost use lib.ListN.{length};
 fn print_refusal(refusal: Refusal) {
     let mut area = io::buffer();
     let out: &mut [u8] = &mut area;
-    let answer = job::refusal_line(refusal, out);
-    io::write_all(1, job::written(out, answer));
+    let answer = lines::refusal_line(refusal, out);
+    io::write_all(1, lines::written(out, answer));
 }
 
 fn print_tree(edition: Edition, text: &[u8]) {

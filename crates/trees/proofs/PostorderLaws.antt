@@ -1,8 +1,8 @@
 -- The subtrees of a tree in postorder: how many there are, that the arrays of a tree are laid out by them, which leaves they
--- hold, and that two of them which share a leaf are nested. Assumes nothing.
+-- hold, that two of them which share a leaf are nested, and that each but the whole tree has a parent. Assumes nothing.
 use Prim.Native.Nat.{ℕ, zero, suc, _+_, _-_, _<_, _≤_}
 use mathlib.Core.Path.{_≡_, refl, sym, _∙_, ap, ap₂, subst}
-use mathlib.Core.Logic.{_⊎_, ⊎-elim}
+use mathlib.Core.Logic.{_⊎_, inl, inr, ⊎-elim}
 use mathlib.Core.Bool.{Bool, true, false}
 use mathlib.Core.List.{List, [], _∷_, _++_, append-assoc}
 use native.Mathlib.Omega.{arith}
@@ -397,3 +397,123 @@ label-shown t p q i h x e =
       List·getD-append (starts t 0) p 0 i (omega (arith, starts-length t 0)),
     )
     (shown t [] (semicolonByte ∷ []) 0 refl i h x e)
+
+-- each node but the root has a parent, which comes later
+
+-- node j is the parent of node v
+pub record ParentIs (left right : List ℕ) (nodes v j : ℕ) : Type 0 where
+  pub later : v < j
+  pub below : j < nodes
+  pub child : (getD left j 0 ≡ v) ⊎ (getD right j 0 ≡ v)
+  pub inner : getD left j 0 < j
+
+-- the same in a part whose first node has number n
+record ParentFrom (t : Tree) (n i : ℕ) : Type 0 where
+  j : ℕ
+  later : i < j
+  below : j < nodesOf t
+  child : (getD (lefts t n) j 0 ≡ n + i) ⊎ (getD (rights t n) j 0 ≡ n + i)
+  inner : getD (lefts t n) j 0 < n + j
+
+module _ (a b : Tree) (n : ℕ) where
+  parent-left : (i : ℕ) → ParentFrom a n i → ParentFrom (node a b) n i
+  unfolding lefts rights nodesOf
+  parent-left i p =
+      let l = third-first (lefts a n) (lefts b (n + nodesOf a)) (n + nodesOf a - 1) 0 (p .j) (omega (arith, p .below, lefts-length a n)) in
+      let r =
+      third-first (rights a n) (rights b (n + nodesOf a)) (n + nodesOf a + nodesOf b - 1) 0 (p .j)
+      (omega (arith, p .below, rights-length a n)) in
+      record {
+        j = p .j;
+        later = p .later;
+        below = omega (arith, p .below);
+        child = rw (l, r) (p .child);
+        inner = rw l (p .inner);
+      }
+
+  parent-right : (i k : ℕ) → i ≡ nodesOf a + k → ParentFrom b (n + nodesOf a) k → ParentFrom (node a b) n i
+  unfolding lefts rights nodesOf
+  parent-right i k e p =
+      let l =
+      third-second (lefts a n) (lefts b (n + nodesOf a)) (n + nodesOf a - 1) 0 (nodesOf a) (nodesOf a + p .j) (p .j) (lefts-length a n)
+      (omega (arith, p .below, lefts-length b (n + nodesOf a))) refl in
+      let r =
+      third-second (rights a n) (rights b (n + nodesOf a)) (n + nodesOf a + nodesOf b - 1) 0 (nodesOf a) (nodesOf a + p .j) (p .j)
+      (rights-length a n) (omega (arith, p .below, rights-length b (n + nodesOf a))) refl in
+      let v : n + nodesOf a + k ≡ n + i = omega arith in
+      record {
+        j = nodesOf a + p .j;
+        later = omega (arith, p .later);
+        below = omega (arith, p .below);
+        child = rw (l, r, ← v) (p .child);
+        inner = rw l (omega (arith, p .inner));
+      }
+
+  parent-root : (i : ℕ) → (i + 1 ≡ nodesOf a) ⊎ (i + 1 ≡ nodesOf a + nodesOf b) → ParentFrom (node a b) n i
+  unfolding lefts rights nodesOf
+  parent-root i side =
+      record {
+        j = nodesOf a + nodesOf b;
+        later = before side;
+        below = omega arith;
+        child = rw (l, r) (at side);
+        inner = rw l (omega (arith, nodes-pos a, nodes-pos b));
+      }
+    where
+      l : getD (lefts a n ++ (lefts b (n + nodesOf a) ++ ((n + nodesOf a - 1) ∷ []))) (nodesOf a + nodesOf b) 0 ≡ n + nodesOf a - 1
+      l =
+          third-last (lefts a n) (lefts b (n + nodesOf a)) (n + nodesOf a - 1) 0 (nodesOf a) (nodesOf b) (nodesOf a + nodesOf b)
+          (lefts-length a n) (lefts-length b (n + nodesOf a)) refl
+
+      r : getD (rights a n ++ (rights b (n + nodesOf a) ++ ((n + nodesOf a + nodesOf b - 1) ∷ []))) (nodesOf a + nodesOf b) 0
+          ≡ n + nodesOf a + nodesOf b - 1
+      r =
+          third-last (rights a n) (rights b (n + nodesOf a)) (n + nodesOf a + nodesOf b - 1) 0 (nodesOf a) (nodesOf b)
+          (nodesOf a + nodesOf b) (rights-length a n) (rights-length b (n + nodesOf a)) refl
+
+      before : (i + 1 ≡ nodesOf a) ⊎ (i + 1 ≡ nodesOf a + nodesOf b) → i < nodesOf a + nodesOf b
+      before (inl e) = omega (arith, nodes-pos b)
+      before (inr e) = omega arith
+
+      at : (i + 1 ≡ nodesOf a) ⊎ (i + 1 ≡ nodesOf a + nodesOf b)
+          → (n + nodesOf a - 1 ≡ n + i) ⊎ (n + nodesOf a + nodesOf b - 1 ≡ n + i)
+      at (inl e) = inl (omega arith)
+      at (inr e) = inr (omega arith)
+
+parent-split : (a b : Tree) (n i : ℕ) → i < nodesOf a + nodesOf b
+    → ((k : ℕ) → k + 1 < nodesOf a → ParentFrom a n k) → ((k : ℕ) → k + 1 < nodesOf b → ParentFrom b (n + nodesOf a) k)
+    → Third (nodesOf a) (nodesOf b) i → ParentFrom (node a b) n i
+parent-split a b n i h f g (in-first l) = go (decLt (i + 1) (nodesOf a))
+  where
+    go : Dec (i + 1 < nodesOf a) → ParentFrom (node a b) n i
+    go (yes k) = parent-left a b n i (f i k)
+    go (no k) = parent-root a b n i (inl (omega arith))
+parent-split a b n i h f g (in-second k l e) = go (decLt (k + 1) (nodesOf b))
+  where
+    go : Dec (k + 1 < nodesOf b) → ParentFrom (node a b) n i
+    go (yes j) = parent-right a b n i k e (g k j)
+    go (no j) = parent-root a b n i (inr (omega arith))
+parent-split a b n i h f g (at-last e) = absurd (omega arith)
+
+parent-from : (t : Tree) (n i : ℕ) → i + 1 < nodesOf t → ParentFrom t n i
+unfolding nodesOf
+parent-from (leaf x) n i h = absurd (omega arith)
+parent-from (node a b) n i h =
+    parent-split a b n i (omega arith) (parent-from a n) (parent-from b (n + nodesOf a)) (third (nodesOf a) (nodesOf b) i (omega arith))
+
+-- in the arrays of a tree, padded as may be
+pub parent-of : (t : Tree) (p q : List ℕ) (v : ℕ) → v + 1 < nodesOf t
+    → (j : ℕ) × ParentIs (lefts t 0 ++ p) (rights t 0 ++ q) (nodesOf t) v j
+parent-of t p q v h =
+    let r = parent-from t 0 v h in
+    let l = List·getD-append (lefts t 0) p 0 (r .j) (omega (arith, r .below, lefts-length t 0)) in
+    let s = List·getD-append (rights t 0) q 0 (r .j) (omega (arith, r .below, rights-length t 0)) in
+    let z : 0 + v ≡ v = omega arith in (
+      r .j,
+      record {
+        later = r .later;
+        below = r .below;
+        child = rw (l, s) (rw z at (r .child));
+        inner = rw l (omega (arith, r .inner));
+      },
+    )

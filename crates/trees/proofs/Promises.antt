@@ -13,7 +13,7 @@ use Rattle.trees.specs.Token.{Token, spelling, goodLabel, tokenOf}
 use Rattle.trees.specs.Tree.{Tree, leaves, relabel, decoded, Same, Valid, Proper, smallest, normal}
 use Rattle.trees.specs.Text.{textOf, treeRoom, normalText}
 use Rattle.trees.specs.Stored.{storedBytes, storedOf, shownOf, shownBytes, isAmong}
-use Rattle.trees.specs.Slots.{slotOf, isMarked, Marked, firstMarks}
+use Rattle.trees.specs.Slots.{slotOf, isMarked, SlotMarks, firstMarks}
 use Rattle.trees.specs.Plain.{PlainLabel, PlainTree}
 use Rattle.trees.specs.Writable.{Writable}
 use Rattle.trees.specs.Arrays.{arraysOf, treeOf, oneTree}
@@ -74,12 +74,12 @@ pub plain-tree-written : (t : Tree) → PlainTree t → relabel tokenOf t ≡ t
 plain-tree-written t = plain-written
 
 -- The marks lose no repeat: if every part has the mark of its label, the mark and the search together give what the search alone gives.
-pub marked-search : (m : ℕ) (text start size seen : List ℕ) → Marked m text start size seen → (x : Token) (n k : ℕ) → k ≡ slotOf (spelling x)
+pub marked-search : (m : ℕ) (text start size seen : List ℕ) → SlotMarks m text start size seen → (x : Token) (n k : ℕ) → k ≡ slotOf (spelling x)
     → (isMarked seen k && isAmong text start size n x) ≡ isAmong text start size n x
 marked-search = met-is-among
 
 -- The marks of a reader that has met no label are such marks.
-pub first-marked : (text : List ℕ) (m : ℕ) → Marked m text (replicate m 0) (replicate m 0) firstMarks
+pub first-marked : (text : List ℕ) (m : ℕ) → SlotMarks m text (replicate m 0) (replicate m 0) firstMarks
 first-marked = marked-start
 
 -- A shown label has exactly the bytes of the written form.

@@ -15,7 +15,7 @@ use borrow.Author.Tests.{eqb-true, eqb-false, lt-ltb}
 use Rattle.trees.specs.Label.{Label}
 use Rattle.trees.specs.Token.{Token, spelling}
 use Rattle.trees.specs.Stored.{partOf, leafLabel, isPart, isAmong}
-use Rattle.trees.specs.Slots.{slotCount, slotFrom, slotOf, isMarked, Marked, firstMarks}
+use Rattle.trees.specs.Slots.{slotCount, slotFrom, slotOf, isMarked, SlotMarks, firstMarks}
 use Rattle.trees.proofs.Bools.{bool-cases, clash, refute}
 use Rattle.trees.proofs.LabelLaws.{same-eq}
 use Rattle.trees.proofs.EntryLaws.{filled-at}
@@ -81,7 +81,7 @@ module _ (seen : List ℕ) (k : ℕ) (b : Bool) where
   a-mark h = rw (lt-ltb 0 (getD seen k 0) (omega (arith, h))) refl
 
 -- before any label: each part is of no bytes
-pub marked-start : (text : List ℕ) (m : ℕ) → Marked m text (replicate m 0) (replicate m 0) firstMarks
+pub marked-start : (text : List ℕ) (m : ℕ) → SlotMarks m text (replicate m 0) (replicate m 0) firstMarks
 unfolding firstMarks slotOf
 marked-start text m =
     record {
@@ -97,7 +97,7 @@ marked-start text m =
     each : (u : ℕ) → isMarked firstMarks (slotOf (spelling (leafLabel text (replicate m 0) (replicate m 0) u))) ≡ true
     each u = rw (empty u) (mark-here (replicate slotCount 0) 0 (omega (arith, length-replicate {A = ℕ} slotCount 0)))
 
-module _ (m : ℕ) (text start size seen : List ℕ) (marked : Marked m text start size seen) where
+module _ (m : ℕ) (text start size seen : List ℕ) (marked : SlotMarks m text start size seen) where
   -- a label whose slot has no mark is none of the parts'
   part-unmarked : (x : Token) (u : ℕ) → isMarked seen (slotOf (spelling x)) ≡ false → isPart text (getD start u 0) (getD size u 0) x ≡ false
   part-unmarked x u none =
@@ -130,7 +130,7 @@ module _ (m : ℕ) (text start size seen : List ℕ) (marked : Marked m text sta
     of-part = slot ∙ ap (λ (x : Token). slotOf (spelling x)) part
 
     -- it is one label more, with its mark
-    pub marked-next : (n : ℕ) → n < m → Marked m text (set start n first) (set size n len) (set seen k 1)
+    pub marked-next : (n : ℕ) → n < m → SlotMarks m text (set start n first) (set size n len) (set seen k 1)
     marked-next n h =
         record {
           starts = length-set start n first ∙ marked .starts;

@@ -27,7 +27,7 @@ unfoldable pub isMarked : List ℕ → ℕ → Bool
 isMarked seen k = ltb 0 (getD seen k 0)
 
 -- arrays of m starts and sizes, and a mark for the slot of every part that they name
-pub record Marked (m : ℕ) (text start size seen : List ℕ) : Type 0 where
+pub record SlotMarks (m : ℕ) (text start size seen : List ℕ) : Type 0 where
   pub starts : length start ≡ m
   pub sizes : length size ≡ m
   pub slots : length seen ≡ slotCount

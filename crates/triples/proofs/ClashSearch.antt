@@ -16,7 +16,7 @@ use Rattle.trees.proofs.Bools.{bool-cases}
 use Rattle.agreement.specs.Answer.{Three, orElse, clashing, clashWithTwo, clashWithOne, firstClash}
 use Rattle.leaves.specs.Find.{leafFrom}
 use Rattle.triples.proofs.LoopLaws.{FirstHit, hit, none as miss, first-hit}
-use Rattle.triples.specs.declared.Three.{Three as Ranked}
+use Rattle.triples.specs.declared.Indices.{Indices as Ranked}
 use Rattle.triples.specs.Clash.{clashRanks, Ranks}
 use Rattle.triples.specs.Loops.{clashAt, thirdOf, secondOf, firstOf}
 use Rattle.triples.proofs.RowLaws.{rank-at}

@@ -39,10 +39,10 @@ use Rattle.leaves.specs.Numbered.{LeafIs, Numbered}
 use Rattle.leaves.proofs.OwnLaws.{ownFound, found, missing}
 use Rattle.triples.specs.declared.Agreement.{Agreement}
 use Rattle.triples.specs.declared.Agreement.the-variants.{Agreed, Disagree, Refused}
-use Rattle.triples.specs.declared.Three.{Three as Ranked}
+use Rattle.triples.specs.declared.Indices.{Indices as Ranked}
 use Rattle.triples.specs.Verdict.{verdictOf}
 use Rattle.triples.specs.Clash.{rankOf, clashRanks, RankedTree}
-use Rattle.triples.specs.Loops.{labelIn, rankIn, InOrder, LeavesFound, lackFrom, toldOf, Given}
+use Rattle.triples.specs.Loops.{labelIn, rankIn, InOrder, LeavesFound, lackFrom, toldOf, AsRead}
 use Rattle.triples.proofs.Ranks.{label-at, place-of, place-number, order-sorted}
 use Rattle.triples.proofs.RowLaws.{rank-at}
 
@@ -237,7 +237,7 @@ pub ranked-in : (e : Edition) (t : Tree) → ValidIn e t → (tree : TreeArrays)
 ranked-in e t v tree d = ranked-read (folded e t) (valid-folded e t v) tree (d ∙ sym (arrays-folded e t))
 
 module _ (s t : Tree) (xs : List Token) (first second list : List ℕ) (one two : TreeArrays) (places : LabelPlaces)
-    (g : Given s t xs first second list one two places) where
+    (g : AsRead s t xs first second list one two places) where
   count-is : places .count ≡ length xs
   unfolding placesOf
   count-is = ap (λ (q : LabelPlaces). q .count) (g .placed)

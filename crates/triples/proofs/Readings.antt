@@ -22,7 +22,7 @@ use Rattle.lists.proofs.Accepts.{list-accepts}
 use Rattle.agreement.specs.Answer.{answer}
 use Rattle.triples.specs.declared.Agreement.the-variants.{Agreed}
 use Rattle.triples.specs.Verdict.{verdictOf, verdictOnList, verdictOnSecond, verdictOn, verdict, AllRead}
-use Rattle.triples.specs.Loops.{treeRefusal, listRefusal, Given}
+use Rattle.triples.specs.Loops.{treeRefusal, listRefusal, AsRead}
 
 -- a tree that was read, and a list
 pub record TreeWas (reading : Reading Tree) (r : TreeRead) : Type 0 where
@@ -102,7 +102,7 @@ module _ (first second list : List ℕ) where
         unfolding verdictOnList
         all-read = ap (λ (q : Reading (List Token)). verdictOnList (s .tree) (t .tree) q) (sym (k .read)) ∙ on-list
 
-        pub given-read : Given (s .tree) (t .tree) (k .labels) first second list (one .tree) (two .tree) (three .places)
+        pub given-read : AsRead (s .tree) (t .tree) (k .labels) first second list (one .tree) (two .tree) (three .places)
         given-read =
             let a = accepts first (s .tree) (s .read) in
             let b = accepts second (t .tree) (t .read) in

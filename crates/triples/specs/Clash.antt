@@ -11,7 +11,7 @@ use Rattle.trees.specs.Tree.{Tree, Proper}
 use Rattle.trees.specs.Arrays.{arraysOf, nodesOf}
 use Rattle.agreement.specs.Answer as Answer
 use Rattle.leaves.specs.Numbered.{Numbered}
-use Rattle.triples.specs.declared.Three.{Three}
+use Rattle.triples.specs.declared.Indices.{Indices}
 
 -- how many labels are before x in the list
 unfoldable pub rankOf : List Label → Label → ℕ
@@ -19,7 +19,7 @@ rankOf [] x = 0
 rankOf (y ∷ ys) x = cond (sameLabel x y) 0 (suc (rankOf ys x))
 
 -- the ranks of three labels; if there are none, three times the number of labels
-unfoldable pub clashRanks : List Label → Option Answer.Three → Three
+unfoldable pub clashRanks : List Label → Option Answer.Three → Indices
 unfolding rankOf
 clashRanks xs none = record { first = length xs; second = length xs; third = length xs }
 clashRanks xs (some c) = record { first = rankOf xs (c .one); second = rankOf xs (c .two); third = rankOf xs (c .three) }
@@ -32,6 +32,6 @@ pub record RankedTree (t : Tree) (xs : List Label) (left : List ℕ) (nodes : �
   pub numbered : Numbered t xs leaf
 
 -- three ranks in order, or none: what holds of the result for any arrays
-pub record Ranks (n : ℕ) (r : Three) : Type 0 where
+pub record Ranks (n : ℕ) (r : Indices) : Type 0 where
   pub found : r .first < n → (r .first < r .second) × (r .second < r .third) × (r .third < n)
   pub lacking : n ≤ r .first → r ≡ record { first = n; second = n; third = n }

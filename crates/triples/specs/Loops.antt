@@ -24,7 +24,7 @@ use Rattle.newick.specs.declared.TreeAnswer.the-variants as Trees
 use Rattle.agreement.specs.Answer.{differ, clashing}
 use Rattle.leaves.specs.Find.{leafFrom, foundLeaf}
 use Rattle.triples.specs.declared.Agreement.{Agreement}
-use Rattle.triples.specs.declared.Three.{Three}
+use Rattle.triples.specs.declared.Indices.{Indices}
 use Rattle.triples.specs.declared.Agreement.the-variants.{Agreed, Disagree, Refused}
 
 -- the label that token k of a list's text decodes to
@@ -110,7 +110,7 @@ unfolding leafFrom secondOf
 firstOf clash count = leafFrom (λ i. ltb (secondOf (clash i) count i) count) (count - 0) 0
 
 -- the verdict on three ranks: the places of their labels, if there are three
-unfoldable pub toldOf : List ℕ → List ℕ → ℕ → Three → Agreement
+unfoldable pub toldOf : List ℕ → List ℕ → ℕ → Indices → Agreement
 toldOf order start count r =
     cond (ltb (r .first) count)
     (Disagree (getD start (getD order (r .first) 0) 0) (getD start (getD order (r .second) 0) 0)
@@ -132,7 +132,7 @@ listRefusal (Lists.Labels n) = unreadBody K
 listRefusal (Lists.Refused r) = Refused r
 
 -- two trees and a list of tokens as the readers return them
-pub record Given (s t : Tree) (xs : List Token) (first second list : List ℕ) (one two : TreeArrays) (places : LabelPlaces) : Type 0 where
+pub record AsRead (s t : Tree) (xs : List Token) (first second list : List ℕ) (one two : TreeArrays) (places : LabelPlaces) : Type 0 where
   pub valid1 : Valid s
   pub valid2 : Valid t
   pub text1 : first ≡ textOf s

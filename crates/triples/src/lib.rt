@@ -22,7 +22,7 @@ ghost use Rattle.agreement.specs.Sets.{increasing};
 ghost use Rattle.agreement.specs.Answer.{answer, firstClash};
 ghost use Rattle.triples.specs.Verdict.{verdict, verdictOf};
 ghost use Rattle.triples.specs.Clash.{clashRanks, RankedTree, Ranks};
-ghost use Rattle.triples.specs.Loops.{labelIn, rankIn, InOrder, LeavesFound, lackFrom, toldOf, unreadBody, treeRefusal, listRefusal, Given};
+ghost use Rattle.triples.specs.Loops.{labelIn, rankIn, InOrder, LeavesFound, lackFrom, toldOf, unreadBody, treeRefusal, listRefusal, AsRead};
 use crate::ancestors::lca_row;
 use crate::ancestors::lows;
 use crate::search::second;
@@ -40,7 +40,7 @@ pub enum Agreement {
 }
 
 // Three labels by three numbers: `first_clash` returns their ranks in label order, and `mast` keeps their places in a list.
-pub struct Three {
+pub struct Indices {
     pub first: usize,
     pub second: usize,
     pub third: usize,
@@ -186,7 +186,7 @@ pub fn first_clash(
     nodes2: usize,
     leaf2: &[usize; 80],
     count: usize,
-) -> Three
+) -> Indices
     ensures { λ r. ⌜ Ranks (min count 80) r ⌝ }
     ensures { λ r. ⌜ ((s t : Tree) (xs : List Label) → increasing xs ≡ true → count ≡ length xs → count ≤ 80
         → RankedTree s xs (now (left1 .entry)) nodes1 (now (leaf1 .entry))
@@ -205,7 +205,7 @@ pub fn first_clash(
         let j = second(&row1, &row2, most, i);
         if j < most {
             let k = third(&row1, &row2, most, j);
-            return Three {
+            return Indices {
                 first: i,
                 second: j,
                 third: k,
@@ -213,7 +213,7 @@ pub fn first_clash(
         }
         i += 1;
     }
-    Three {
+    Indices {
         first: most,
         second: most,
         third: most,
@@ -236,7 +236,7 @@ fn ranked(leaf: &[usize; 80], order: &[usize; 80], count: usize) -> [usize; 80]
 }
 
 // The verdict on three ranks: the places of their labels, or that there are none.
-fn told(three: Three, order: &[usize; 80], start: &[u16; 80], count: usize) -> Agreement
+fn told(three: Indices, order: &[usize; 80], start: &[u16; 80], count: usize) -> Agreement
     requires { ⌜ (count ≤ 80) × ((i : ℕ) → getD (now order) i 0 < 80) × Ranks count three ⌝ }
     ensures { λ r. ⌜ r ≡ toldOf (now (order .entry)) (now (start .entry)) count three ⌝ }
 {
@@ -265,7 +265,7 @@ fn compared(
 ) -> Agreement
     requires { ⌜ places .count ≤ 80 ⌝ }
     ensures { λ r. ⌜ ((s t : Tree) (xs : List Token)
-        → Given s t xs (inEdition edition (now (first .entry))) (inEdition edition (now (second .entry))) (inEdition edition (now (list .entry))) one two places
+        → AsRead s t xs (inEdition edition (now (first .entry))) (inEdition edition (now (second .entry))) (inEdition edition (now (list .entry))) one two places
         → r ≡ verdictOf xs (answer (decoded s) (decoded t) (map spelling xs))) ⌝ }
 {
     let count = places.count;

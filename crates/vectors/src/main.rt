@@ -1,6 +1,6 @@
 // Runs a stored stream of jobs through `job` and writes each answer as `agree` would. A case is the job's length as two bytes,
 // and the job.
-use job::RECORD_ROOM;
+use lines::RECORD_ROOM;
 ghost use Prim.Native.Nat.{_<_};
 
 fn wide(b: u8) -> usize
@@ -14,7 +14,7 @@ fn run_job(text: &[u8]) {
     let mut area = [0u8; RECORD_ROOM];
     let out: &mut [u8] = &mut area;
     let answer = job::print_job(text, out);
-    io::write_all(1, job::written(out, answer));
+    io::write_all(1, lines::written(out, answer));
 }
 
 // The next case of the stream; false if there is none.

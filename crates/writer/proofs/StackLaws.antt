@@ -16,7 +16,7 @@ use Rattle.trees.specs.Arrays.{goodNodes, isLeaf, labelAt}
 use Rattle.trees.specs.Edition.{inEdition}
 use Rattle.trees.proofs.TreeLaws.{leaves-node, leaves-some}
 use Rattle.trees.proofs.Bools.{bool-cases}
-use Rattle.writer.specs.Passes.{leafToken, goesFirst, firstAt, below, nodeText, Leasts, Child, own, pair, otherOf, Children}
+use Rattle.writer.specs.Passes.{leafToken, goesFirst, firstAt, below, nodeText, Leasts, Child, own, pair, otherOf, ChildNodes}
 use Rattle.writer.specs.Passes.{markOf, thingText, ownText, goesOn, depthAfter, stackAfter, stackText, thingSteps, stackSteps}
 use Rattle.writer.proofs.NodeLaws.{below-leaf, below-node}
 use Rattle.writer.proofs.PassLaws.{pair-of, leaf-written, label-token}
@@ -52,7 +52,7 @@ module _ (e : Edition) (a : TreeArrays) (text : List ℕ) (n : ℕ) (g : goodNod
   -- by what the passes found, each node is a leaf or has two children in the order of writing
   pub children-found : (t first : List ℕ) → Leasts e a text t n
       → ((u : ℕ) → u < n → getD first u 0 ≡ firstAt (inEdition e text) (a .left) (a .right) (a .start) (a .size) t u)
-      → Children e a text first n
+      → ChildNodes e a text first n
   unfolding firstAt isLeaf
   children-found t first least found u h = go (bool-cases (isLeaf a u))
     where
@@ -228,7 +228,7 @@ pub record Step (e : Edition) (a : TreeArrays) (text first : List ℕ) (n : ℕ)
   pub things : Things n (stackAfter (a .left) (a .right) first k stack d) (depthAfter first k d)
   pub long : length (stackAfter (a .left) (a .right) first k stack d) ≡ length stack
 
-module _ (e : Edition) (a : TreeArrays) (text first : List ℕ) (n : ℕ) (children : Children e a text first n) (stack : List ℕ) (d k : ℕ)
+module _ (e : Edition) (a : TreeArrays) (text first : List ℕ) (n : ℕ) (children : ChildNodes e a text first n) (stack : List ℕ) (d k : ℕ)
     (few : n ≤ 159) (room : d + 4 ≤ length stack) (all : Things n stack d) where
   step-mark : ltb k 159 ≡ false → Step e a text first n stack d k
   unfolding ownText stackAfter depthAfter goesOn thingText thingSteps
@@ -378,7 +378,7 @@ module _ (e : Edition) (a : TreeArrays) (text : List ℕ) (n : ℕ) (fits : n �
         kept = refl;
       }
 
-  module _ (first : List ℕ) (children : Children e a text first n) (whole out stack : List ℕ) (depth at d : ℕ) (ed : depth ≡ suc d)
+  module _ (first : List ℕ) (children : ChildNodes e a text first n) (whole out stack : List ℕ) (depth at d : ℕ) (ed : depth ≡ suc d)
       (w : Writing e a text n whole before out stack depth at) where
     room : d + 4 ≤ length stack
     room = omega (arith, w .long, w .few, depth-steps a text stack depth)

@@ -98,8 +98,8 @@ pub data Child (e : Edition) (a : TreeArrays) (text : List ℕ) (u f s : ℕ) : 
 abbrev pub otherOf : List ℕ → List ℕ → ℕ → ℕ → ℕ
 otherOf l r f u = cond (eqb f (getD l u 0)) (getD r u 0) (getD l u 0)
 
-abbrev pub Children : Edition → TreeArrays → List ℕ → List ℕ → ℕ → Type 0
-Children e a text first n =
+abbrev pub ChildNodes : Edition → TreeArrays → List ℕ → List ℕ → ℕ → Type 0
+ChildNodes e a text first n =
     (u : ℕ) → u < n → Child e a text u (getD first u 0) (otherOf (a .left) (a .right) (getD first u 0) u)
 
 -- things to write: a node by its number, 159 for `,` and 160 for `)`

@@ -25,7 +25,7 @@ ghost use Rattle.trees.specs.Tree.{leaves};
 ghost use Rattle.trees.specs.Edition.{inEdition, normalTextIn};
 ghost use Rattle.trees.specs.Arrays.{goodNode, goodNodes, treeOf};
 ghost use Rattle.writer.specs.Write.{writeAnswer, outputAfter};
-ghost use Rattle.writer.specs.Passes.{arraysFrom, pass, weightAt, sumAt, rootSum, goesFirst, leastAt, firstAt, below, nodeText, Children};
+ghost use Rattle.writer.specs.Passes.{arraysFrom, pass, weightAt, sumAt, rootSum, goesFirst, leastAt, firstAt, below, nodeText, ChildNodes};
 ghost use Rattle.writer.specs.Passes.{markOf, ownText, depthAfter, stackAfter};
 
 // How many bytes were written, or why none was: the output is too short, or the arrays stand for no tree of at most
@@ -443,7 +443,7 @@ fn put_tree(
     out: &mut [u8],
 ) -> usize
     requires { ⌜ (0 < nodes) × (nodes ≤ 159) ⌝ }
-    requires { ⌜ Children edition (arraysFrom nodes (now left) (now right) (now start) (now size)) (now text) (now first) nodes ⌝ }
+    requires { ⌜ ChildNodes edition (arraysFrom nodes (now left) (now right) (now start) (now size)) (now text) (now first) nodes ⌝ }
     requires { ⌜ length (leaves (below (arraysFrom nodes (now left) (now right) (now start) (now size)) (now text) (nodes - 1))) ≤ 80 ⌝ }
     requires { ⌜ length (nodeText edition (arraysFrom nodes (now left) (now right) (now start) (now size)) (now text) (nodes - 1))
         ≤ length (now out) ⌝ }

@@ -23,37 +23,30 @@ options-of-requires c κs =
 returns-2 : tie.Need-returns-2
 returns-2 c =
     let a = c .before .before .before .before .before .before .before .before .before .before .before .before .args in
-    let e = claim-flags-known (a .flags) (a .first .now) (a .second .now) (a .required .now) (a .claim .now) _ (c .before .before .before .before .before .options-of .ensures) in
-    c .succeeded .ensures ∙ said-numbers _ _ (sym (c .before .before .answer .given .1) ∙ c .before .before .before .before .judge .ensures) ∙ ap claimNumbers (sym e)
+    let e = claim-flags-known (a .flags) (a .first .now) (a .second .now) (a .required .now) (a .claim .now) _
+    (c .before .before .before .before .before .options-of .ensures) in
+    c .succeeded .ensures ∙ said-numbers _ _ (sym (c .before .before .answer .given .1)
+    ∙ c .before .before .before .before .judge .ensures) ∙ ap claimNumbers (sym e)
 
 returns-3 : tie.Need-returns-3
 returns-3 c =
     let a = c .before .before .before .before .before .before .before .before .before .before .before .before .args in
-    let e = claim-flags-known (a .flags) (a .first .now) (a .second .now) (a .required .now) (a .claim .now) _ (c .before .before .before .before .before .options-of .ensures) in
-    c .named-with .ensures ∙ said-numbers _ _ (sym (c .before .before .answer2 .given .1) ∙ c .before .before .before .before .judge .ensures) ∙ ap claimNumbers (sym e)
+    let e = claim-flags-known (a .flags) (a .first .now) (a .second .now) (a .required .now) (a .claim .now) _
+    (c .before .before .before .before .before .options-of .ensures) in
+    c .named-with .ensures ∙ said-numbers _ _ (sym (c .before .before .answer2 .given .1)
+    ∙ c .before .before .before .before .judge .ensures) ∙ ap claimNumbers (sym e)
 
 returns-4 : tie.Need-returns-4
 returns-4 c =
     let a = c .before .before .before .before .before .before .before .before .before .before .before .before .args in
-    let e = claim-flags-known (a .flags) (a .first .now) (a .second .now) (a .required .now) (a .claim .now) _ (c .before .before .before .before .before .options-of .ensures) in
-    c .refused-with2 .ensures ∙ said-numbers _ _ (sym (c .before .before .answer3 .given .1) ∙ c .before .before .before .before .judge .ensures) ∙ ap claimNumbers (sym e)
+    let e = claim-flags-known (a .flags) (a .first .now) (a .second .now) (a .required .now) (a .claim .now) _
+    (c .before .before .before .before .before .options-of .ensures) in
+    c .refused-with2 .ensures ∙ said-numbers _ _ (sym (c .before .before .answer3 .given .1)
+    ∙ c .before .before .before .before .judge .ensures) ∙ ap claimNumbers (sym e)
 
 pub agree-claim-spec : {M : Type 1} → statement M
 agree-claim-spec =
     tie.close
-    (tie.spec
-    (λ c κs. search needs)
-    (λ c κs. search needs)
-    (λ c κs. search needs)
-    returns
-    options-of-requires
-    (λ c κs. search needs)
-    (λ c. search needs)
-    (λ c κs. search needs)
-    (λ c. search needs)
-    (λ c κs. search needs)
-    (λ c. search needs)
-    (λ c κs. search needs)
-    returns-2
-    returns-3
-    returns-4)
+    (tie.spec (λ c κs. search needs) (λ c κs. search needs) (λ c κs. search needs) returns options-of-requires (λ c κs. search needs)
+    (λ c. search needs) (λ c κs. search needs) (λ c. search needs) (λ c κs. search needs) (λ c. search needs) (λ c κs. search needs)
+    returns-2 returns-3 returns-4)

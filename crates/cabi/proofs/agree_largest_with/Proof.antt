@@ -15,8 +15,11 @@ unfolding numbersOf outputOf
 returns c =
     let a = c .before .before .before .before .before .before .before .before .args in
     let l = leb-false (a .flags) 3 (sym (c .before .before .before .is-known .ensures) ∙ not-true _ (c .before .before .if1 .taken)) in
-    let e = flags-refused (a .flags) (a .first .now) (a .second .now) (a .required .now) (length (a .out .now)) l in
-    (c .refused-with .ensures ∙ ap refusedWith (c .before .unknown-flags .ensures) ∙ ap numbersOf (sym e), ap (λ (x : Outcome Solution). outputOf x (a .out .now)) (sym e))
+    let e = flags-refused (a .flags) (a .first .now) (a .second .now) (a .required .now) (length (a .out .now)) l in (
+      c .refused-with .ensures ∙ ap refusedWith (c .before .unknown-flags .ensures) ∙ ap numbersOf (sym e),
+      ap (λ
+          (x : Outcome Solution). outputOf x (a .out .now)) (sym e),
+    )
 
 options-of-requires : tie.Need-options-of-requires
 options-of-requires c κs =
@@ -25,18 +28,15 @@ options-of-requires c κs =
 returns-2 : tie.Need-returns-2
 returns-2 c =
     let a = c .before .before .before .before .before .before .before .before .before .before .before .args in
-    let e = flags-known (a .flags) (a .first .now) (a .second .now) (a .required .now) (length (a .out .now)) _ (c .before .before .before .before .options-of .ensures) in
-    (c .before .before .answered .ensures .0 ∙ ap numbersOf (sym e), c .before .before .answered .ensures .1 ∙ ap (λ (x : Outcome Solution). outputOf x (a .out .now)) (sym e))
+    let e = flags-known (a .flags) (a .first .now) (a .second .now) (a .required .now) (length (a .out .now)) _
+    (c .before .before .before .before .options-of .ensures) in (
+      c .before .before .answered .ensures .0 ∙ ap numbersOf (sym e),
+      c .before .before .answered .ensures .1 ∙ ap (λ
+          (x : Outcome Solution). outputOf x (a .out .now)) (sym e),
+    )
 
 pub agree-largest-with-spec : {M : Type 1} → statement M
 agree-largest-with-spec =
     tie.close
-    (tie.spec
-    (λ c κs. search needs)
-    (λ c κs. search needs)
-    (λ c κs. search needs)
-    returns
-    options-of-requires
-    (λ c κs. search needs)
-    (λ c. search needs)
-    returns-2)
+    (tie.spec (λ c κs. search needs) (λ c κs. search needs) (λ c κs. search needs) returns options-of-requires (λ c κs. search needs)
+    (λ c. search needs) returns-2)

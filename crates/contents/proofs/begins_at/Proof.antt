@@ -49,16 +49,5 @@ returns-3 c =
 pub begins-at-spec : {M : Type 1} → statement M
 begins-at-spec =
     tie.close
-    (tie.spec
-    Inv-loop
-    μ-loop
-    loop-holds
-    returns
-    (λ c. omega arith)
-    (λ c. omega arith)
-    returns-2
-    (λ c. omega arith)
-    (λ c. omega arith)
-    (λ c. omega arith)
-    loop-again
-    returns-3)
+    (tie.spec Inv-loop μ-loop loop-holds returns (λ c. omega arith) (λ c. omega arith) returns-2 (λ c. omega arith) (λ c. omega arith)
+    (λ c. omega arith) loop-again returns-3)

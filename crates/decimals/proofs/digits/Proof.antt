@@ -15,22 +15,10 @@ abbrev μ-loop : tie.MeasureT-loop
 μ-loop n powers len bytes₀ rest₀ i₀ bytes rest i =
     len - i
 
-powers-requires : tie.Need-powers-requires Inv-loop μ-loop
-powers-requires c κs = search needs
-
-digit-count-requires : tie.Need-digit-count-requires Inv-loop μ-loop
-digit-count-requires c κs = search needs
-
 loop-holds : tie.Need-loop-holds Inv-loop μ-loop
 loop-holds c =
     let start = c .before .before .before in
     go-start (start .args .n) _ (omega (arith, start)) (c .digit-count .ensures)
-
-sub-take-digit : tie.Need-sub-take-digit Inv-loop μ-loop
-sub-take-digit c = omega arith
-
-sub-take-digit-2 : tie.Need-sub-take-digit-2 Inv-loop μ-loop
-sub-take-digit-2 c = omega arith
 
 array-read-take-digit : tie.Need-array-read-take-digit Inv-loop μ-loop
 array-read-take-digit c =
@@ -56,9 +44,6 @@ array-write-bytes c =
 add-i : tie.Need-add-i Inv-loop μ-loop
 add-i c = omega (arith, array-write-bytes c)
 
-loop-less : tie.Need-loop-less Inv-loop μ-loop
-loop-less c = omega arith
-
 loop-again : tie.Need-loop-again Inv-loop μ-loop
 loop-again c =
     let inside = c .before .before in
@@ -74,20 +59,5 @@ returns c = go-end (c .before .loop .inv) (c .before .before .digit-count .ensur
 pub digits-spec : {M : Type 1} → statement M
 digits-spec =
     tie.close
-    (tie.spec
-    Inv-loop
-    μ-loop
-    powers-requires
-    digit-count-requires
-    loop-holds
-    sub-take-digit
-    sub-take-digit-2
-    mul-take-digit
-    array-read-take-digit
-    take-digit-requires
-    add-bytes
-    array-write-bytes
-    add-i
-    loop-less
-    loop-again
-    returns)
+    (tie.spec Inv-loop μ-loop (λ c κs. search needs) (λ c κs. search needs) loop-holds (λ c. omega arith) (λ c. omega arith)
+    mul-take-digit array-read-take-digit take-digit-requires add-bytes array-write-bytes add-i (λ c. omega arith) loop-again returns)

@@ -15,9 +15,6 @@ abbrev μ-loop : tie.MeasureT-loop
 μ-loop n power times₀ rest₀ times rest =
     rest
 
-loop-holds : tie.Need-loop-holds Inv-loop μ-loop
-loop-holds c = omega arith
-
 add-times : tie.Need-add-times Inv-loop μ-loop
 add-times c =
     let l = c .before .loop in
@@ -39,4 +36,4 @@ returns c =
 
 pub take-digit-spec : {M : Type 1} → statement M
 take-digit-spec =
-    tie.close (tie.spec Inv-loop μ-loop loop-holds add-times loop-less loop-again returns)
+    tie.close (tie.spec Inv-loop μ-loop (λ c. omega arith) add-times loop-less loop-again returns)

@@ -1,7 +1,11 @@
 -- `job::answer_bodies` meets its contract: the engine's answer is that of the job. Assumes nothing.
 use Rattle.job.proofs.AnswerLaws.{blank, blank-room, told-as, list-base, names-near, names-answered}
 use Rattle.job.proofs.AnswerLaws.{answered-found, output-found, output-naming, answered-refused, output-refused}
-use Rattle.job.specs.Answered.{lineOutput, recordAnswer}
+use Rattle.lines.specs.Lines.{labelsIn}
+use Rattle.lines.specs.Output.{lineOutput}
+use Rattle.lines.proofs.LineLaws.{uncut}
+use Rattle.job.proofs.RecordLaws.{record-told}
+use Rattle.job.specs.Answered.{recordAnswer}
 use Rattle.job.specs.Printed.{jobLimit, solved}
 use mathlib.Core.Path.{_∙_, ap}
 use mathlib.Core.List.{List}
@@ -17,17 +21,11 @@ array-share-prefix-tree c =
     let l = c .before .before .before .before .before .largest in
     told-as _ blank _ _ blank-room (l .ensures .0) (l .ensures .1) _ (c .before .answer .given .1) .inside
 
-slice-aggregate-answer-set : tie.Need-slice-aggregate-answer-set
-slice-aggregate-answer-set c =
+slice-aggregate-set-lines : tie.Need-slice-aggregate-set-lines
+slice-aggregate-set-lines c =
     let l = c .before .before .before .before .before .before .largest in
     let f = told-as _ blank _ _ blank-room (l .ensures .0) (l .ensures .1) _ (c .before .before .answer .given .1) in
     omega (arith, f .inside, length-take (c .before .before .answer .given .0 .1 .0) (l .last .1 .1 .1 .1 .0))
-
-answer-set-requires : tie.Need-answer-set-requires
-answer-set-requires c κs =
-    let l = c .before .before .before .before .before .before .before .largest in
-    let f = told-as _ blank _ _ blank-room (l .ensures .0) (l .ensures .1) _ (c .before .before .before .answer .given .1) in
-    (f .few, f .short)
 
 named-in-requires : tie.Need-named-in-requires
 named-in-requires c κs =
@@ -39,11 +37,18 @@ named-in-requires c κs =
 
 returns : tie.Need-returns
 returns c =
-    let l = c .before .before .before .before .before .before .before .before .before .before .largest in
-    let f = told-as _ blank _ _ blank-room (l .ensures .0) (l .ensures .1) _ (c .before .before .before .before .before .before .answer .given .1) in
-    let out = c .before .before .before .before .before .before .before .before .before .before .before .before .before .before .before .before .args .out .now in (
-      c .before .before .answer-set .ensures .0 ∙ ap (λ (t : List ℕ). recordAnswer t (length out)) (f .lines) ∙ answered-found _ _ _ (solved (f .of)) (f .is),
-      c .before .before .answer-set .ensures .1 ∙ ap (λ (t : List ℕ). lineOutput t out) (f .lines) ∙ output-found _ out (solved (f .of)) (f .is),
+    let at-answer = c .before .before .before .before .before .before .before in
+    let l = at-answer .before .before .before .before .largest in
+    let start = at-answer .before .before .before .before .before .before .before .before .before .before in
+    let f = told-as _ blank _ _ blank-room (l .ensures .0) (l .ensures .1) _ (at-answer .answer .given .1) in
+    let h = c .before .before .before .set-lines .ensures in
+    let set = l .result .set in
+    let whole = uncut (labelsIn (start .args .first .now) (set .start) (set .size)) _ (set .count) (f .few) (f .short) ∙ f .lines in
+    let out = start .args .out .now in (
+      c .lines-answer .ensures ∙ record-told _ _ (h .0)
+          ∙ ap (λ (t : List ℕ). recordAnswer t (length out)) whole
+          ∙ answered-found _ _ _ (solved (f .of)) (f .is),
+      h .1 ∙ ap (λ (t : List ℕ). lineOutput t out) whole ∙ output-found _ out (solved (f .of)) (f .is),
     )
 
 returns-2 : tie.Need-returns-2
@@ -61,18 +66,6 @@ returns-3 c =
 pub answer-bodies-spec : {M : Type 1} → statement M
 answer-bodies-spec =
     tie.close
-    (tie.spec
-    (λ c. search needs)
-    (λ c κs. search needs)
-    (λ c. search needs)
-    array-share-prefix-tree
-    slice-aggregate-answer-set
-    answer-set-requires
-    (λ c. search needs)
-    (λ c κs. search needs)
-    named-in-requires
-    (λ c. search needs)
-    (λ c. search needs)
-    returns
-    returns-2
-    returns-3)
+    (tie.spec (λ c. search needs) (λ c κs. search needs) (λ c. search needs) array-share-prefix-tree slice-aggregate-set-lines
+    (λ c κs. search needs) (λ c κs. search needs) (λ c. search needs) (λ c κs. search needs) named-in-requires (λ c. search needs)
+    (λ c. search needs) returns returns-2 returns-3)

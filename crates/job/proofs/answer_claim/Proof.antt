@@ -2,6 +2,7 @@
 use Rattle.job.proofs.AnswerLaws.{said-as, claim-near, names-answered}
 use Rattle.job.proofs.AnswerLaws.{answered-found, output-found, output-naming, answered-refused, output-refused}
 use Rattle.job.specs.Printed.{jobLimit, passed, replyLines}
+use Rattle.job.proofs.RecordLaws.{record-told}
 use mathlib.Core.Path.{_∙_, sym}
 use borrow.Author.Needs.{needs}
 use Rattle.job.proofs.answer_claim.Statement.{statement}
@@ -17,14 +18,18 @@ named-in-requires c κs =
 returns : tie.Need-returns
 unfolding replyLines
 returns c =
-    let f = said-as _ _ _ (sym (c .before .before .before .before .before .answer .given .1) ∙ c .before .before .before .before .before .before .before .judge .ensures) in
-    let h = c .before .before .answer-size .ensures in
-    (h .0 ∙ answered-found _ _ _ (passed _) f, h .1 ∙ output-found _ _ (passed _) f)
+    let at-answer = c .before .before .before .before .before .before in
+    let f = said-as _ _ _ (sym (at-answer .answer .given .1) ∙ at-answer .before .before .judge .ensures) in
+    let h = c .before .before .before .claim-line .ensures in
+    (c .lines-answer .ensures ∙ record-told _ _ (h .0) ∙ answered-found _ _ _ (passed _) f, h .1 ∙ output-found _ _ (passed _) f)
 
 returns-2 : tie.Need-returns-2
 returns-2 c =
-    let f = said-as _ _ _ (sym (c .before .before .before .answer2 .given .1) ∙ c .before .before .before .before .before .judge .ensures) in
-    (names-answered f (c .before .before .before .before .before .before .before .before .before .before .before .args .at) _ _ _ (c .named-in .ensures) (c .before .base-of .ensures), output-naming _ _ _ _ (f .is))
+    let f = said-as _ _ _ (sym (c .before .before .before .answer2 .given .1) ∙ c .before .before .before .before .before .judge .ensures) in (
+      names-answered f (c .before .before .before .before .before .before .before .before .before .before .before .args .at) _ _ _
+          (c .named-in .ensures) (c .before .base-of .ensures),
+      output-naming _ _ _ _ (f .is),
+    )
 
 returns-3 : tie.Need-returns-3
 returns-3 c =
@@ -34,15 +39,5 @@ returns-3 c =
 pub answer-claim-spec : {M : Type 1} → statement M
 answer-claim-spec =
     tie.close
-    (tie.spec
-    (λ c κs. search needs)
-    (λ c. search needs)
-    (λ c κs. search needs)
-    (λ c. search needs)
-    (λ c κs. search needs)
-    named-in-requires
-    (λ c. search needs)
-    (λ c. search needs)
-    returns
-    returns-2
-    returns-3)
+    (tie.spec (λ c κs. search needs) (λ c. search needs) (λ c κs. search needs) (λ c κs. search needs) (λ c. search needs)
+    (λ c κs. search needs) named-in-requires (λ c. search needs) (λ c. search needs) returns returns-2 returns-3)

@@ -16,7 +16,8 @@ returns c =
 returns-2 : tie.Need-returns-2
 unfolding answerTo
 returns-2 c =
-    let f = job-broken (c .before .before .before .before .before .before .before .args .job .now) (omega arith) (sym (c .before .enum-told .given .1) ∙ c .before .before .before .contents .ensures) in
+    let f = job-broken (c .before .before .before .before .before .before .before .args .job .now) (omega arith) (sym
+    (c .before .enum-told .given .1) ∙ c .before .before .before .contents .ensures) in
     (c .job-refusal2 .ensures ∙ answered-refused _ _ _ _ f, output-refused _ _ _ f)
 
 answer-laid-requires : tie.Need-answer-laid-requires
@@ -25,14 +26,5 @@ answer-laid-requires c κs = (omega arith, sym (c .before .before .layout .given
 pub answer-job-spec : {M : Type 1} → statement M
 answer-job-spec =
     tie.close
-    (tie.spec
-    (λ c κs. search needs)
-    returns
-    (λ c κs. search needs)
-    (λ c. search needs)
-    (λ c. search needs)
-    (λ c κs. search needs)
-    returns-2
-    answer-laid-requires
-    (λ c. search needs)
-    (λ c. search needs))
+    (tie.spec (λ c κs. search needs) returns (λ c κs. search needs) (λ c. search needs) (λ c. search needs) (λ c κs. search needs)
+    returns-2 answer-laid-requires (λ c. search needs) (λ c. search needs))

@@ -15,8 +15,22 @@ answer-bodies-requires c κs =
     let place = first .before .before in
     let start = place .before .before .before .before .before .before in
     let a = start .args in (
-      omega (arith, list-ends (a .job .now) (a .table) (start .pre .1), place .place-of2 .ensures, ap (length {A = ℕ}) (third .bytes-of3 .ensures), start .pre .0),
-      omega (arith, first-ends (a .job .now) (a .table) (start .pre .1), place .before .place-of .ensures, ap (length {A = ℕ}) (first .bytes-of .ensures), start .pre .0),
+      omega (
+        arith,
+        list-ends (a .job .now) (a .table) (start .pre .1),
+        place .place-of2 .ensures,
+        ap (length {A = ℕ})
+            (third .bytes-of3 .ensures),
+        start .pre .0,
+      ),
+      omega (
+        arith,
+        first-ends (a .job .now) (a .table) (start .pre .1),
+        place .before .place-of .ensures,
+        ap (length {A = ℕ})
+            (first .bytes-of .ensures),
+        start .pre .0,
+      ),
     )
 
 answer-claim-requires : tie.Need-answer-claim-requires
@@ -27,10 +41,31 @@ answer-claim-requires c κs =
     let start = place .before .before .before .before .before .before in
     let a = start .args in (
       (
-        omega (arith, list-ends (a .job .now) (a .table) (start .pre .1), place .place-of2 .ensures, ap (length {A = ℕ}) (third .bytes-of3 .ensures), start .pre .0),
-        omega (arith, first-ends (a .job .now) (a .table) (start .pre .1), place .before .place-of .ensures, ap (length {A = ℕ}) (first .bytes-of .ensures), start .pre .0),
+        omega (
+          arith,
+          list-ends (a .job .now) (a .table) (start .pre .1),
+          place .place-of2 .ensures,
+          ap (length {A = ℕ})
+              (third .bytes-of3 .ensures),
+          start .pre .0,
+        ),
+        omega (
+          arith,
+          first-ends (a .job .now) (a .table) (start .pre .1),
+          place .before .place-of .ensures,
+          ap (length {A = ℕ})
+              (first .bytes-of .ensures),
+          start .pre .0,
+        ),
       ),
-      omega (arith, claim-ends (a .job .now) (a .table) (start .pre .1), first .before .place-of3 .ensures, ap (length {A = ℕ}) (c .before .bytes-of4 .ensures), start .pre .0),
+      omega (
+        arith,
+        claim-ends (a .job .now) (a .table) (start .pre .1),
+        first .before .place-of3 .ensures,
+        ap (length {A = ℕ})
+            (c .before .bytes-of4 .ensures),
+        start .pre .0,
+      ),
     )
 
 returns : tie.Need-returns
@@ -41,7 +76,8 @@ returns c =
     let read = place .before .before .before in
     let start = read .before .before .before .before in
     let a = start .args in
-    let e = job-solved (a .job .now) (a .table) (start .pre .1) (start .pre .0) _ (read .edition-of .ensures) _ _ _ (third .before .before .bytes-of .ensures)
+    let e = job-solved (a .job .now) (a .table) (start .pre .1) (start .pre .0) _ (read .edition-of .ensures) _ _ _
+    (third .before .before .bytes-of .ensures)
     (third .before .bytes-of2 .ensures) (third .bytes-of3 .ensures) (c .before .before .before .before .enum-told .given .1) in
     let at = begin-is (place .before .before .place-of .ensures) (place .before .place-of2 .ensures) (place .place-of3 .ensures)
     ∙ bodies-base (a .job .now) (a .table) (start .pre .1) in (
@@ -58,8 +94,10 @@ returns-2 c =
     let read = place .before .before .before in
     let start = read .before .before .before .before in
     let a = start .args in
-    let e = job-judged (a .job .now) (a .table) (start .pre .1) (start .pre .0) _ (read .edition-of .ensures) _ _ _ (third .before .before .bytes-of .ensures)
-    (third .before .bytes-of2 .ensures) (third .bytes-of3 .ensures) _ _ (told .enum-told2 .given .1) _ (c .before .before .before .before .bytes-of4 .ensures) in
+    let e = job-judged (a .job .now) (a .table) (start .pre .1) (start .pre .0) _ (read .edition-of .ensures) _ _ _
+    (third .before .before .bytes-of .ensures)
+    (third .before .bytes-of2 .ensures) (third .bytes-of3 .ensures) _ _ (told .enum-told2 .given .1) _
+    (c .before .before .before .before .bytes-of4 .ensures) in
     let at = begin-is (place .before .before .place-of .ensures) (place .before .place-of2 .ensures) (place .place-of3 .ensures)
     ∙ bodies-base (a .job .now) (a .table) (start .pre .1) in (
       found .0 ∙ answer-is (a .job .now) (length (a .out .now)) at e,
@@ -69,20 +107,6 @@ returns-2 c =
 pub answer-laid-spec : {M : Type 1} → statement M
 answer-laid-spec =
     tie.close
-    (tie.spec
-    (λ c κs. search needs)
-    (λ c κs. search needs)
-    (λ c κs. search needs)
-    (λ c κs. search needs)
-    (λ c κs. search needs)
-    (λ c κs. search needs)
-    (λ c κs. search needs)
-    (λ c. search needs)
-    answer-bodies-requires
-    (λ c. search needs)
-    (λ c κs. search needs)
-    answer-claim-requires
-    (λ c. search needs)
-    returns
-    (λ c. search needs)
-    returns-2)
+    (tie.spec (λ c κs. search needs) (λ c κs. search needs) (λ c κs. search needs) (λ c κs. search needs) (λ c κs. search needs)
+    (λ c κs. search needs) (λ c κs. search needs) (λ c. search needs) answer-bodies-requires (λ c. search needs) (λ c κs. search needs)
+    answer-claim-requires (λ c. search needs) returns (λ c. search needs) returns-2)

@@ -21,10 +21,6 @@ abbrev μ-loop : tie.MeasureT-loop
 μ-loop edition text left start size nodes token end u₀ u =
     end - u
 
-least-requires : tie.Need-least-requires Inv-loop μ-loop
-least-requires c κs =
-    search needs
-
 loop-holds : tie.Need-loop-holds Inv-loop μ-loop
 unfolding foundLeaf
 loop-holds c =
@@ -38,14 +34,6 @@ returns : tie.Need-returns Inv-loop μ-loop
 returns c =
     let l = c .before .before .before in
     sym (from-hit _ (l .before .least .result) (l .loop .u) (sym (c .before .has-label .ensures) ∙ c .if1 .taken)) ∙ l .loop .inv .2
-
-add-u : tie.Need-add-u Inv-loop μ-loop
-add-u c =
-    omega arith
-
-loop-less : tie.Need-loop-less Inv-loop μ-loop
-loop-less c =
-    omega arith
 
 loop-again : tie.Need-loop-again Inv-loop μ-loop
 loop-again c =
@@ -63,14 +51,5 @@ returns-2 c =
 pub find-leaf-spec : {M : Type 1} → statement M
 find-leaf-spec =
     tie.close
-    (tie.spec
-    Inv-loop
-    μ-loop
-    least-requires
-    loop-holds
-    has-label-requires
-    returns
-    add-u
-    loop-less
-    loop-again
-    returns-2)
+    (tie.spec Inv-loop μ-loop (λ c κs. search needs) loop-holds has-label-requires returns (λ c. omega arith) (λ c. omega arith)
+    loop-again returns-2)

@@ -7,22 +7,10 @@ use Rattle.trees.proofs.FoldLaws.{fold-part}
 use Rattle.leaves.proofs.has_label.Statement.{statement}
 use Rattle.leaves.proofs.has_label.Tie as tie
 
-element-copy-out-wide : tie.Need-element-copy-out-wide
-element-copy-out-wide c = search needs
-
-wide-requires : tie.Need-wide-requires
-wide-requires c κs = search needs
-
 returns : tie.Need-returns
 unfolding labelled
 returns c =
     rw (← c .before .wide .ensures) (simp (ne-eqb _ _ (c .if1 .taken)))
-
-leaf-label-requires : tie.Need-leaf-label-requires
-leaf-label-requires c κs = search needs
-
-same-label-requires : tie.Need-same-label-requires
-same-label-requires c κs = search needs
 
 returns-2 : tie.Need-returns-2
 unfolding labelled
@@ -40,10 +28,4 @@ returns-2 c =
 pub has-label-spec : {M : Type 1} → statement M
 has-label-spec =
     tie.close
-    (tie.spec
-    element-copy-out-wide
-    wide-requires
-    returns
-    leaf-label-requires
-    same-label-requires
-    returns-2)
+    (tie.spec (λ c. search needs) (λ c κs. search needs) returns (λ c κs. search needs) (λ c κs. search needs) returns-2)

@@ -19,9 +19,4 @@ returns-2 c =
 pub quote-spec : {M : Type 1} → statement M
 quote-spec =
     tie.close
-    (tie.spec
-    returns
-    (λ c. search needs)
-    (λ c. search needs)
-    (λ c κs. search needs)
-    returns-2)
+    (tie.spec returns (λ c. search needs) (λ c. search needs) (λ c κs. search needs) returns-2)

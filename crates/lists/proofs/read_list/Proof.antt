@@ -6,7 +6,7 @@ use mathlib.Core.Path.{_∙_, ap, sym}
 use borrow.Author.Needs.{needs}
 use lib.ListN.{length}
 use Rattle.trees.specs.Edition.{inEdition}
-use Rattle.trees.specs.Slots.{Marked}
+use Rattle.trees.specs.Slots.{SlotMarks}
 use Rattle.trees.proofs.FoldLaws.{fold-size, kind-folded}
 use Rattle.trees.proofs.ByteLaws.{kind-told}
 use Rattle.trees.proofs.SlotLaws.{marked-start}
@@ -19,7 +19,7 @@ use Rattle.lists.proofs.read_list.Tie as tie
 
 abbrev Inv-loop : tie.InvT-loop
 Inv-loop edition text body table start₀ size₀ seen₀ stage₀ i₀ start size seen stage i =
-    Running (inEdition edition text) body stage start size i × Marked listLimit (inEdition edition text) start size seen
+    Running (inEdition edition text) body stage start size i × SlotMarks listLimit (inEdition edition text) start size seen
 
 abbrev μ-loop : tie.MeasureT-loop
 μ-loop edition text body table start₀ size₀ seen₀ stage₀ i₀ start size seen stage i =
@@ -80,22 +80,6 @@ returns-2 c =
 pub read-list-spec : {M : Type 1} → statement M
 read-list-spec =
     tie.close
-    (tie.spec
-    Inv-loop
-    μ-loop
-    (λ c κs. search needs)
-    (λ c κs. search needs)
-    loop-holds
-    (λ c. omega arith)
-    (λ c κs. search needs)
-    step-requires
-    (λ c. search needs)
-    (λ c. search needs)
-    (λ c κs. search needs)
-    returns
-    (λ c. omega arith)
-    (λ c. omega arith)
-    loop-again
-    at-end-requires
-    (λ c κs. search needs)
-    returns-2)
+    (tie.spec Inv-loop μ-loop (λ c κs. search needs) (λ c κs. search needs) loop-holds (λ c. omega arith) (λ c κs. search needs)
+    step-requires (λ c. search needs) (λ c. search needs) (λ c κs. search needs) returns (λ c. omega arith) (λ c. omega arith) loop-again
+    at-end-requires (λ c κs. search needs) returns-2)

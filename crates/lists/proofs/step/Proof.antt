@@ -43,19 +43,5 @@ returns-5 c =
 pub step-spec : {M : Type 1} → statement M
 step-spec =
     tie.close
-    (tie.spec
-    (λ c. search needs)
-    (λ c κs. search needs)
-    (λ c. search needs)
-    (λ c κs. search needs)
-    (λ c. search needs)
-    bare-requires
-    (λ c. search needs)
-    quoted-requires
-    (λ c. search needs)
-    (λ c κs. search needs)
-    returns
-    returns-2
-    returns-3
-    returns-4
-    returns-5)
+    (tie.spec (λ c. search needs) (λ c κs. search needs) (λ c. search needs) (λ c κs. search needs) (λ c. search needs) bare-requires
+    (λ c. search needs) quoted-requires (λ c. search needs) (λ c κs. search needs) returns returns-2 returns-3 returns-4 returns-5)

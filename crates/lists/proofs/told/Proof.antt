@@ -6,12 +6,6 @@ use borrow.Author.Needs.{needs}
 use Rattle.lists.proofs.told.Statement.{statement}
 use Rattle.lists.proofs.told.Tie as tie
 
-enum-known-answer : tie.Need-enum-known-answer
-enum-known-answer c = search needs
-
-enum-told : tie.Need-enum-told
-enum-told c = search needs
-
 returns : tie.Need-returns
 unfolding answerOf
 returns c =
@@ -23,4 +17,4 @@ returns-2 c =
     rw (c .enum-told .given .1) refl
 
 pub told-spec : {M : Type 1} → statement M
-told-spec = tie.close (tie.spec enum-known-answer enum-told returns returns-2)
+told-spec = tie.close (tie.spec (λ c. search needs) (λ c. search needs) returns returns-2)

@@ -1,6 +1,6 @@
 -- `compare` meets its contract. Assumes nothing.
 use mathlib.Core.Path.{_∙_, sym, ap}
-use Rattle.mast.specs.Query.{task}
+use Rattle.queries.specs.Query.{task}
 use Rattle.mast.specs.Compare.{comparedOf}
 use Rattle.mast.proofs.WayLaws.{compare-stopped, compare-unlisted, compare-unclaimed, compare-listed}
 use borrow.Author.Needs.{needs}

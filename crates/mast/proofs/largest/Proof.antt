@@ -2,7 +2,7 @@
 use mathlib.Core.Path.{_∙_, sym, ap}
 use lib.ListN.{length}
 use Rattle.pairs.specs.Outcome.{Outcome}
-use Rattle.mast.specs.Query.{task}
+use Rattle.queries.specs.Query.{task}
 use Rattle.mast.specs.Largest.{Solution, largestOf, outputOf}
 use Rattle.mast.proofs.WayLaws.{solve-stopped, solve-unlisted, solve-listed}
 use Rattle.mast.proofs.SolutionLaws.{refused-answer, refused-output}

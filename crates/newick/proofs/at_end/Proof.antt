@@ -30,28 +30,9 @@ rest (Quoted first len) text body st start size h = refl
 rest (After u) text body st start size h = refl
 rest Done text body st start size h = absurd (left-over (0 ∷ 2 ∷ 3 ∷ []) 4 refl h)
 
-enum-told : tie.Need-enum-told
-enum-told c = search needs
-
 add-t11 : tie.Need-add-t11
 add-t11 c =
     omega (arith, ready-as _ (c .before .enum-told .given .1) (c .before .before .before .before .pre) .few)
-
-enum-known-mode : tie.Need-enum-known-mode
-enum-known-mode c = search needs
-
-repeated-requires : tie.Need-repeated-requires
-repeated-requires c κs =
-    search needs
-
-refuse-requires : tie.Need-refuse-requires
-refuse-requires c κs = search needs
-
-refuse-requires-2 : tie.Need-refuse-requires-2
-refuse-requires-2 c κs = search needs
-
-refuse-requires-3 : tie.Need-refuse-requires-3
-refuse-requires-3 c κs = search needs
 
 returns : tie.Need-returns
 unfolding answerOf
@@ -81,15 +62,5 @@ returns-4 c =
 pub at-end-spec : {M : Type 1} → statement M
 at-end-spec =
     tie.close
-    (tie.spec
-    enum-told
-    add-t11
-    enum-known-mode
-    repeated-requires
-    refuse-requires
-    refuse-requires-2
-    refuse-requires-3
-    returns
-    returns-2
-    returns-3
-    returns-4)
+    (tie.spec (λ c. search needs) add-t11 (λ c. search needs) (λ c κs. search needs) (λ c κs. search needs) (λ c κs. search needs)
+    (λ c κs. search needs) returns returns-2 returns-3 returns-4)

@@ -28,21 +28,6 @@ rest st a u i Quote h = refl
 rest st a u i Blank h = refl
 rest st a u i Other h = refl
 
-enum-told : tie.Need-enum-told
-enum-told c = search needs
-
-on-close-requires : tie.Need-on-close-requires
-on-close-requires c κs = search needs
-
-enum-told-2 : tie.Need-enum-told-2
-enum-told-2 c = search needs
-
-on-comma-requires : tie.Need-on-comma-requires
-on-comma-requires c κs = search needs
-
-enum-told-3 : tie.Need-enum-told-3
-enum-told-3 c = search needs
-
 returns : tie.Need-returns
 unfolding afterOf
 returns c s z =
@@ -70,14 +55,5 @@ returns-5 c s z =
 pub on-after-spec : {M : Type 1} → statement M
 on-after-spec =
     tie.close
-    (tie.spec
-    enum-told
-    on-close-requires
-    enum-told-2
-    on-comma-requires
-    enum-told-3
-    returns
-    returns-2
-    returns-3
-    returns-4
-    returns-5)
+    (tie.spec (λ c. search needs) (λ c κs. search needs) (λ c. search needs) (λ c κs. search needs) (λ c. search needs) returns returns-2
+    returns-3 returns-4 returns-5)

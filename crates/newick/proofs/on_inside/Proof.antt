@@ -28,15 +28,6 @@ rest text st a first len i Quote h = refl
 rest text st a first len i Blank h = refl
 rest text st a first len i Other h = refl
 
-enum-told : tie.Need-enum-told
-enum-told c = search needs
-
-add-t17 : tie.Need-add-t17
-add-t17 c = search needs
-
-on-label-end-requires : tie.Need-on-label-end-requires
-on-label-end-requires c κs = search needs
-
 returns : tie.Need-returns
 unfolding insideOf
 returns c =
@@ -53,4 +44,4 @@ returns-3 c =
 
 pub on-inside-spec : {M : Type 1} → statement M
 on-inside-spec =
-    tie.close (tie.spec enum-told add-t17 on-label-end-requires returns returns-2 returns-3)
+    tie.close (tie.spec (λ c. search needs) (λ c. search needs) (λ c κs. search needs) returns returns-2 returns-3)

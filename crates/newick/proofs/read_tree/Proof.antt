@@ -6,7 +6,7 @@ use native.Mathlib.Omega.{arith}
 use lib.ListN.{length}
 use Rattle.trees.specs.Arrays.{nodeLimit}
 use Rattle.trees.specs.Edition.{inEdition}
-use Rattle.trees.specs.Slots.{Marked}
+use Rattle.trees.specs.Slots.{SlotMarks}
 use Rattle.trees.proofs.FoldLaws.{fold-size}
 use Rattle.trees.proofs.SlotLaws.{marked-start}
 use Rattle.newick.specs.declared.Scan.{Scan}
@@ -18,7 +18,7 @@ use Rattle.newick.proofs.read_tree.Tie as tie
 
 abbrev Inv-loop : tie.InvT-loop
 Inv-loop edition text body table stack₀ left₀ right₀ start₀ size₀ seen₀ st₀ i₀ stack left right start size seen st i =
-    (i ≤ length text) × Simulates (inEdition edition text) st (arrays stack left right start size) i × Marked nodeLimit (inEdition edition text) start size seen
+    (i ≤ length text) × Simulates (inEdition edition text) st (arrays stack left right start size) i × SlotMarks nodeLimit (inEdition edition text) start size seen
 
 abbrev μ-loop : tie.MeasureT-loop
 μ-loop edition text body table stack₀ left₀ right₀ start₀ size₀ seen₀ st₀ i₀ stack left right start size seen st i =
@@ -30,7 +30,7 @@ loop-holds c =
     let text = inEdition (a .edition) (a .text .now) in (
       omega arith,
       subst (λ (s : Scan). Simulates text s _ 0) (sym (c .beginning .ensures)) (starts-so text),
-      subst (λ (m : List ℕ). Marked nodeLimit text _ _ m) (sym (c .before .first-marks .ensures)) (marked-start text nodeLimit),
+      subst (λ (m : List ℕ). SlotMarks nodeLimit text _ _ m) (sym (c .before .first-marks .ensures)) (marked-start text nodeLimit),
     )
 
 step-requires : tie.Need-step-requires Inv-loop μ-loop
@@ -89,26 +89,8 @@ returns-3 c =
 pub read-tree-spec : {M : Type 1} → statement M
 read-tree-spec =
     tie.close
-    (tie.spec
-    Inv-loop
-    μ-loop
-    (λ c κs. tt)
-    (λ c κs. tt)
-    (λ c κs. tt)
-    loop-holds
-    step-requires
-    (λ c. c .match .keys1)
-    (λ c κs. tt)
-    (λ c κs. tt)
-    returns
-    (λ c. c .match .keys2)
+    (tie.spec Inv-loop μ-loop (λ c κs. tt) (λ c κs. tt) (λ c κs. tt) loop-holds step-requires (λ c. c .match .keys1) (λ c κs. tt)
+    (λ c κs. tt) returns (λ c. c .match .keys2)
     (λ c. omega (arith, c .before .before .before .before .before .before .before .before .before .before .before .loop-test .taken, c .before .before .before .before .before .before .before .before .before .before .before .before .before .before .before .before .before .good))
-    (λ c. omega arith)
-    loop-again
-    at-end-requires
-    (λ c. c .match2 .keys1)
-    (λ c. c .match2 .keys2)
-    (λ c κs. tt)
-    returns-2
-    (λ c κs. tt)
+    (λ c. omega arith) loop-again at-end-requires (λ c. c .match2 .keys1) (λ c. c .match2 .keys2) (λ c κs. tt) returns-2 (λ c κs. tt)
     returns-3)

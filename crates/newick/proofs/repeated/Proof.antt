@@ -8,15 +8,9 @@ use borrow.Author.Needs.{needs}
 use Rattle.newick.proofs.repeated.Statement.{statement}
 use Rattle.newick.proofs.repeated.Tie as tie
 
-part-requires : tie.Need-part-requires
-part-requires c κs = search needs
-
-is-among-requires : tie.Need-is-among-requires
-is-among-requires c κs = search needs
-
 returns : tie.Need-returns
 unfolding repeatOf
 returns c = c .is-among .ensures ∙ ap (isAmong _ _ _ _) (ap (inEdition _) (c .before .part .ensures) ∙ sym (fold-part _ _ _ _))
 
 pub repeated-spec : {M : Type 1} → statement M
-repeated-spec = tie.close (tie.spec part-requires is-among-requires returns)
+repeated-spec = tie.close (tie.spec (λ c κs. search needs) (λ c κs. search needs) returns)

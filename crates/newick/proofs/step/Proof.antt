@@ -8,21 +8,9 @@ use borrow.Author.Needs.{needs}
 use Rattle.newick.proofs.step.Statement.{statement}
 use Rattle.newick.proofs.step.Tie as tie
 
-shared-slice-read-kind-in : tie.Need-shared-slice-read-kind-in
-shared-slice-read-kind-in c = search needs
-
-kind-in-requires : tie.Need-kind-in-requires
-kind-in-requires c κs = search needs
-
-enum-told : tie.Need-enum-told
-enum-told c = search needs
-
 on-due-requires : tie.Need-on-due-requires
 on-due-requires c κs =
     ready-as _ (c .before .enum-told .given .1) (c .before .before .before .before .before .before .pre .1 .0)
-
-enum-known-mode : tie.Need-enum-known-mode
-enum-known-mode c = search needs
 
 on-inside-requires : tie.Need-on-inside-requires
 on-inside-requires c κs =
@@ -30,25 +18,16 @@ on-inside-requires c κs =
     let h = ready-as _ (c .before .before .before .before .before .before .before .mode .given .1) (p .0) in
     (h .0, (h .1, p .1))
 
-enum-known-mode-2 : tie.Need-enum-known-mode-2
-enum-known-mode-2 c = search needs
-
 on-quoted-requires : tie.Need-on-quoted-requires
 on-quoted-requires c κs =
     let p = c .before .before .before .before .before .before .before .before .before .before .before .pre .1 in
     let h = ready-as _ (c .before .before .before .before .before .before .mode2 .given .1) (p .0) in
     (h .0, (h .1, p .1))
 
-enum-known-mode-3 : tie.Need-enum-known-mode-3
-enum-known-mode-3 c = search needs
-
 on-after-requires : tie.Need-on-after-requires
 on-after-requires c κs =
     let h = ready-as _ (c .before .before .before .before .mode3 .given .1) (c .before .before .before .before .before .before .before .before .before .pre .1 .0) in
     (h .0, (h .1, h .2))
-
-enum-told-2 : tie.Need-enum-told-2
-enum-told-2 c = search needs
 
 returns : tie.Need-returns
 returns c =
@@ -87,20 +66,6 @@ returns-5 c =
 pub step-spec : {M : Type 1} → statement M
 step-spec =
     tie.close
-    (tie.spec
-    shared-slice-read-kind-in
-    kind-in-requires
-    enum-told
-    on-due-requires
-    enum-known-mode
-    on-inside-requires
-    enum-known-mode-2
-    on-quoted-requires
-    enum-known-mode-3
-    on-after-requires
-    enum-told-2
-    returns
-    returns-2
-    returns-3
-    returns-4
+    (tie.spec (λ c. search needs) (λ c κs. search needs) (λ c. search needs) on-due-requires (λ c. search needs) on-inside-requires
+    (λ c. search needs) on-quoted-requires (λ c. search needs) on-after-requires (λ c. search needs) returns returns-2 returns-3 returns-4
     returns-5)

@@ -19,8 +19,13 @@ loop-holds c =
     (omega arith, entries-none _ _)
 
 loop-again : tie.Need-loop-again Inv-loop μ-loop
-loop-again c =
-    (omega arith, entries-next (c .before .before .before .loop .i) _ _ _ _ (omega (arith, c .before .before .before .before .least .ensures)) (c .byte-entry .ensures) (c .before .before .before .loop .inv .1))
+loop-again c = (
+  omega arith,
+  entries-next (c .before .before .before .loop .i) _ _ _ _ (omega (
+    arith,
+    c .before .before .before .before .least .ensures,
+  )) (c .byte-entry .ensures) (c .before .before .before .loop .inv .1),
+)
 
 returns : tie.Need-returns Inv-loop μ-loop
 returns c =

@@ -1,7 +1,6 @@
 -- One rank stored. Assumes nothing.
 use native.Mathlib.Omega.{arith}
 use mathlib.Core.Path.{_≡_, sym, _∙_, ap}
-use Prim.Native.Nat.{ℕ, _<_}
 use lib.ListN.{length, set}
 use lib.Seq.{set-out}
 use Rattle.trees.proofs.EntryLaws.{fits-byte}

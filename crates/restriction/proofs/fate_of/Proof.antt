@@ -6,15 +6,6 @@ use Rattle.restriction.specs.KeptMachine.{fateOf, joined}
 use Rattle.restriction.proofs.fate_of.Statement.{statement}
 use Rattle.restriction.proofs.fate_of.Tie as tie
 
-element-copy-out-wide : tie.Need-element-copy-out-wide
-element-copy-out-wide c = search needs
-
-wide-requires : tie.Need-wide-requires
-wide-requires c κs = search needs
-
-element-copy-out-if2 : tie.Need-element-copy-out-if2
-element-copy-out-if2 c = search needs
-
 returns : tie.Need-returns
 unfolding fateOf
 returns c =
@@ -28,18 +19,6 @@ returns-2 c =
     let l = c .before .before .before in
     let a = l .before .before .args in
     rw (← l .wide .ensures, eq-eqb (l .wide .result) (a .u) (c .before .before .if1 .taken), c .if2 .left) refl
-
-moved-to-requires : tie.Need-moved-to-requires
-moved-to-requires c κs = search needs
-
-element-copy-out-wide-2 : tie.Need-element-copy-out-wide-2
-element-copy-out-wide-2 c = search needs
-
-wide-requires-2 : tie.Need-wide-requires-2
-wide-requires-2 c κs = search needs
-
-moved-to-requires-2 : tie.Need-moved-to-requires-2
-moved-to-requires-2 c κs = search needs
 
 returns-3 : tie.Need-returns-3
 unfolding fateOf joined
@@ -97,16 +76,5 @@ returns-5 c =
 pub fate-of-spec : {M : Type 1} → statement M
 fate-of-spec =
     tie.close
-    (tie.spec
-    element-copy-out-wide
-    wide-requires
-    element-copy-out-if2
-    returns
-    returns-2
-    moved-to-requires
-    element-copy-out-wide-2
-    wide-requires-2
-    moved-to-requires-2
-    returns-3
-    returns-4
-    returns-5)
+    (tie.spec (λ c. search needs) (λ c κs. search needs) (λ c. search needs) returns returns-2 (λ c κs. search needs) (λ c. search needs)
+    (λ c κs. search needs) (λ c κs. search needs) returns-3 returns-4 returns-5)

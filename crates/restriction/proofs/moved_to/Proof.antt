@@ -6,9 +6,6 @@ use Rattle.restriction.specs.KeptMachine.{movedTo}
 use Rattle.restriction.proofs.moved_to.Statement.{statement}
 use Rattle.restriction.proofs.moved_to.Tie as tie
 
-element-copy-out-result : tie.Need-element-copy-out-result
-element-copy-out-result c = search needs
-
 returns : tie.Need-returns
 unfolding movedTo
 returns c =
@@ -22,4 +19,4 @@ returns-2 c =
     rw (le-ltb (a .child) (a .u) (c .if1 .left)) refl
 
 pub moved-to-spec : {M : Type 1} → statement M
-moved-to-spec = tie.close (tie.spec element-copy-out-result returns returns-2)
+moved-to-spec = tie.close (tie.spec (λ c. search needs) returns returns-2)

@@ -12,18 +12,6 @@ returns c =
     let a = c .before .args in
     rw (eq-eqb (a .n) 0 (c .if1 .taken)) refl
 
-sub-wide : tie.Need-sub-wide
-sub-wide c = search needs
-
-element-copy-out-wide : tie.Need-element-copy-out-wide
-element-copy-out-wide c = search needs
-
-wide-requires : tie.Need-wide-requires
-wide-requires c κs = search needs
-
-add-result : tie.Need-add-result
-add-result c = search needs
-
 returns-2 : tie.Need-returns-2
 unfolding nodesKept
 returns-2 c =
@@ -41,4 +29,4 @@ returns-3 c =
 pub nodes-kept-spec : {M : Type 1} → statement M
 nodes-kept-spec =
     tie.close
-    (tie.spec returns sub-wide element-copy-out-wide wide-requires add-result returns-2 returns-3)
+    (tie.spec returns (λ c. search needs) (λ c. search needs) (λ c κs. search needs) (λ c. search needs) returns-2 returns-3)

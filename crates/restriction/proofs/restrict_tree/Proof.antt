@@ -19,9 +19,6 @@ Inv-loop kept n left₀ right₀ start₀ size₀ moved₀ count₀ u₀ left ri
 abbrev μ-loop : tie.MeasureT-loop
 μ-loop kept n left₀ right₀ start₀ size₀ moved₀ count₀ u₀ left right start size moved count u = n - u
 
-least-requires : tie.Need-least-requires Inv-loop μ-loop
-least-requires c κs = search needs
-
 loop-holds : tie.Need-loop-holds Inv-loop μ-loop
 unfolding passOf
 loop-holds c = (omega arith, refl)
@@ -40,9 +37,6 @@ add-u c =
     let n = c .before .before .before .before .before .before .before .before .before .before .before .before .before .least in
     let k = c .before .before .before .before .before .before .before .before .loop in
     omega (arith, k .inv .0, n .ensures)
-
-loop-less : tie.Need-loop-less Inv-loop μ-loop
-loop-less c = omega arith
 
 loop-again : tie.Need-loop-again Inv-loop μ-loop
 unfolding passOf
@@ -83,14 +77,5 @@ returns c =
 pub restrict-tree-spec : {M : Type 1} → statement M
 restrict-tree-spec =
     tie.close
-    (tie.spec
-    Inv-loop
-    μ-loop
-    least-requires
-    loop-holds
-    keep-node-requires
-    add-u
-    loop-less
-    loop-again
-    nodes-kept-requires
+    (tie.spec Inv-loop μ-loop (λ c κs. search needs) loop-holds keep-node-requires add-u (λ c. omega arith) loop-again nodes-kept-requires
     returns)

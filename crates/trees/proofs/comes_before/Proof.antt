@@ -7,30 +7,6 @@ use Rattle.trees.proofs.DecodeLaws.{both-told}
 use Rattle.trees.proofs.comes_before.Statement.{statement}
 use Rattle.trees.proofs.comes_before.Tie as tie
 
-inner-requires : tie.Need-inner-requires
-inner-requires c κs = search needs
-
-is-quoted-requires : tie.Need-is-quoted-requires
-is-quoted-requires c κs = search needs
-
-inner-requires-2 : tie.Need-inner-requires-2
-inner-requires-2 c κs = search needs
-
-is-quoted-requires-2 : tie.Need-is-quoted-requires-2
-is-quoted-requires-2 c κs = search needs
-
-compare-read-requires : tie.Need-compare-read-requires
-compare-read-requires c κs = search needs
-
-enum-told : tie.Need-enum-told
-enum-told c = search needs
-
-enum-told-2 : tie.Need-enum-told-2
-enum-told-2 c = search needs
-
-enum-told-3 : tie.Need-enum-told-3
-enum-told-3 c = search needs
-
 returns : tie.Need-returns
 returns c =
     let a = c .before .before .before .before .before .before .before .before .before .args in
@@ -58,15 +34,5 @@ returns-3 c =
 pub comes-before-spec : {M : Type 1} → statement M
 comes-before-spec =
     tie.close
-    (tie.spec
-    inner-requires
-    is-quoted-requires
-    inner-requires-2
-    is-quoted-requires-2
-    compare-read-requires
-    enum-told
-    enum-told-2
-    enum-told-3
-    returns
-    returns-2
-    returns-3)
+    (tie.spec (λ c κs. search needs) (λ c κs. search needs) (λ c κs. search needs) (λ c κs. search needs) (λ c κs. search needs)
+    (λ c. search needs) (λ c. search needs) (λ c. search needs) returns returns-2 returns-3)

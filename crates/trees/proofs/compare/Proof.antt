@@ -6,12 +6,9 @@ use Rattle.trees.proofs.DecodeLaws.{read-plain}
 use Rattle.trees.proofs.compare.Statement.{statement}
 use Rattle.trees.proofs.compare.Tie as tie
 
-compare-read-requires : tie.Need-compare-read-requires
-compare-read-requires c κs = search needs
-
 returns : tie.Need-returns
 returns c =
     c .compare-read .ensures ∙ ap₂ orderOf (read-plain _) (read-plain _)
 
 pub compare-spec : {M : Type 1} → statement M
-compare-spec = tie.close (tie.spec compare-read-requires returns)
+compare-spec = tie.close (tie.spec (λ c κs. search needs) returns)

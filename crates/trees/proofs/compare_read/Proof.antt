@@ -26,22 +26,6 @@ returns c =
     let l = c .before .before .loop in
     read-second-ends (a .edition) (a .aquoted) (a .bquoted) (a .a .now) (a .b .now) (l .i) (l .inv .2) (omega arith) (omega arith)
 
-shared-slice-read-decode : tie.Need-shared-slice-read-decode Inv-loop μ-loop
-shared-slice-read-decode c =
-    omega arith
-
-decode-requires : tie.Need-decode-requires Inv-loop μ-loop
-decode-requires c κs =
-    search needs
-
-shared-slice-read-decode-2 : tie.Need-shared-slice-read-decode-2 Inv-loop μ-loop
-shared-slice-read-decode-2 c =
-    omega arith
-
-decode-requires-2 : tie.Need-decode-requires-2 Inv-loop μ-loop
-decode-requires-2 c κs =
-    search needs
-
 returns-2 : tie.Need-returns-2 Inv-loop μ-loop
 returns-2 c =
     let a = c .before .before .before .before .before .before .before .before .before .before .args in
@@ -57,14 +41,6 @@ returns-3 c =
     let x = c .before .before .before .before .decode .ensures in
     let y = c .before .before .decode2 .ensures in
     read-greater (a .edition) (a .aquoted) (a .bquoted) (a .a .now) (a .b .now) (l .i) (l .inv .2) (omega arith) (omega arith) (omega arith)
-
-add-i : tie.Need-add-i Inv-loop μ-loop
-add-i c =
-    omega arith
-
-loop-less : tie.Need-loop-less Inv-loop μ-loop
-loop-less c =
-    omega arith
 
 loop-again : tie.Need-loop-again Inv-loop μ-loop
 loop-again c =
@@ -89,19 +65,5 @@ returns-5 c =
 pub compare-read-spec : {M : Type 1} → statement M
 compare-read-spec =
     tie.close
-    (tie.spec
-    Inv-loop
-    μ-loop
-    loop-holds
-    returns
-    shared-slice-read-decode
-    decode-requires
-    shared-slice-read-decode-2
-    decode-requires-2
-    returns-2
-    returns-3
-    add-i
-    loop-less
-    loop-again
-    returns-4
-    returns-5)
+    (tie.spec Inv-loop μ-loop loop-holds returns (λ c. omega arith) (λ c κs. search needs) (λ c. omega arith) (λ c κs. search needs)
+    returns-2 returns-3 (λ c. omega arith) (λ c. omega arith) loop-again returns-4 returns-5)

@@ -10,13 +10,10 @@ slice-aggregate-result : tie.Need-slice-aggregate-result
 slice-aggregate-result c =
     sym (length-take-le _ _ (omega arith))
 
-returns : tie.Need-returns
-returns c = search needs
-
 returns-2 : tie.Need-returns-2
 returns-2 c =
     let a = c .before .args in
     sym (take-all (a .len) (a .bytes .now) (omega arith))
 
 pub first-bytes-spec : {M : Type 1} → statement M
-first-bytes-spec = tie.close (tie.spec slice-aggregate-result returns returns-2)
+first-bytes-spec = tie.close (tie.spec slice-aggregate-result (λ c. search needs) returns-2)

@@ -5,9 +5,6 @@ use Rattle.trees.proofs.DecodeLaws.{form-past, plain-size, plain-blank,
 use Rattle.trees.proofs.form_byte.Statement.{statement}
 use Rattle.trees.proofs.form_byte.Tie as tie
 
-quoted-byte-requires : tie.Need-quoted-byte-requires
-quoted-byte-requires c κs = search needs
-
 returns : tie.Need-returns
 returns c =
     rw (c .before .if1 .taken) (c .quoted-byte .ensures)
@@ -16,12 +13,6 @@ returns-2 : tie.Need-returns-2
 returns-2 c =
     let a = c .before .before .before .args in
     rw (c .before .if1 .left) (form-past (a .label .now) (a .i) _ (omega (arith, plain-size (a .label .now))))
-
-shared-slice-read-if3 : tie.Need-shared-slice-read-if3
-shared-slice-read-if3 c = search needs
-
-shared-slice-read-result : tie.Need-shared-slice-read-result
-shared-slice-read-result c = search needs
 
 returns-3 : tie.Need-returns-3
 returns-3 c =
@@ -36,11 +27,4 @@ returns-4 c =
 pub form-byte-spec : {M : Type 1} → statement M
 form-byte-spec =
     tie.close
-    (tie.spec
-    quoted-byte-requires
-    returns
-    returns-2
-    shared-slice-read-if3
-    shared-slice-read-result
-    returns-3
-    returns-4)
+    (tie.spec (λ c κs. search needs) returns returns-2 (λ c. search needs) (λ c. search needs) returns-3 returns-4)

@@ -5,20 +5,11 @@ use Rattle.trees.proofs.DecodeLaws.{quoted-size, plain-size}
 use Rattle.trees.proofs.form_size.Statement.{statement}
 use Rattle.trees.proofs.form_size.Tie as tie
 
-least-requires : tie.Need-least-requires
-least-requires c κs = search needs
-
-add-result : tie.Need-add-result
-add-result c = search needs
-
 returns : tie.Need-returns
 returns c =
     let x = c .before .before .before .args .label .now in
     let e = c .least .ensures in
     rw (c .before .if1 .taken) (omega (arith, quoted-size x))
-
-least-requires-2 : tie.Need-least-requires-2
-least-requires-2 c κs = search needs
 
 returns-2 : tie.Need-returns-2
 returns-2 c =
@@ -27,4 +18,4 @@ returns-2 c =
     rw (c .before .if1 .left) (omega (arith, plain-size x))
 
 pub form-size-spec : {M : Type 1} → statement M
-form-size-spec = tie.close (tie.spec least-requires add-result returns least-requires-2 returns-2)
+form-size-spec = tie.close (tie.spec (λ c κs. search needs) (λ c. search needs) returns (λ c κs. search needs) returns-2)

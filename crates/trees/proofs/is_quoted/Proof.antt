@@ -8,12 +8,9 @@ returns : tie.Need-returns
 returns c =
     first-none (c .before .args .token .now) (c .if1 .taken)
 
-shared-slice-read-result : tie.Need-shared-slice-read-result
-shared-slice-read-result c = search needs
-
 returns-2 : tie.Need-returns-2
 returns-2 c =
     first-byte (c .before .before .args .token .now) (c .before .if1 .left)
 
 pub is-quoted-spec : {M : Type 1} → statement M
-is-quoted-spec = tie.close (tie.spec returns shared-slice-read-result returns-2)
+is-quoted-spec = tie.close (tie.spec returns (λ c. search needs) returns-2)

@@ -6,9 +6,6 @@ use borrow.Author.Needs.{needs}
 use Rattle.trees.proofs.kind_in.Statement.{statement}
 use Rattle.trees.proofs.kind_in.Tie as tie
 
-element-copy-out-class : tie.Need-element-copy-out-class
-element-copy-out-class c = search needs
-
 returns : tie.Need-returns
 unfolding kindOfCode
 returns c =
@@ -61,13 +58,4 @@ returns-8 c =
 pub kind-in-spec : {M : Type 1} → statement M
 kind-in-spec =
     tie.close
-    (tie.spec
-    element-copy-out-class
-    returns
-    returns-2
-    returns-3
-    returns-4
-    returns-5
-    returns-6
-    returns-7
-    returns-8)
+    (tie.spec (λ c. search needs) returns returns-2 returns-3 returns-4 returns-5 returns-6 returns-7 returns-8)

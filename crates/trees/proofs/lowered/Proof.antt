@@ -14,11 +14,8 @@ returns c = fold-other Two _ (inl (omega arith))
 returns-2 : tie.Need-returns-2
 returns-2 c = fold-other Two _ (inr (omega arith))
 
-add-result : tie.Need-add-result
-add-result c = search needs
-
 returns-3 : tie.Need-returns-3
 returns-3 c = fold-capital Two _ refl (omega arith) (omega arith)
 
 pub lowered-spec : {M : Type 1} → statement M
-lowered-spec = tie.close (tie.spec returns returns-2 add-result returns-3)
+lowered-spec = tie.close (tie.spec returns returns-2 (λ c. search needs) returns-3)

@@ -10,38 +10,17 @@ use borrow.Author.Needs.{needs}
 use Rattle.trees.proofs.part.Statement.{statement}
 use Rattle.trees.proofs.part.Tie as tie
 
-slice-aggregate-result : tie.Need-slice-aggregate-result
-slice-aggregate-result c = search needs
-
 returns : tie.Need-returns
 unfolding partOf
 returns c =
     let a = c .before .before .args in
     rw (lt-leb (a .start + a .size) (length (a .text .now)) (omega arith)) refl
 
-sub-if2 : tie.Need-sub-if2
-sub-if2 c = search needs
-
-slice-aggregate-result-2 : tie.Need-slice-aggregate-result-2
-slice-aggregate-result-2 c = search needs
-
 returns-2 : tie.Need-returns-2
 unfolding partOf
 returns-2 c =
     let a = c .before .before .before .args in
     rw (lt-leb (a .start + a .size) (length (a .text .now)) (omega arith)) refl
-
-add-result : tie.Need-add-result
-add-result c = search needs
-
-sub-result : tie.Need-sub-result
-sub-result c = search needs
-
-part-result-start : tie.Need-part-result-start
-part-result-start c = search needs
-
-part-result-end : tie.Need-part-result-end
-part-result-end c = search needs
 
 returns-3 : tie.Need-returns-3
 unfolding partOf
@@ -52,14 +31,5 @@ returns-3 c =
 pub part-spec : {M : Type 1} → statement M
 part-spec =
     tie.close
-    (tie.spec
-    slice-aggregate-result
-    returns
-    sub-if2
-    slice-aggregate-result-2
-    returns-2
-    add-result
-    sub-result
-    part-result-start
-    part-result-end
-    returns-3)
+    (tie.spec (λ c. search needs) returns (λ c. search needs) (λ c. search needs) returns-2 (λ c. search needs) (λ c. search needs)
+    (λ c. search needs) (λ c. search needs) returns-3)

@@ -9,22 +9,10 @@ returns : tie.Need-returns
 returns c =
     quote-first _ _ (c .if1 .taken)
 
-sub-if2 : tie.Need-sub-if2
-sub-if2 c = search needs
-
-sub-result : tie.Need-sub-result
-sub-result c = search needs
-
-shared-slice-read-result : tie.Need-shared-slice-read-result
-shared-slice-read-result c = search needs
-
 returns-2 : tie.Need-returns-2
 returns-2 c =
     let a = c .before .before .before .args in
     quote-inside (a .label .now) (a .i) (omega arith) (omega arith)
-
-sub-if3 : tie.Need-sub-if3
-sub-if3 c = search needs
 
 returns-3 : tie.Need-returns-3
 returns-3 c =
@@ -39,12 +27,4 @@ returns-4 c =
 pub quoted-byte-spec : {M : Type 1} → statement M
 quoted-byte-spec =
     tie.close
-    (tie.spec
-    returns
-    sub-if2
-    sub-result
-    shared-slice-read-result
-    returns-2
-    sub-if3
-    returns-3
-    returns-4)
+    (tie.spec returns (λ c. search needs) (λ c. search needs) (λ c. search needs) returns-2 (λ c. search needs) returns-3 returns-4)

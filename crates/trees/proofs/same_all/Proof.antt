@@ -21,31 +21,11 @@ loop-holds : tie.Need-loop-holds Inv-loop μ-loop
 loop-holds c =
     (omega arith, refl)
 
-shared-slice-read-same-byte : tie.Need-shared-slice-read-same-byte Inv-loop μ-loop
-shared-slice-read-same-byte c =
-    omega arith
-
-shared-slice-read-same-byte-2 : tie.Need-shared-slice-read-same-byte-2 Inv-loop μ-loop
-shared-slice-read-same-byte-2 c =
-    omega arith
-
-same-byte-requires : tie.Need-same-byte-requires Inv-loop μ-loop
-same-byte-requires c κs =
-    search needs
-
 returns : tie.Need-returns Inv-loop μ-loop
 returns c =
     let a = c .before .before .before .before .before .before .before .before .args in
     let told = sym (c .before .same-byte .ensures) ∙ not-true _ (c .if1 .taken) in
     sym (read-differ (a .edition) (a .aquoted) (a .bquoted) (a .a .now) (a .b .now) _ (omega arith) (omega arith) (eqb-false _ _ told))
-
-add-i : tie.Need-add-i Inv-loop μ-loop
-add-i c =
-    omega arith
-
-loop-less : tie.Need-loop-less Inv-loop μ-loop
-loop-less c =
-    omega arith
 
 loop-again : tie.Need-loop-again Inv-loop μ-loop
 loop-again c =
@@ -63,15 +43,5 @@ returns-2 c =
 pub same-all-spec : {M : Type 1} → statement M
 same-all-spec =
     tie.close
-    (tie.spec
-    Inv-loop
-    μ-loop
-    loop-holds
-    shared-slice-read-same-byte
-    shared-slice-read-same-byte-2
-    same-byte-requires
-    returns
-    add-i
-    loop-less
-    loop-again
-    returns-2)
+    (tie.spec Inv-loop μ-loop loop-holds (λ c. omega arith) (λ c. omega arith) (λ c κs. search needs) returns (λ c. omega arith)
+    (λ c. omega arith) loop-again returns-2)

@@ -6,21 +6,6 @@ use Rattle.trees.proofs.DecodeLaws.{both-told}
 use Rattle.trees.proofs.same_label.Statement.{statement}
 use Rattle.trees.proofs.same_label.Tie as tie
 
-inner-requires : tie.Need-inner-requires
-inner-requires c κs = search needs
-
-is-quoted-requires : tie.Need-is-quoted-requires
-is-quoted-requires c κs = search needs
-
-inner-requires-2 : tie.Need-inner-requires-2
-inner-requires-2 c κs = search needs
-
-is-quoted-requires-2 : tie.Need-is-quoted-requires-2
-is-quoted-requires-2 c κs = search needs
-
-same-read-requires : tie.Need-same-read-requires
-same-read-requires c κs = search needs
-
 returns : tie.Need-returns
 returns c =
     let a = c .before .before .before .before .before .before .before .args in
@@ -31,10 +16,4 @@ returns c =
 pub same-label-spec : {M : Type 1} → statement M
 same-label-spec =
     tie.close
-    (tie.spec
-    inner-requires
-    is-quoted-requires
-    inner-requires-2
-    is-quoted-requires-2
-    same-read-requires
-    returns)
+    (tie.spec (λ c κs. search needs) (λ c κs. search needs) (λ c κs. search needs) (λ c κs. search needs) (λ c κs. search needs) returns)

@@ -19,41 +19,9 @@ abbrev μ-loop : tie.MeasureT-loop
 μ-loop x quoted len bytes₀ i₀ bytes i =
     len - i
 
-slice-aggregate-first-bytes : tie.Need-slice-aggregate-first-bytes Inv-loop μ-loop
-slice-aggregate-first-bytes c =
-    search needs
-
-first-bytes-requires : tie.Need-first-bytes-requires Inv-loop μ-loop
-first-bytes-requires c κs =
-    search needs
-
-holds-underscore-requires : tie.Need-holds-underscore-requires Inv-loop μ-loop
-holds-underscore-requires c κs =
-    search needs
-
-form-size-requires : tie.Need-form-size-requires Inv-loop μ-loop
-form-size-requires c κs =
-    search needs
-
 loop-holds : tie.Need-loop-holds Inv-loop μ-loop
 loop-holds c =
     (omega arith, c .form-size .ensures, refl)
-
-form-byte-requires : tie.Need-form-byte-requires Inv-loop μ-loop
-form-byte-requires c κs =
-    search needs
-
-array-write-bytes : tie.Need-array-write-bytes Inv-loop μ-loop
-array-write-bytes c =
-    omega arith
-
-add-i : tie.Need-add-i Inv-loop μ-loop
-add-i c =
-    omega arith
-
-loop-less : tie.Need-loop-less Inv-loop μ-loop
-loop-less c =
-    omega arith
 
 loop-again : tie.Need-loop-again Inv-loop μ-loop
 loop-again c =
@@ -74,17 +42,5 @@ returns c =
 pub shown-spec : {M : Type 1} → statement M
 shown-spec =
     tie.close
-    (tie.spec
-    Inv-loop
-    μ-loop
-    slice-aggregate-first-bytes
-    first-bytes-requires
-    holds-underscore-requires
-    form-size-requires
-    loop-holds
-    form-byte-requires
-    array-write-bytes
-    add-i
-    loop-less
-    loop-again
-    returns)
+    (tie.spec Inv-loop μ-loop (λ c. search needs) (λ c κs. search needs) (λ c κs. search needs) (λ c κs. search needs) loop-holds
+    (λ c κs. search needs) (λ c. omega arith) (λ c. omega arith) (λ c. omega arith) loop-again returns)

@@ -6,12 +6,9 @@ use Rattle.trees.proofs.DecodeLaws.{spelling-size}
 use Rattle.trees.proofs.spelled_size.Statement.{statement}
 use Rattle.trees.proofs.spelled_size.Tie as tie
 
-inner-requires : tie.Need-inner-requires
-inner-requires c κs = search needs
-
 returns : tie.Need-returns
 returns c =
     ap length (c .inner .ensures) ∙ spelling-size _
 
 pub spelled-size-spec : {M : Type 1} → statement M
-spelled-size-spec = tie.close (tie.spec inner-requires returns)
+spelled-size-spec = tie.close (tie.spec (λ c κs. search needs) returns)

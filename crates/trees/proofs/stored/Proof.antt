@@ -19,41 +19,9 @@ abbrev μ-loop : tie.MeasureT-loop
 μ-loop edition token x quoted len bytes₀ i₀ bytes i =
     len - i
 
-inner-requires : tie.Need-inner-requires Inv-loop μ-loop
-inner-requires c κs =
-    search needs
-
-is-quoted-requires : tie.Need-is-quoted-requires Inv-loop μ-loop
-is-quoted-requires c κs =
-    search needs
-
-least-requires : tie.Need-least-requires Inv-loop μ-loop
-least-requires c κs =
-    search needs
-
 loop-holds : tie.Need-loop-holds Inv-loop μ-loop
 loop-holds c =
     (omega arith, c .least .ensures, refl)
-
-shared-slice-read-decode : tie.Need-shared-slice-read-decode Inv-loop μ-loop
-shared-slice-read-decode c =
-    omega arith
-
-decode-requires : tie.Need-decode-requires Inv-loop μ-loop
-decode-requires c κs =
-    search needs
-
-array-write-bytes : tie.Need-array-write-bytes Inv-loop μ-loop
-array-write-bytes c =
-    omega arith
-
-add-i : tie.Need-add-i Inv-loop μ-loop
-add-i c =
-    omega arith
-
-loop-less : tie.Need-loop-less Inv-loop μ-loop
-loop-less c =
-    omega arith
 
 loop-again : tie.Need-loop-again Inv-loop μ-loop
 loop-again c =
@@ -79,17 +47,5 @@ returns c =
 pub stored-spec : {M : Type 1} → statement M
 stored-spec =
     tie.close
-    (tie.spec
-    Inv-loop
-    μ-loop
-    inner-requires
-    is-quoted-requires
-    least-requires
-    loop-holds
-    shared-slice-read-decode
-    decode-requires
-    array-write-bytes
-    add-i
-    loop-less
-    loop-again
-    returns)
+    (tie.spec Inv-loop μ-loop (λ c κs. search needs) (λ c κs. search needs) (λ c κs. search needs) loop-holds (λ c. omega arith)
+    (λ c κs. search needs) (λ c. omega arith) (λ c. omega arith) (λ c. omega arith) loop-again returns)

@@ -8,12 +8,6 @@ use Rattle.trees.proofs.FoldLaws.{fold-part}
 use Rattle.trees.proofs.stored_leaf.Statement.{statement}
 use Rattle.trees.proofs.stored_leaf.Tie as tie
 
-leaf-label-requires : tie.Need-leaf-label-requires
-leaf-label-requires c κs = search needs
-
-stored-requires : tie.Need-stored-requires
-stored-requires c κs = search needs
-
 returns : tie.Need-returns
 returns c =
     let a = c .before .before .before .before .before .args in
@@ -21,4 +15,4 @@ returns c =
     ∙ ap (λ (x : Token). storedOf (spelling x)) (ap (inEdition (a .edition)) (c .before .leaf-label .ensures) ∙ sym (fold-part (a .edition) _ _ (a .text .now)))
 
 pub stored-leaf-spec : {M : Type 1} → statement M
-stored-leaf-spec = tie.close (tie.spec leaf-label-requires stored-requires returns)
+stored-leaf-spec = tie.close (tie.spec (λ c κs. search needs) (λ c κs. search needs) returns)

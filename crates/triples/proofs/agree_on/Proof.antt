@@ -9,34 +9,10 @@ use borrow.Author.Needs.{needs}
 use Rattle.triples.proofs.agree_on.Statement.{statement}
 use Rattle.triples.proofs.agree_on.Tie as tie
 
-read-tree-requires : tie.Need-read-tree-requires
-read-tree-requires c κs = search needs
-
-enum-told : tie.Need-enum-told
-enum-told c = search needs
-
-enum-told-2 : tie.Need-enum-told-2
-enum-told-2 c = search needs
-
-tree-refusal-requires : tie.Need-tree-refusal-requires
-tree-refusal-requires c κs = search needs
-
 returns : tie.Need-returns
 returns c =
     c .tree-refusal .ensures ∙ first-refused _ _ _ (c .before .before .before .read-tree .result) _
     (c .before .before .before .read-tree .ensures ∙ sym (answer-in _ S _)) (c .before .enum-told2 .given .1)
-
-read-tree-requires-2 : tie.Need-read-tree-requires-2
-read-tree-requires-2 c κs = search needs
-
-enum-told-3 : tie.Need-enum-told-3
-enum-told-3 c = search needs
-
-enum-told-4 : tie.Need-enum-told-4
-enum-told-4 c = search needs
-
-tree-refusal-requires-2 : tie.Need-tree-refusal-requires-2
-tree-refusal-requires-2 c κs = search needs
 
 returns-2 : tie.Need-returns-2
 returns-2 c =
@@ -45,18 +21,6 @@ returns-2 c =
     let s = tree-was S _ (c6 .read-tree .result) _ (c6 .read-tree .ensures ∙ sym (answer-in _ S _)) (c4 .enum-told .given .1) in
     c .tree-refusal2 .ensures ∙ second-refused _ _ _ _ s (c .before .before .before .read-tree2 .result) _
     (c .before .before .before .read-tree2 .ensures ∙ sym (answer-in _ T _)) (c .before .enum-told4 .given .1)
-
-read-list-requires : tie.Need-read-list-requires
-read-list-requires c κs = search needs
-
-enum-told-5 : tie.Need-enum-told-5
-enum-told-5 c = search needs
-
-enum-told-6 : tie.Need-enum-told-6
-enum-told-6 c = search needs
-
-list-refusal-requires : tie.Need-list-refusal-requires
-list-refusal-requires c κs = search needs
 
 returns-3 : tie.Need-returns-3
 returns-3 c =
@@ -97,21 +61,6 @@ returns-4 c =
 pub agree-on-spec : {M : Type 1} → statement M
 agree-on-spec =
     tie.close
-    (tie.spec
-    read-tree-requires
-    enum-told
-    enum-told-2
-    tree-refusal-requires
-    returns
-    read-tree-requires-2
-    enum-told-3
-    enum-told-4
-    tree-refusal-requires-2
-    returns-2
-    read-list-requires
-    enum-told-5
-    enum-told-6
-    list-refusal-requires
-    returns-3
-    compared-requires
-    returns-4)
+    (tie.spec (λ c κs. search needs) (λ c. search needs) (λ c. search needs) (λ c κs. search needs) returns (λ c κs. search needs)
+    (λ c. search needs) (λ c. search needs) (λ c κs. search needs) returns-2 (λ c κs. search needs) (λ c. search needs)
+    (λ c. search needs) (λ c κs. search needs) returns-3 compared-requires returns-4)

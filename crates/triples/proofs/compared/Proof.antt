@@ -18,36 +18,12 @@ use Rattle.triples.proofs.compared.Tie as tie
 not-agreed : (a : Agreement) → OneOf (1 ∷ 2 ∷ []) (tagOf the-type a) → a ≡ Agreed → ⊥
 not-agreed a h e = left-over (1 ∷ 2 ∷ []) 0 refl (subst (λ (z : Agreement). OneOf (1 ∷ 2 ∷ []) (tagOf the-type z)) e h)
 
-leaf-numbers-requires : tie.Need-leaf-numbers-requires
-leaf-numbers-requires c κs = search needs
-
-leaf-numbers-requires-2 : tie.Need-leaf-numbers-requires-2
-leaf-numbers-requires-2 c κs = search needs
-
-lacking-requires : tie.Need-lacking-requires
-lacking-requires c κs = search needs
-
-enum-told : tie.Need-enum-told
-enum-told c = search needs
-
 returns : tie.Need-returns
 returns c =
     let c5 = c .before .before .before .before .before in
     let c6 = c5 .before in
     λ s t xs g. lacked s t xs _ _ _ _ _ _ g _ _ (c6 .leaf-numbers .ensures) (c5 .leaf-numbers2 .ensures) _
     (c .before .lacking .ensures) (not-agreed _ (c .match .keys2))
-
-label-order-requires : tie.Need-label-order-requires
-label-order-requires c κs = search needs
-
-ranked-requires : tie.Need-ranked-requires
-ranked-requires c κs = search needs
-
-ranked-requires-2 : tie.Need-ranked-requires-2
-ranked-requires-2 c κs = search needs
-
-first-clash-requires : tie.Need-first-clash-requires
-first-clash-requires c κs = search needs
 
 told-requires : tie.Need-told-requires
 told-requires c κs =
@@ -76,15 +52,5 @@ returns-2 c =
 pub compared-spec : {M : Type 1} → statement M
 compared-spec =
     tie.close
-    (tie.spec
-    leaf-numbers-requires
-    leaf-numbers-requires-2
-    lacking-requires
-    enum-told
-    returns
-    label-order-requires
-    ranked-requires
-    ranked-requires-2
-    first-clash-requires
-    told-requires
-    returns-2)
+    (tie.spec (λ c κs. search needs) (λ c κs. search needs) (λ c κs. search needs) (λ c. search needs) returns (λ c κs. search needs)
+    (λ c κs. search needs) (λ c κs. search needs) (λ c κs. search needs) told-requires returns-2)

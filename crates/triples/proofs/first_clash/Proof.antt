@@ -31,46 +31,10 @@ abbrev μ-loop : tie.MeasureT-loop
 μ-loop left1 nodes1 leaf1 left2 nodes2 leaf2 count most end1 end2 low1 low2 i₀ i =
     most - i
 
-least-requires : tie.Need-least-requires Inv-loop μ-loop
-least-requires c κs =
-    search needs
-
-least-requires-2 : tie.Need-least-requires-2 Inv-loop μ-loop
-least-requires-2 c κs =
-    search needs
-
-least-requires-3 : tie.Need-least-requires-3 Inv-loop μ-loop
-least-requires-3 c κs =
-    search needs
-
-lows-requires : tie.Need-lows-requires Inv-loop μ-loop
-lows-requires c κs =
-    omega arith
-
-lows-requires-2 : tie.Need-lows-requires-2 Inv-loop μ-loop
-lows-requires-2 c κs =
-    omega arith
-
 loop-holds : tie.Need-loop-holds Inv-loop μ-loop
 unfolding firstOf
 loop-holds c =
     (omega arith, λ s t xs h l p q. refl)
-
-lca-row-requires : tie.Need-lca-row-requires Inv-loop μ-loop
-lca-row-requires c κs =
-    omega arith
-
-lca-row-requires-2 : tie.Need-lca-row-requires-2 Inv-loop μ-loop
-lca-row-requires-2 c κs =
-    omega arith
-
-second-requires : tie.Need-second-requires Inv-loop μ-loop
-second-requires c κs =
-    omega arith
-
-third-requires : tie.Need-third-requires Inv-loop μ-loop
-third-requires c κs =
-    omega arith
 
 returns : tie.Need-returns Inv-loop μ-loop
 returns c =
@@ -111,14 +75,6 @@ returns c =
           found-is s t xs n (sym l) d i j (c .third .result) first (c11 .loop-test .taken) second (c3 .if1 .taken)
           (c .third .ensures (clashAt s t xs i) i later tells) (ranks .found (c11 .loop-test .taken) .2),
     )
-
-add-i : tie.Need-add-i Inv-loop μ-loop
-add-i c =
-    omega arith
-
-loop-less : tie.Need-loop-less Inv-loop μ-loop
-loop-less c =
-    omega arith
 
 loop-again : tie.Need-loop-again Inv-loop μ-loop
 loop-again c =
@@ -162,21 +118,6 @@ returns-2 c =
 pub first-clash-spec : {M : Type 1} → statement M
 first-clash-spec =
     tie.close
-    (tie.spec
-    Inv-loop
-    μ-loop
-    least-requires
-    least-requires-2
-    least-requires-3
-    lows-requires
-    lows-requires-2
-    loop-holds
-    lca-row-requires
-    lca-row-requires-2
-    second-requires
-    third-requires
-    returns
-    add-i
-    loop-less
-    loop-again
-    returns-2)
+    (tie.spec Inv-loop μ-loop (λ c κs. search needs) (λ c κs. search needs) (λ c κs. search needs) (λ c κs. omega arith)
+    (λ c κs. omega arith) loop-holds (λ c κs. omega arith) (λ c κs. omega arith) (λ c κs. omega arith) (λ c κs. omega arith) returns
+    (λ c. omega arith) (λ c. omega arith) loop-again returns-2)

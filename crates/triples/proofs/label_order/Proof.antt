@@ -21,10 +21,6 @@ loop-holds : tie.Need-loop-holds Inv-loop μ-loop
 loop-holds c =
     (omega arith, simp length-replicate, zeros-low 80 80 (omega arith), λ v h. absurd (omega arith))
 
-rank-requires : tie.Need-rank-requires Inv-loop μ-loop
-rank-requires c κs =
-    omega arith
-
 mul-order : tie.Need-mul-order Inv-loop μ-loop
 mul-order c =
     let c4 = c .before .before .before .before in
@@ -46,14 +42,6 @@ array-write-order c =
       rank-below (inEdition (c8 .args .edition) (c8 .args .list .now)) (c8 .args .places .start) (c8 .args .places .size)
           (c8 .args .places .count) (c4 .loop .k) (c .before .before .before .loop-test .taken),
     )
-
-add-k : tie.Need-add-k Inv-loop μ-loop
-add-k c =
-    omega arith
-
-loop-less : tie.Need-loop-less Inv-loop μ-loop
-loop-less c =
-    omega arith
 
 loop-again : tie.Need-loop-again Inv-loop μ-loop
 loop-again c =
@@ -85,14 +73,5 @@ returns c =
 pub label-order-spec : {M : Type 1} → statement M
 label-order-spec =
     tie.close
-    (tie.spec
-    Inv-loop
-    μ-loop
-    loop-holds
-    rank-requires
-    mul-order
-    array-write-order
-    add-k
-    loop-less
-    loop-again
-    returns)
+    (tie.spec Inv-loop μ-loop loop-holds (λ c κs. omega arith) mul-order array-write-order (λ c. omega arith) (λ c. omega arith)
+    loop-again returns)

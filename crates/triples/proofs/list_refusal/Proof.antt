@@ -5,15 +5,6 @@ use borrow.Author.Needs.{needs}
 use Rattle.triples.proofs.list_refusal.Statement.{statement}
 use Rattle.triples.proofs.list_refusal.Tie as tie
 
-enum-told : tie.Need-enum-told
-enum-told c = search needs
-
-unread-requires : tie.Need-unread-requires
-unread-requires c κs = search needs
-
-enum-known-answer : tie.Need-enum-known-answer
-enum-known-answer c = search needs
-
 returns : tie.Need-returns
 unfolding listRefusal
 returns c =
@@ -26,4 +17,4 @@ returns-2 c =
 
 pub list-refusal-spec : {M : Type 1} → statement M
 list-refusal-spec =
-    tie.close (tie.spec enum-told unread-requires enum-known-answer returns returns-2)
+    tie.close (tie.spec (λ c. search needs) (λ c κs. search needs) (λ c. search needs) returns returns-2)

@@ -21,21 +21,9 @@ unfolding lessCount
 loop-holds c =
     (omega arith, refl)
 
-before-requires : tie.Need-before-requires Inv-loop μ-loop
-before-requires c κs =
-    omega arith
-
 add-r : tie.Need-add-r Inv-loop μ-loop
 add-r c =
     omega (arith, count-fits _ _ (c .before .before .loop .j) _ _ (c .before .before .loop .inv .1) (c .before2 .ensures))
-
-add-j : tie.Need-add-j Inv-loop μ-loop
-add-j c =
-    omega arith
-
-loop-less : tie.Need-loop-less Inv-loop μ-loop
-loop-less c =
-    omega arith
 
 loop-again : tie.Need-loop-again Inv-loop μ-loop
 loop-again c =
@@ -49,4 +37,4 @@ returns c =
 pub rank-spec : {M : Type 1} → statement M
 rank-spec =
     tie.close
-    (tie.spec Inv-loop μ-loop loop-holds before-requires add-r add-j loop-less loop-again returns)
+    (tie.spec Inv-loop μ-loop loop-holds (λ c κs. omega arith) add-r (λ c. omega arith) (λ c. omega arith) loop-again returns)

@@ -19,14 +19,6 @@ loop-holds : tie.Need-loop-holds Inv-loop μ-loop
 loop-holds c =
     (omega arith, simp length-replicate, λ r h. absurd (omega arith))
 
-mul-k : tie.Need-mul-k Inv-loop μ-loop
-mul-k c =
-    omega arith
-
-element-copy-out-k : tie.Need-element-copy-out-k Inv-loop μ-loop
-element-copy-out-k c =
-    omega arith
-
 mul-by-rank : tie.Need-mul-by-rank Inv-loop μ-loop
 mul-by-rank c =
     omega (arith, c .before .before .before .pre .1 (c .before .before .loop .i))
@@ -34,22 +26,6 @@ mul-by-rank c =
 element-copy-out-by-rank : tie.Need-element-copy-out-by-rank Inv-loop μ-loop
 element-copy-out-by-rank c =
     omega (arith, c .before .before .before .pre .1 (c .before .before .loop .i))
-
-mul-by-rank-2 : tie.Need-mul-by-rank-2 Inv-loop μ-loop
-mul-by-rank-2 c =
-    omega arith
-
-array-write-by-rank : tie.Need-array-write-by-rank Inv-loop μ-loop
-array-write-by-rank c =
-    omega arith
-
-add-i : tie.Need-add-i Inv-loop μ-loop
-add-i c =
-    omega arith
-
-loop-less : tie.Need-loop-less Inv-loop μ-loop
-loop-less c =
-    omega arith
 
 loop-again : tie.Need-loop-again Inv-loop μ-loop
 loop-again c =
@@ -70,17 +46,5 @@ returns c =
 pub ranked-spec : {M : Type 1} → statement M
 ranked-spec =
     tie.close
-    (tie.spec
-    Inv-loop
-    μ-loop
-    loop-holds
-    mul-k
-    element-copy-out-k
-    mul-by-rank
-    element-copy-out-by-rank
-    mul-by-rank-2
-    array-write-by-rank
-    add-i
-    loop-less
-    loop-again
-    returns)
+    (tie.spec Inv-loop μ-loop loop-holds (λ c. omega arith) (λ c. omega arith) mul-by-rank element-copy-out-by-rank (λ c. omega arith)
+    (λ c. omega arith) (λ c. omega arith) (λ c. omega arith) loop-again returns)

@@ -6,12 +6,6 @@ use borrow.Author.Needs.{needs}
 use Rattle.writer.proofs.first_at.Statement.{statement}
 use Rattle.writer.proofs.first_at.Tie as tie
 
-byte-at-requires : tie.Need-byte-at-requires
-byte-at-requires c κs = search needs
-
-wide-requires : tie.Need-wide-requires
-wide-requires c κs = search needs
-
 returns : tie.Need-returns
 returns c =
     let l = c .before .before in
@@ -19,15 +13,6 @@ returns c =
     let e = sym (c .before .wide .ensures) ∙ c .if1 .taken in
     e ∙ first-leaf (inEdition (a .edition) (a .text .now)) (a .left .now) (a .right .now) (a .start .now) (a .size .now) (a .least .now) (a .u)
     (sym (l .byte-at .ensures) ∙ e)
-
-byte-at-requires-2 : tie.Need-byte-at-requires-2
-byte-at-requires-2 c κs = search needs
-
-goes-first-requires : tie.Need-goes-first-requires
-goes-first-requires c κs = search needs
-
-pick-requires : tie.Need-pick-requires
-pick-requires c κs = search needs
 
 returns-2 : tie.Need-returns-2
 returns-2 c =
@@ -43,11 +28,5 @@ returns-2 c =
 pub first-at-spec : {M : Type 1} → statement M
 first-at-spec =
     tie.close
-    (tie.spec
-    byte-at-requires
-    wide-requires
-    returns
-    byte-at-requires-2
-    goes-first-requires
-    pick-requires
+    (tie.spec (λ c κs. search needs) (λ c κs. search needs) returns (λ c κs. search needs) (λ c κs. search needs) (λ c κs. search needs)
     returns-2)

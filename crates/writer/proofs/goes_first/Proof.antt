@@ -7,27 +7,6 @@ use borrow.Author.Needs.{needs}
 use Rattle.writer.proofs.goes_first.Statement.{statement}
 use Rattle.writer.proofs.goes_first.Tie as tie
 
-wide-requires : tie.Need-wide-requires
-wide-requires c κs = search needs
-
-byte-entry-requires : tie.Need-byte-entry-requires
-byte-entry-requires c κs = search needs
-
-wide-requires-2 : tie.Need-wide-requires-2
-wide-requires-2 c κs = search needs
-
-byte-entry-requires-2 : tie.Need-byte-entry-requires-2
-byte-entry-requires-2 c κs = search needs
-
-leaf-label-requires : tie.Need-leaf-label-requires
-leaf-label-requires c κs = search needs
-
-leaf-label-requires-2 : tie.Need-leaf-label-requires-2
-leaf-label-requires-2 c κs = search needs
-
-comes-before-requires : tie.Need-comes-before-requires
-comes-before-requires c κs = search needs
-
 returns : tie.Need-returns
 returns c =
     let q = c .before .before .before in
@@ -43,12 +22,5 @@ returns c =
 pub goes-first-spec : {M : Type 1} → statement M
 goes-first-spec =
     tie.close
-    (tie.spec
-    wide-requires
-    byte-entry-requires
-    wide-requires-2
-    byte-entry-requires-2
-    leaf-label-requires
-    leaf-label-requires-2
-    comes-before-requires
-    returns)
+    (tie.spec (λ c κs. search needs) (λ c κs. search needs) (λ c κs. search needs) (λ c κs. search needs) (λ c κs. search needs)
+    (λ c κs. search needs) (λ c κs. search needs) returns)

@@ -10,15 +10,6 @@ use Rattle.writer.proofs.good_node.Tie as tie
 abbrev arrays : tie.Start → TreeArrays
 arrays s = arraysFrom (s .args .nodes) (s .args .left .now) (s .args .right .now) (s .args .start .now) (s .args .size .now)
 
-byte-entry-requires : tie.Need-byte-entry-requires
-byte-entry-requires c κs = search needs
-
-byte-entry-requires-2 : tie.Need-byte-entry-requires-2
-byte-entry-requires-2 c κs = search needs
-
-place-entry-requires : tie.Need-place-entry-requires
-place-entry-requires c κs = search needs
-
 returns : tie.Need-returns
 returns c =
     let p = c .before .place-entry in
@@ -28,9 +19,6 @@ returns c =
     past-end (arrays s) (s .args .text .now) (s .args .u) (l .byte-entry .result) (l .byte-entry .ensures) (p .result) (n .result) (p .ensures)
     (n .ensures) (c .before .before .before .if1 .taken) (omega (arith, c .if2 .taken))
 
-sub-if3 : tie.Need-sub-if3
-sub-if3 c = search needs
-
 returns-2 : tie.Need-returns-2
 returns-2 c =
     let p = c .before .before .place-entry in
@@ -39,12 +27,6 @@ returns-2 c =
     let s = l .before .before .before .before .before .before in
     past-end (arrays s) (s .args .text .now) (s .args .u) (l .byte-entry .result) (l .byte-entry .ensures) (p .result) (n .result) (p .ensures)
     (n .ensures) (c .before .before .before .before .if1 .taken) (omega (arith, c .if3 .taken, c .before .if2 .left))
-
-part-requires : tie.Need-part-requires
-part-requires c κs = search needs
-
-spelled-size-requires : tie.Need-spelled-size-requires
-spelled-size-requires c κs = search needs
 
 returns-3 : tie.Need-returns-3
 returns-3 c =
@@ -56,9 +38,6 @@ returns-3 c =
     label-test (arrays s) (s .args .text .now) (s .args .u) (l .byte-entry .result) (l .byte-entry .ensures) (p .result) (n .result) (p .ensures)
     (n .ensures) (t .before .before .before .before .if1 .taken) (omega (arith, t .if3 .left, t .before .if2 .left)) _
     (c .before .part .ensures) (c .spelled-size .result) (c .spelled-size .ensures)
-
-byte-entry-requires-3 : tie.Need-byte-entry-requires-3
-byte-entry-requires-3 c κs = search needs
 
 returns-4 : tie.Need-returns-4
 returns-4 c =
@@ -78,16 +57,5 @@ returns-5 c =
 pub good-node-spec : {M : Type 1} → statement M
 good-node-spec =
     tie.close
-    (tie.spec
-    byte-entry-requires
-    byte-entry-requires-2
-    place-entry-requires
-    returns
-    sub-if3
-    returns-2
-    part-requires
-    spelled-size-requires
-    returns-3
-    byte-entry-requires-3
-    returns-4
-    returns-5)
+    (tie.spec (λ c κs. search needs) (λ c κs. search needs) (λ c κs. search needs) returns (λ c. search needs) returns-2
+    (λ c κs. search needs) (λ c κs. search needs) returns-3 (λ c κs. search needs) returns-4 returns-5)

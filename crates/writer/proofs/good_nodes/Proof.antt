@@ -28,23 +28,11 @@ unfolding goodNodes
 loop-holds c =
     (omega arith, refl)
 
-good-node-requires : tie.Need-good-node-requires Inv-loop μ-loop
-good-node-requires c κs =
-    search needs
-
 returns : tie.Need-returns Inv-loop μ-loop
 returns c =
     let s = c .before .before .before .before .before .before .before .before .before in
     good-fails (arrays s) (s .args .text .now) (s .args .nodes) (c .before .before .before .loop .u) (c .before .before .loop-test .taken)
     (sym (c .before .good-node .ensures) ∙ not-true _ (c .if1 .taken))
-
-add-u : tie.Need-add-u Inv-loop μ-loop
-add-u c =
-    omega arith
-
-loop-less : tie.Need-loop-less Inv-loop μ-loop
-loop-less c =
-    omega arith
 
 loop-again : tie.Need-loop-again Inv-loop μ-loop
 loop-again c =
@@ -62,13 +50,4 @@ returns-2 c =
 pub good-nodes-spec : {M : Type 1} → statement M
 good-nodes-spec =
     tie.close
-    (tie.spec
-    Inv-loop
-    μ-loop
-    loop-holds
-    good-node-requires
-    returns
-    add-u
-    loop-less
-    loop-again
-    returns-2)
+    (tie.spec Inv-loop μ-loop loop-holds (λ c κs. search needs) returns (λ c. omega arith) (λ c. omega arith) loop-again returns-2)

@@ -8,12 +8,6 @@ use borrow.Author.Needs.{needs}
 use Rattle.writer.proofs.least_at.Statement.{statement}
 use Rattle.writer.proofs.least_at.Tie as tie
 
-byte-at-requires : tie.Need-byte-at-requires
-byte-at-requires c κs = search needs
-
-wide-requires : tie.Need-wide-requires
-wide-requires c κs = search needs
-
 returns : tie.Need-returns
 returns c =
     let l = c .before .before in
@@ -21,27 +15,6 @@ returns c =
     let e = sym (c .before .wide .ensures) ∙ c .if1 .taken in
     e ∙ least-leaf (inEdition (a .edition) (a .text .now)) (a .left .now) (a .right .now) (a .start .now) (a .size .now) (a .least .now) (a .u)
     (sym (l .byte-at .ensures) ∙ e)
-
-byte-at-requires-2 : tie.Need-byte-at-requires-2
-byte-at-requires-2 c κs = search needs
-
-goes-first-requires : tie.Need-goes-first-requires
-goes-first-requires c κs = search needs
-
-wide-requires-2 : tie.Need-wide-requires-2
-wide-requires-2 c κs = search needs
-
-byte-at-requires-3 : tie.Need-byte-at-requires-3
-byte-at-requires-3 c κs = search needs
-
-wide-requires-3 : tie.Need-wide-requires-3
-wide-requires-3 c κs = search needs
-
-byte-at-requires-4 : tie.Need-byte-at-requires-4
-byte-at-requires-4 c κs = search needs
-
-pick-requires : tie.Need-pick-requires
-pick-requires c κs = search needs
 
 returns-2 : tie.Need-returns-2
 returns-2 c =
@@ -61,15 +34,5 @@ returns-2 c =
 pub least-at-spec : {M : Type 1} → statement M
 least-at-spec =
     tie.close
-    (tie.spec
-    byte-at-requires
-    wide-requires
-    returns
-    byte-at-requires-2
-    goes-first-requires
-    wide-requires-2
-    byte-at-requires-3
-    wide-requires-3
-    byte-at-requires-4
-    pick-requires
-    returns-2)
+    (tie.spec (λ c κs. search needs) (λ c κs. search needs) returns (λ c κs. search needs) (λ c κs. search needs) (λ c κs. search needs)
+    (λ c κs. search needs) (λ c κs. search needs) (λ c κs. search needs) (λ c κs. search needs) returns-2)

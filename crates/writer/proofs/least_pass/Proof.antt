@@ -23,22 +23,6 @@ unfolding pass
 loop-holds c =
     (omega arith, refl, refl)
 
-least-at-requires : tie.Need-least-at-requires Inv-loop μ-loop
-least-at-requires c κs =
-    search needs
-
-slice-write-least : tie.Need-slice-write-least Inv-loop μ-loop
-slice-write-least c =
-    omega arith
-
-add-u : tie.Need-add-u Inv-loop μ-loop
-add-u c =
-    omega arith
-
-loop-less : tie.Need-loop-less Inv-loop μ-loop
-loop-less c =
-    omega arith
-
 loop-again : tie.Need-loop-again Inv-loop μ-loop
 loop-again c =
     let at = c .before .before .before .loop in
@@ -63,14 +47,5 @@ returns c =
 pub least-pass-spec : {M : Type 1} → statement M
 least-pass-spec =
     tie.close
-    (tie.spec
-    Inv-loop
-    μ-loop
-    loop-holds
-    least-at-requires
-    slice-write-least
-    add-u
-    loop-less
-    loop-again
-    same-length
-    returns)
+    (tie.spec Inv-loop μ-loop loop-holds (λ c κs. search needs) (λ c. omega arith) (λ c. omega arith) (λ c. omega arith) loop-again
+    same-length returns)

@@ -6,9 +6,6 @@ use Rattle.writer.specs.Passes.{markOf}
 use Rattle.writer.proofs.mark.Statement.{statement}
 use Rattle.writer.proofs.mark.Tie as tie
 
-wide-requires : tie.Need-wide-requires
-wide-requires c κs = search needs
-
 returns : tie.Need-returns
 unfolding markOf
 returns c =
@@ -22,4 +19,4 @@ returns-2 c =
     rw (ne-eqb k 159 (λ (e : k ≡ 159). c .if1 .left (e ∙ sym (c .before .wide .ensures)))) refl
 
 pub mark-spec : {M : Type 1} → statement M
-mark-spec = tie.close (tie.spec wide-requires returns returns-2)
+mark-spec = tie.close (tie.spec (λ c κs. search needs) returns returns-2)

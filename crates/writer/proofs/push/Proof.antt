@@ -12,12 +12,6 @@ returns c =
     let a = c .before .before .before .before .before .args in
     stays-mark (a .left .now) (a .right .now) (a .first .now) (a .k) (a .stack .now) (a .depth) (c .if1 .taken)
 
-byte-at-requires : tie.Need-byte-at-requires
-byte-at-requires c κs = search needs
-
-wide-requires : tie.Need-wide-requires
-wide-requires c κs = search needs
-
 returns-2 : tie.Need-returns-2
 returns-2 c =
     let f = c .before .before in
@@ -25,44 +19,17 @@ returns-2 c =
     stays-leaf (a .left .now) (a .right .now) (a .first .now) (a .k) (a .stack .now) (a .depth) (omega arith)
     (sym (f .byte-at .ensures) ∙ sym (c .before .wide .ensures) ∙ c .if2 .taken)
 
-byte-at-requires-2 : tie.Need-byte-at-requires-2
-byte-at-requires-2 c κs = search needs
-
-byte-at-requires-3 : tie.Need-byte-at-requires-3
-byte-at-requires-3 c κs = search needs
-
-pick-requires : tie.Need-pick-requires
-pick-requires c κs = search needs
-
-slice-write-stack : tie.Need-slice-write-stack
-slice-write-stack c = search needs
-
-add-stack : tie.Need-add-stack
-add-stack c = search needs
-
 slice-write-stack-2 : tie.Need-slice-write-stack-2
 slice-write-stack-2 c =
     simp length-set (omega arith)
-
-add-stack-2 : tie.Need-add-stack-2
-add-stack-2 c = search needs
 
 slice-write-stack-3 : tie.Need-slice-write-stack-3
 slice-write-stack-3 c =
     simp length-set (omega arith)
 
-add-stack-3 : tie.Need-add-stack-3
-add-stack-3 c = search needs
-
 slice-write-stack-4 : tie.Need-slice-write-stack-4
 slice-write-stack-4 c =
     simp length-set (omega arith)
-
-add-result : tie.Need-add-result
-add-result c = search needs
-
-same-length : tie.Need-same-length
-same-length c = search needs
 
 returns-3 : tie.Need-returns-3
 returns-3 c =
@@ -78,21 +45,6 @@ returns-3 c =
 pub push-spec : {M : Type 1} → statement M
 push-spec =
     tie.close
-    (tie.spec
-    returns
-    byte-at-requires
-    wide-requires
-    returns-2
-    byte-at-requires-2
-    byte-at-requires-3
-    pick-requires
-    slice-write-stack
-    add-stack
-    slice-write-stack-2
-    add-stack-2
-    slice-write-stack-3
-    add-stack-3
-    slice-write-stack-4
-    add-result
-    same-length
-    returns-3)
+    (tie.spec returns (λ c κs. search needs) (λ c κs. search needs) returns-2 (λ c κs. search needs) (λ c κs. search needs)
+    (λ c κs. search needs) (λ c. search needs) (λ c. search needs) slice-write-stack-2 (λ c. search needs) slice-write-stack-3
+    (λ c. search needs) slice-write-stack-4 (λ c. search needs) (λ c. search needs) returns-3)

@@ -17,20 +17,11 @@ start-of c =
     let i = c .before .before .before .before .before in
     i .before .before .before .before .before .before .before .before
 
-mark-requires : tie.Need-mark-requires
-mark-requires c κs = search needs
-
 slice-write-out : tie.Need-slice-write-out
 slice-write-out c =
     let c7 = c .before .before .before .before .before .before .before in
     let a = c7 .args in
     omega (arith, ap length (own-mark (a .text .now) (a .start .now) (a .size .now) (a .first .now) (a .k) (c .before .if1 .taken)))
-
-add-result : tie.Need-add-result
-add-result c = search needs
-
-same-length : tie.Need-same-length
-same-length c = search needs
 
 returns : tie.Need-returns
 returns c =
@@ -40,21 +31,6 @@ returns c =
       ap (λ (x : List ℕ). a .at + length x) (sym e),
       ap (λ (b : ℕ). sets (a .out .now) (a .at) (b ∷ [])) (c .mark .ensures) ∙ ap (sets (a .out .now) (a .at)) (sym e),
     )
-
-byte-entry-requires : tie.Need-byte-entry-requires
-byte-entry-requires c κs = search needs
-
-stored-leaf-requires : tie.Need-stored-leaf-requires
-stored-leaf-requires c κs = search needs
-
-shown-requires : tie.Need-shown-requires
-shown-requires c κs = search needs
-
-slice-aggregate-first-bytes : tie.Need-slice-aggregate-first-bytes
-slice-aggregate-first-bytes c = search needs
-
-first-bytes-requires : tie.Need-first-bytes-requires
-first-bytes-requires c κs = search needs
 
 -- the bytes that are stored are what the leaf writes
 leaf-own : (c : tie.After-first-bytes) → let a = start-of c .args in
@@ -70,9 +46,6 @@ leaf-own c =
 
 put-bytes-requires : tie.Need-put-bytes-requires
 put-bytes-requires c κs = omega (arith, ap length (leaf-own (c .before)))
-
-same-length-2 : tie.Need-same-length-2
-same-length-2 c = search needs
 
 returns-2 : tie.Need-returns-2
 returns-2 c =
@@ -93,12 +66,6 @@ slice-write-out-2 c =
           (λ (e : getD (a .first .now) (a .k) 0 ≡ a .k). c .if2 .left (c .before .byte-entry .ensures ∙ e))),
     )
 
-add-result-2 : tie.Need-add-result-2
-add-result-2 c = search needs
-
-same-length-3 : tie.Need-same-length-3
-same-length-3 c = search needs
-
 returns-3 : tie.Need-returns-3
 returns-3 c =
     let c8 = c .before .before .before .before .before .before .before .before in
@@ -110,21 +77,6 @@ returns-3 c =
 pub put-own-spec : {M : Type 1} → statement M
 put-own-spec =
     tie.close
-    (tie.spec
-    mark-requires
-    slice-write-out
-    add-result
-    same-length
-    returns
-    byte-entry-requires
-    stored-leaf-requires
-    shown-requires
-    slice-aggregate-first-bytes
-    first-bytes-requires
-    put-bytes-requires
-    same-length-2
-    returns-2
-    slice-write-out-2
-    add-result-2
-    same-length-3
-    returns-3)
+    (tie.spec (λ c κs. search needs) slice-write-out (λ c. search needs) (λ c. search needs) returns (λ c κs. search needs)
+    (λ c κs. search needs) (λ c κs. search needs) (λ c. search needs) (λ c κs. search needs) put-bytes-requires (λ c. search needs)
+    returns-2 slice-write-out-2 (λ c. search needs) (λ c. search needs) returns-3)

@@ -8,14 +8,14 @@ use borrow.Author.Needs.{needs}
 use Rattle.trees.proofs.EntryLaws.{fits-byte}
 use Rattle.trees.specs.declared.Edition.{Edition}
 use Rattle.trees.specs.declared.TreeArrays.{TreeArrays}
-use Rattle.writer.specs.Passes.{arraysFrom, nodeText, stackSteps, Children}
+use Rattle.writer.specs.Passes.{arraysFrom, nodeText, stackSteps, ChildNodes}
 use Rattle.writer.proofs.StackLaws.{Writing, depth-few, writing-start, has-room, own-fits, writing-next, fewer-steps, writing-end}
 use Rattle.writer.proofs.put_tree.Statement.{statement}
 use Rattle.writer.proofs.put_tree.Tie as tie
 
 abbrev Inv-loop : tie.InvT-loop
 Inv-loop text nodes left right start size first out₀ stack₀ depth₀ at₀ out stack depth at =
-    (e : Edition) → Children e (arraysFrom nodes left right start size) text first nodes
+    (e : Edition) → ChildNodes e (arraysFrom nodes left right start size) text first nodes
     → Writing e (arraysFrom nodes left right start size) text nodes (nodeText e (arraysFrom nodes left right start size) text (nodes - 1)) out₀
     out stack depth at
 
@@ -26,18 +26,6 @@ abbrev μ-loop : tie.MeasureT-loop
 abbrev arrays : tie.Start Inv-loop μ-loop → TreeArrays
 arrays b = arraysFrom (b .args .nodes) (b .args .left .now) (b .args .right .now) (b .args .start .now) (b .args .size .now)
 
-sub-narrow : tie.Need-sub-narrow Inv-loop μ-loop
-sub-narrow c =
-    omega arith
-
-narrow-requires : tie.Need-narrow-requires Inv-loop μ-loop
-narrow-requires c κs =
-    search needs
-
-array-write-stack : tie.Need-array-write-stack Inv-loop μ-loop
-array-write-stack c =
-    omega arith
-
 loop-holds : tie.Need-loop-holds Inv-loop μ-loop
 loop-holds c =
     let b = c .before .before .before .before .before .before .before .before in
@@ -46,18 +34,10 @@ loop-holds c =
     writing-start e (arrays b) (a .text .now) (a .nodes) (b .pre .0 .1) (a .out .now) (a .nodes - 1) (omega arith) (b .pre .1 .1 .0)
     (c .narrow .result) (c .narrow .ensures ∙ fits-byte (a .nodes - 1) (omega arith))
 
-sub-depth : tie.Need-sub-depth Inv-loop μ-loop
-sub-depth c =
-    omega arith
-
 array-read-wide : tie.Need-array-read-wide Inv-loop μ-loop
 array-read-wide c =
     let b = c .before .before .before .before .before .before .before .before .before .before in
     omega (arith, depth-few (c .before .loop .inv (b .args .edition) (b .pre .1 .0)))
-
-wide-requires : tie.Need-wide-requires Inv-loop μ-loop
-wide-requires c κs =
-    search needs
 
 put-own-requires : tie.Need-put-own-requires Inv-loop μ-loop
 put-own-requires c κs =
@@ -125,20 +105,5 @@ returns c =
 pub put-tree-spec : {M : Type 1} → statement M
 put-tree-spec =
     tie.close
-    (tie.spec
-    Inv-loop
-    μ-loop
-    sub-narrow
-    narrow-requires
-    array-write-stack
-    loop-holds
-    sub-depth
-    array-read-wide
-    wide-requires
-    put-own-requires
-    slice-aggregate-push
-    push-requires
-    loop-less
-    loop-again
-    same-length
-    returns)
+    (tie.spec Inv-loop μ-loop (λ c. omega arith) (λ c κs. search needs) (λ c. omega arith) loop-holds (λ c. omega arith) array-read-wide
+    (λ c κs. search needs) put-own-requires slice-aggregate-push push-requires loop-less loop-again same-length returns)

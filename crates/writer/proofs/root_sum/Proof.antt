@@ -8,21 +8,6 @@ use borrow.Author.Needs.{needs}
 use Rattle.writer.proofs.root_sum.Statement.{statement}
 use Rattle.writer.proofs.root_sum.Tie as tie
 
-slice-aggregate-sum-pass : tie.Need-slice-aggregate-sum-pass
-slice-aggregate-sum-pass c = search needs
-
-sum-pass-requires : tie.Need-sum-pass-requires
-sum-pass-requires c κs = search needs
-
-slice-aggregate-place-entry : tie.Need-slice-aggregate-place-entry
-slice-aggregate-place-entry c = search needs
-
-sub-place-entry : tie.Need-sub-place-entry
-sub-place-entry c = search needs
-
-place-entry-requires : tie.Need-place-entry-requires
-place-entry-requires c κs = search needs
-
 returns : tie.Need-returns
 unfolding rootSum
 returns c =
@@ -33,10 +18,4 @@ returns c =
 pub root-sum-spec : {M : Type 1} → statement M
 root-sum-spec =
     tie.close
-    (tie.spec
-    slice-aggregate-sum-pass
-    sum-pass-requires
-    slice-aggregate-place-entry
-    sub-place-entry
-    place-entry-requires
-    returns)
+    (tie.spec (λ c. search needs) (λ c κs. search needs) (λ c. search needs) (λ c. search needs) (λ c κs. search needs) returns)

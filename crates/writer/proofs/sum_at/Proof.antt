@@ -5,15 +5,6 @@ use borrow.Author.Needs.{needs}
 use Rattle.writer.proofs.sum_at.Statement.{statement}
 use Rattle.writer.proofs.sum_at.Tie as tie
 
-byte-entry-requires : tie.Need-byte-entry-requires
-byte-entry-requires c κs = search needs
-
-byte-entry-requires-2 : tie.Need-byte-entry-requires-2
-byte-entry-requires-2 c κs = search needs
-
-capped-requires : tie.Need-capped-requires
-capped-requires c κs = search needs
-
 returns : tie.Need-returns
 returns c =
     let e = c .before .before .before in
@@ -21,18 +12,6 @@ returns c =
     sum-leaf (a .left .now) (a .right .now) (a .weight .now) (a .plus) (a .cap) (a .sums .now) (a .u)
     (sym (e .byte-entry .ensures) ∙ c .before .before .if1 .taken)
     (c .before .byte-entry2 .result) (c .before .byte-entry2 .ensures) (c .capped .result) (c .capped .ensures)
-
-byte-entry-requires-3 : tie.Need-byte-entry-requires-3
-byte-entry-requires-3 c κs = search needs
-
-place-entry-requires : tie.Need-place-entry-requires
-place-entry-requires c κs = search needs
-
-place-entry-requires-2 : tie.Need-place-entry-requires-2
-place-entry-requires-2 c κs = search needs
-
-capped-requires-2 : tie.Need-capped-requires-2
-capped-requires-2 c κs = search needs
 
 returns-2 : tie.Need-returns-2
 returns-2 c =
@@ -48,13 +27,5 @@ returns-2 c =
 pub sum-at-spec : {M : Type 1} → statement M
 sum-at-spec =
     tie.close
-    (tie.spec
-    byte-entry-requires
-    byte-entry-requires-2
-    capped-requires
-    returns
-    byte-entry-requires-3
-    place-entry-requires
-    place-entry-requires-2
-    capped-requires-2
-    returns-2)
+    (tie.spec (λ c κs. search needs) (λ c κs. search needs) (λ c κs. search needs) returns (λ c κs. search needs) (λ c κs. search needs)
+    (λ c κs. search needs) (λ c κs. search needs) returns-2)

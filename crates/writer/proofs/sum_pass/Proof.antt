@@ -22,26 +22,6 @@ unfolding pass
 loop-holds c =
     (omega arith, refl, refl)
 
-sum-at-requires : tie.Need-sum-at-requires Inv-loop μ-loop
-sum-at-requires c κs =
-    search needs
-
-mul-sums : tie.Need-mul-sums Inv-loop μ-loop
-mul-sums c =
-    omega arith
-
-slice-write-sums : tie.Need-slice-write-sums Inv-loop μ-loop
-slice-write-sums c =
-    omega arith
-
-add-u : tie.Need-add-u Inv-loop μ-loop
-add-u c =
-    omega arith
-
-loop-less : tie.Need-loop-less Inv-loop μ-loop
-loop-less c =
-    omega arith
-
 loop-again : tie.Need-loop-again Inv-loop μ-loop
 loop-again c =
     let at = c .before .before .before .loop in
@@ -65,15 +45,5 @@ returns c =
 pub sum-pass-spec : {M : Type 1} → statement M
 sum-pass-spec =
     tie.close
-    (tie.spec
-    Inv-loop
-    μ-loop
-    loop-holds
-    sum-at-requires
-    mul-sums
-    slice-write-sums
-    add-u
-    loop-less
-    loop-again
-    same-length
-    returns)
+    (tie.spec Inv-loop μ-loop loop-holds (λ c κs. search needs) (λ c. omega arith) (λ c. omega arith) (λ c. omega arith)
+    (λ c. omega arith) loop-again same-length returns)

@@ -18,18 +18,6 @@ found-at c =
     found-length (arrays b) (b .args .text .now) (b .pre .0 .0) (b .pre .0 .1) (b .pre .1) _ (c .before .before .before .weight-pass .ensures)
     (c .root-sum .result) (c .root-sum .ensures)
 
-slice-aggregate-weight-pass : tie.Need-slice-aggregate-weight-pass
-slice-aggregate-weight-pass c = search needs
-
-weight-pass-requires : tie.Need-weight-pass-requires
-weight-pass-requires c κs = search needs
-
-slice-aggregate-root-sum : tie.Need-slice-aggregate-root-sum
-slice-aggregate-root-sum c = search needs
-
-root-sum-requires : tie.Need-root-sum-requires
-root-sum-requires c κs = search needs
-
 sub-result : tie.Need-sub-result
 sub-result c = found-at c .some
 
@@ -39,10 +27,4 @@ returns c = found-at c .exact
 pub text-size-spec : {M : Type 1} → statement M
 text-size-spec =
     tie.close
-    (tie.spec
-    slice-aggregate-weight-pass
-    weight-pass-requires
-    slice-aggregate-root-sum
-    root-sum-requires
-    sub-result
-    returns)
+    (tie.spec (λ c. search needs) (λ c κs. search needs) (λ c. search needs) (λ c κs. search needs) sub-result returns)

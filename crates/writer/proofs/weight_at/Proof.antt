@@ -8,18 +8,6 @@ use borrow.Author.Needs.{needs}
 use Rattle.writer.proofs.weight_at.Statement.{statement}
 use Rattle.writer.proofs.weight_at.Tie as tie
 
-byte-entry-requires : tie.Need-byte-entry-requires
-byte-entry-requires c κs = search needs
-
-stored-leaf-requires : tie.Need-stored-leaf-requires
-stored-leaf-requires c κs = search needs
-
-shown-requires : tie.Need-shown-requires
-shown-requires c κs = search needs
-
-narrow-requires : tie.Need-narrow-requires
-narrow-requires c κs = search needs
-
 returns : tie.Need-returns
 returns c =
     let y = c .before .shown in
@@ -38,4 +26,4 @@ returns-2 c =
     (λ (e : getD (a .left .now) (a .u) 0 ≡ a .u). c .if1 .left (c .before .byte-entry .ensures ∙ e))
 
 pub weight-at-spec : {M : Type 1} → statement M
-weight-at-spec = tie.close (tie.spec byte-entry-requires stored-leaf-requires shown-requires narrow-requires returns returns-2)
+weight-at-spec = tie.close (tie.spec (λ c κs. search needs) (λ c κs. search needs) (λ c κs. search needs) (λ c κs. search needs) returns returns-2)

@@ -64,12 +64,6 @@ fit-of c =
     let d = c .before .before .before .before .before .before in
     d .before .before .before .before .before .before
 
-slice-aggregate-root-sum : tie.Need-slice-aggregate-root-sum
-slice-aggregate-root-sum c = search needs
-
-root-sum-requires : tie.Need-root-sum-requires
-root-sum-requires c κs = search needs
-
 returns : tie.Need-returns
 returns c =
     let b = c .before .before .before .before .before .before .before .before .before in
@@ -79,9 +73,6 @@ returns c =
     (omega (arith, c .before .root-sum .ensures, c .if1 .taken)))
     (done-none o)
 
-text-size-requires : tie.Need-text-size-requires
-text-size-requires c κs = search needs
-
 returns-2 : tie.Need-returns-2
 unfolding outputTooShort
 returns-2 c =
@@ -89,24 +80,6 @@ returns-2 c =
     let o = b .args .out .now in
     done-as (b .args .edition) (stands b) (some (rootText b)) o (Refused outputTooShort) o (text-at (c .before .before))
     (done-short (rootText b) o (omega (arith, c .if2 .taken, long-at (c .before))))
-
-slice-aggregate-least-pass : tie.Need-slice-aggregate-least-pass
-slice-aggregate-least-pass c = search needs
-
-least-pass-requires : tie.Need-least-pass-requires
-least-pass-requires c κs = search needs
-
-slice-aggregate-first-pass : tie.Need-slice-aggregate-first-pass
-slice-aggregate-first-pass c = search needs
-
-slice-aggregate-first-pass-2 : tie.Need-slice-aggregate-first-pass-2
-slice-aggregate-first-pass-2 c = search needs
-
-first-pass-requires : tie.Need-first-pass-requires
-first-pass-requires c κs = search needs
-
-slice-aggregate-put-tree : tie.Need-slice-aggregate-put-tree
-slice-aggregate-put-tree c = search needs
 
 put-tree-requires : tie.Need-put-tree-requires
 unfolding nodeText
@@ -137,9 +110,6 @@ add-t14 c =
     let b = fit-start (fit-of c) in
     omega (arith, c .before .before .put-tree .ensures .0, fits-at (fit-of c), text-length (b .args .edition) (root b), b)
 
-same-length : tie.Need-same-length
-same-length c = search needs
-
 returns-3 : tie.Need-returns-3
 unfolding nodeText
 returns-3 c =
@@ -153,20 +123,6 @@ returns-3 c =
 pub write-nodes-spec : {M : Type 1} → statement M
 write-nodes-spec =
     tie.close
-    (tie.spec
-    slice-aggregate-root-sum
-    root-sum-requires
-    returns
-    text-size-requires
-    returns-2
-    slice-aggregate-least-pass
-    least-pass-requires
-    slice-aggregate-first-pass
-    slice-aggregate-first-pass-2
-    first-pass-requires
-    slice-aggregate-put-tree
-    put-tree-requires
-    slice-write-out
-    add-t14
-    same-length
-    returns-3)
+    (tie.spec (λ c. search needs) (λ c κs. search needs) returns (λ c κs. search needs) returns-2 (λ c. search needs)
+    (λ c κs. search needs) (λ c. search needs) (λ c. search needs) (λ c κs. search needs) (λ c. search needs) put-tree-requires
+    slice-write-out add-t14 (λ c. search needs) returns-3)

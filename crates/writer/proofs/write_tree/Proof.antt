@@ -23,21 +23,6 @@ returns-2 c =
     done-as (a .edition) (treeOf (a .tree) (a .text .now)) none (a .out .now) NoTree (a .out .now)
     (stands-long (a .tree) (a .text .now) (a .edition) (c .if2 .taken)) (done-none (a .out .now))
 
-slice-aggregate-good-nodes : tie.Need-slice-aggregate-good-nodes
-slice-aggregate-good-nodes c = search needs
-
-slice-aggregate-good-nodes-2 : tie.Need-slice-aggregate-good-nodes-2
-slice-aggregate-good-nodes-2 c = search needs
-
-slice-aggregate-good-nodes-3 : tie.Need-slice-aggregate-good-nodes-3
-slice-aggregate-good-nodes-3 c = search needs
-
-slice-aggregate-good-nodes-4 : tie.Need-slice-aggregate-good-nodes-4
-slice-aggregate-good-nodes-4 c = search needs
-
-good-nodes-requires : tie.Need-good-nodes-requires
-good-nodes-requires c κs = search needs
-
 returns-3 : tie.Need-returns-3
 returns-3 c =
     let d = c .before .before .before .before .before .before .before .before .before .before in
@@ -47,18 +32,6 @@ returns-3 c =
     (sym (c .before .good-nodes .ensures) ∙ not-true _ (c .if3 .taken)))
     (done-none (a .out .now))
 
-slice-aggregate-write-nodes : tie.Need-slice-aggregate-write-nodes
-slice-aggregate-write-nodes c = search needs
-
-slice-aggregate-write-nodes-2 : tie.Need-slice-aggregate-write-nodes-2
-slice-aggregate-write-nodes-2 c = search needs
-
-slice-aggregate-write-nodes-3 : tie.Need-slice-aggregate-write-nodes-3
-slice-aggregate-write-nodes-3 c = search needs
-
-slice-aggregate-write-nodes-4 : tie.Need-slice-aggregate-write-nodes-4
-slice-aggregate-write-nodes-4 c = search needs
-
 write-nodes-requires : tie.Need-write-nodes-requires
 write-nodes-requires c κs =
     let g = c .before .before .before .before .before in
@@ -67,28 +40,9 @@ write-nodes-requires c κs =
       sym (g .before .good-nodes .ensures) ∙ not-false _ (g .if3 .left),
     )
 
-same-length : tie.Need-same-length
-same-length c = search needs
-
-returns-4 : tie.Need-returns-4
-returns-4 c = search needs
-
 pub write-tree-spec : {M : Type 1} → statement M
 write-tree-spec =
     tie.close
-    (tie.spec
-    returns
-    returns-2
-    slice-aggregate-good-nodes
-    slice-aggregate-good-nodes-2
-    slice-aggregate-good-nodes-3
-    slice-aggregate-good-nodes-4
-    good-nodes-requires
-    returns-3
-    slice-aggregate-write-nodes
-    slice-aggregate-write-nodes-2
-    slice-aggregate-write-nodes-3
-    slice-aggregate-write-nodes-4
-    write-nodes-requires
-    same-length
-    returns-4)
+    (tie.spec returns returns-2 (λ c. search needs) (λ c. search needs) (λ c. search needs) (λ c. search needs) (λ c κs. search needs)
+    returns-3 (λ c. search needs) (λ c. search needs) (λ c. search needs) (λ c. search needs) write-nodes-requires (λ c. search needs)
+    (λ c. search needs))

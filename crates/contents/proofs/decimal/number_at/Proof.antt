@@ -7,9 +7,6 @@ use borrow.Author.Needs.{needs}
 use Rattle.contents.proofs.decimal.number_at.Statement.{statement}
 use Rattle.contents.proofs.decimal.number_at.Tie as tie
 
-digit-count-requires : tie.Need-digit-count-requires
-digit-count-requires c κs = search needs
-
 returns : tie.Need-returns
 returns c =
     let a = c .before .before .before .args in
@@ -54,12 +51,4 @@ returns-4 c =
 pub number-at-spec : {M : Type 1} → statement M
 number-at-spec =
     tie.close
-    (tie.spec
-    digit-count-requires
-    returns
-    returns-2
-    shared-slice-read-if4
-    returns-3
-    value-of-requires
-    add-t9
-    returns-4)
+    (tie.spec (λ c κs. search needs) returns returns-2 shared-slice-read-if4 returns-3 value-of-requires add-t9 returns-4)

@@ -22,18 +22,6 @@ loop-holds c =
     let a = c .before .args in
     (omega arith, bound-none, value-start (a .job .now) (a .at) (a .n))
 
-add-worth : tie.Need-add-worth Inv-loop μ-loop
-add-worth c =
-    omega arith
-
-shared-slice-read-worth : tie.Need-shared-slice-read-worth Inv-loop μ-loop
-shared-slice-read-worth c =
-    omega arith
-
-worth-requires : tie.Need-worth-requires Inv-loop μ-loop
-worth-requires c κs =
-    search needs
-
 mul-v : tie.Need-mul-v Inv-loop μ-loop
 mul-v c =
     omega (arith, bound-small (c .before .before .before .loop .i) (omega arith))
@@ -43,14 +31,6 @@ add-v c =
     let s1 = c .before .before .before in
     let s2 = s1 .before .before in
     omega (arith, c .worth .ensures, c .before .shared-slice-known2 .given (s2 .args .at + s1 .loop .i), bound-small (s1 .loop .i) (omega arith))
-
-add-i : tie.Need-add-i Inv-loop μ-loop
-add-i c =
-    omega arith
-
-loop-less : tie.Need-loop-less Inv-loop μ-loop
-loop-less c =
-    omega arith
 
 loop-again : tie.Need-loop-again Inv-loop μ-loop
 loop-again c =
@@ -75,16 +55,5 @@ returns c =
 pub value-of-spec : {M : Type 1} → statement M
 value-of-spec =
     tie.close
-    (tie.spec
-    Inv-loop
-    μ-loop
-    loop-holds
-    add-worth
-    shared-slice-read-worth
-    worth-requires
-    mul-v
-    add-v
-    add-i
-    loop-less
-    loop-again
-    returns)
+    (tie.spec Inv-loop μ-loop loop-holds (λ c. omega arith) (λ c. omega arith) (λ c κs. search needs) mul-v add-v (λ c. omega arith)
+    (λ c. omega arith) loop-again returns)

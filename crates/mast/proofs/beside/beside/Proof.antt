@@ -1,17 +1,11 @@
 -- `beside::beside` meets its contract. Assumes nothing.
 use mathlib.Core.Path.{_∙_, ap}
 use lib.ListN.{length-map}
-use Rattle.mast.proofs.MarkLaws.{list-few}
 use Rattle.mast.proofs.MissingLaws.{missing-asked}
 use Rattle.mast.proofs.SettleLaws.{other-lacking, other-compared}
 use borrow.Author.Needs.{needs}
 use Rattle.mast.proofs.beside.beside.Statement.{statement}
 use Rattle.mast.proofs.beside.beside.Tie as tie
-
-mark-list-requires : tie.Need-mark-list-requires
-mark-list-requires c κs =
-    let p = c .before .before .pre in
-    (p .0 .few, list-few (p .1))
 
 returns : tie.Need-returns
 returns c =
@@ -45,4 +39,4 @@ returns-2 c =
 pub beside-spec : {M : Type 1} → statement M
 beside-spec =
     tie.close
-    (tie.spec mark-list-requires (λ c. search needs) returns (λ c. search needs) lacked-label-requires clash-in-requires returns-2)
+    (tie.spec (λ c κs. search needs) (λ c. search needs) returns (λ c. search needs) lacked-label-requires clash-in-requires returns-2)

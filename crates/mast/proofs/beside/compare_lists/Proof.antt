@@ -25,7 +25,7 @@ returns c =
 returns-2 : tie.Need-returns-2
 returns-2 c =
     λ b l k.
-    lists-naming _ (b .s) (b .t) (l .xs) (k .xs) _ _ (c .before .before .before .settle .ensures b l .eight _ _ (c .before .fate .given .1))
+    lists-naming _ (b .s) (b .t) (l .xs) (k .xs) _ _ (c .before .before .before .settle .ensures b l .disagreement _ _ (c .before .fate .given .1))
 
 returns-3 : tie.Need-returns-3
 returns-3 c =

@@ -2,7 +2,7 @@
 use mathlib.Core.Path.{_∙_, refl}
 use Rattle.trees.specs.Edition.{folded}
 use Rattle.lists.specs.ReadList.{foldedList}
-use Rattle.mast.specs.Query.{answerTo}
+use Rattle.queries.specs.Query.{answerTo}
 use Rattle.mast.proofs.ClashLaws.{none-clash, some-clash, named, first-named, second-named, third-named}
 use Rattle.mast.proofs.SettleLaws.{clash-none, clash-some, named-trio}
 use borrow.Author.Needs.{needs}
@@ -30,9 +30,12 @@ named-three-requires c κs =
     let m = f .before .before .before .before .before .before .before in
     let g = m .gather .ensures in
     let h = m .before .before .before .pre in
-    let one = first-named (h .s) (h .t) (h .K) _ _ _ _ _ (h .of) _ (g .by-rank) _ _ _ (g .first) (g .second) (f .first-clash .ensures .1) (i .if1 .left) in
-    let two = second-named (h .s) (h .t) (h .K) _ _ _ _ _ (h .of) _ (g .by-rank) _ _ _ (g .first) (g .second) (f .first-clash .ensures .1) (i .if1 .left) in
-    let three = third-named (h .s) (h .t) (h .K) _ _ _ _ _ (h .of) _ (g .by-rank) _ _ _ (g .first) (g .second) (f .first-clash .ensures .1) (i .if1 .left) in
+    let one = first-named (h .s) (h .t) (h .K) _ _ _ _ _ (h .of) _ (g .by-rank) _ _ _ (g .first) (g .second) (f .first-clash .ensures .1)
+    (i .if1 .left) in
+    let two = second-named (h .s) (h .t) (h .K) _ _ _ _ _ (h .of) _ (g .by-rank) _ _ _ (g .first) (g .second) (f .first-clash .ensures .1)
+    (i .if1 .left) in
+    let three = third-named (h .s) (h .t) (h .K) _ _ _ _ _ (h .of) _ (g .by-rank) _ _ _ (g .first) (g .second) (f .first-clash .ensures .1)
+    (i .if1 .left) in
     (one .0, two .0, three .0)
 
 returns-2 : tie.Need-returns-2

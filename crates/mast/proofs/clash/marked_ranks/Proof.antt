@@ -23,8 +23,11 @@ add-rank-requires c κs =
     omega (arith, c .before .before .before .loop .inv .1 .low)
 
 loop-again : tie.Need-loop-again Inv-loop μ-loop
-loop-again c =
-    (omega arith, ranks-next _ (c .before .before .before .before .loop .r) _ _ _ _ (omega arith) (c .before .before .before .before .loop .inv .1) (c .add-rank .ensures))
+loop-again c = (
+  omega arith,
+  ranks-next _ (c .before .before .before .before .loop .r) _ _ _ _ (omega arith)
+      (c .before .before .before .before .loop .inv .1) (c .add-rank .ensures),
+)
 
 returns : tie.Need-returns Inv-loop μ-loop
 returns c =

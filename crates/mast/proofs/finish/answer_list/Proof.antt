@@ -37,12 +37,12 @@ returns-2 c =
     let z = k .before .before in
     let a = z .before .before .before .before .args in (
       λ b l.
-          let w = z .settle .ensures b l .eight _ _ (k .fate .given .1) in
+          let w = z .settle .ensures b l .disagreement _ _ (k .fate .given .1) in
           c .without-set .ensures
           ∙ naming-answer _ (a .out .now) _ _ _ (w .named)
           (answered-naming (a .edition) (treesIn b) (l .xs) (a .out .now) _ _ (w .is)),
       λ b l.
-          let w = z .settle .ensures b l .eight _ _ (k .fate .given .1) in
+          let w = z .settle .ensures b l .disagreement _ _ (k .fate .given .1) in
           naming-output _ (a .out .now) _ _ (answered-naming (a .edition) (treesIn b) (l .xs) (a .out .now) _ _ (w .is)),
     )
 

@@ -1,15 +1,9 @@
 -- `settle::settle` meets its contract. Assumes nothing.
 use mathlib.Core.Path.{refl}
-use Rattle.mast.proofs.MarkLaws.{list-few}
 use Rattle.mast.proofs.SettleLaws.{settled-lack, settled-chosen}
 use borrow.Author.Needs.{needs}
 use Rattle.mast.proofs.settle.settle.Statement.{statement}
 use Rattle.mast.proofs.settle.settle.Tie as tie
-
-mark-list-requires : tie.Need-mark-list-requires
-mark-list-requires c κs =
-    let p = c .before .before .pre in
-    (p .0 .few, list-few (p .1))
 
 returns : tie.Need-returns
 returns c =
@@ -32,4 +26,4 @@ returns-2 c =
 pub settle-spec : {M : Type 1} → statement M
 settle-spec =
     tie.close
-    (tie.spec mark-list-requires (λ c. search needs) returns (λ c. search needs) choose-requires returns-2)
+    (tie.spec (λ c κs. search needs) (λ c. search needs) returns (λ c. search needs) choose-requires returns-2)

@@ -23,19 +23,14 @@ returns-2 c = (
       collected-none (own-proper o) (valid-decoded t vt) (rw (← own-nodes o) h) p k (c .if2 .taken),
 )
 
-insert-leaf-requires : tie.Need-insert-leaf-requires
-insert-leaf-requires c κs = search needs
-
-add-result : tie.Need-add-result
-add-result c = search needs
-
 returns-3 : tie.Need-returns-3
 returns-3 c = (
   omega arith,
   λ s t left nodes o vt b h p k.
       collected-add (own-proper o) (valid-decoded t vt) (rw (← own-nodes o) h) p k (omega (arith, c .before .before .if2 .left)) _ (stored-at o _) _
-      (c .insert-leaf .ensures s left nodes (commonFrom (decoded s) (decoded t) (c .before .before .before .before .before .args .u + 1)) o (from-inc (decoded s) (decoded t) _ (own-proper o .different)) (k .count) (k .first) (k .size1)),
+      (c .insert-leaf .ensures s left nodes (commonFrom (decoded s) (decoded t) (c .before .before .before .before .before .args .u + 1)) o
+      (from-inc (decoded s) (decoded t) _ (own-proper o .different)) (k .count) (k .first) (k .size1)),
 )
 
 pub add-common-spec : {M : Type 1} → statement M
-add-common-spec = tie.close (tie.spec returns returns-2 insert-leaf-requires add-result returns-3)
+add-common-spec = tie.close (tie.spec returns returns-2 (λ c κs. search needs) (λ c. search needs) returns-3)

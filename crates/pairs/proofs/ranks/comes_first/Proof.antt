@@ -5,18 +5,6 @@ use borrow.Author.Needs.{needs}
 use Rattle.pairs.proofs.ranks.comes_first.Statement.{statement}
 use Rattle.pairs.proofs.ranks.comes_first.Tie as tie
 
-compare-stored-requires : tie.Need-compare-stored-requires
-compare-stored-requires c κs = search needs
-
-enum-told : tie.Need-enum-told
-enum-told c = search needs
-
-enum-told-2 : tie.Need-enum-told-2
-enum-told-2 c = search needs
-
-enum-told-3 : tie.Need-enum-told-3
-enum-told-3 c = search needs
-
 returns : tie.Need-returns
 returns c =
     sym (order-less _ _ (sym (c .before .before .compare-stored .ensures) ∙ c .enum-told .given .1))
@@ -32,11 +20,4 @@ returns-3 c =
 pub comes-first-spec : {M : Type 1} → statement M
 comes-first-spec =
     tie.close
-    (tie.spec
-    compare-stored-requires
-    enum-told
-    enum-told-2
-    enum-told-3
-    returns
-    returns-2
-    returns-3)
+    (tie.spec (λ c κs. search needs) (λ c. search needs) (λ c. search needs) (λ c. search needs) returns returns-2 returns-3)

@@ -30,8 +30,13 @@ loop-again c =
     let l = c .before .before .before .before .before .before .before .before in
     let i = l .loop .inv in
     let u-is : l .loop .u ≡ l .loop .u - 1 + 1 = omega arith in
-    let low : l .loop .u - 1 < l .before .before .before .before .before .before .args .tree1 .nodes = omega (arith, i .1, c .before .before .before .before .before .before .before .loop-test .taken) in
-    let partner = rw (c .before .before .before .before .before .before .wide .ensures) at (c .before .before .before .before .leaf-partner .ensures) in (
+    let low : l .loop .u - 1 < l .before .before .before .before .before .before .args .tree1 .nodes = omega (
+      arith,
+      i .1,
+      c .before .before .before .before .before .before .before .loop-test .taken,
+    ) in
+    let partner = rw (c .before .before .before .before .before .before .wide .ensures) at
+    (c .before .before .before .before .leaf-partner .ensures) in (
       c .add-common .ensures .0,
       omega (arith, i .1),
       λ s t o vt b p.

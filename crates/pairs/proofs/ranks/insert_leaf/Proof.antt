@@ -7,26 +7,18 @@ use borrow.Author.Needs.{needs}
 use Rattle.pairs.proofs.ranks.insert_leaf.Statement.{statement}
 use Rattle.pairs.proofs.ranks.insert_leaf.Tie as tie
 
-stored-leaf-requires : tie.Need-stored-leaf-requires
-stored-leaf-requires c κs = search needs
-
-place-of-requires : tie.Need-place-of-requires
-place-of-requires c κs = search needs
-
-open-at-requires : tie.Need-open-at-requires
-open-at-requires c κs = search needs
-
 returns : tie.Need-returns
 returns c =
     λ t left nodes C o inc e n size.
     record {
       place = c .before .before .place-of .result;
       is =
-          subst (λ (x : Label). Place x C (c .before .before .place-of .result)) (ap storedBytes (c .before .before .before .before .stored-leaf .ensures))
+          subst (λ (x : Label). Place x C (c .before .before .place-of .result)) (ap storedBytes
+          (c .before .before .before .before .stored-leaf .ensures))
           (c .before .before .place-of .ensures .1 t left nodes C o inc e n);
       opened = c .open-at .ensures size;
     }
 
 pub insert-leaf-spec : {M : Type 1} → statement M
 insert-leaf-spec =
-    tie.close (tie.spec stored-leaf-requires place-of-requires open-at-requires returns)
+    tie.close (tie.spec (λ c κs. search needs) (λ c κs. search needs) (λ c κs. search needs) returns)

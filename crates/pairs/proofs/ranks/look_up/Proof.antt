@@ -10,9 +10,6 @@ returns : tie.Need-returns
 returns c =
     λ t o. partner-empty o _ 0 (empty-list _ (key-size _ _ ∙ sym (c .before .spelled-size .ensures) ∙ c .if1 .taken))
 
-find-leaf-requires : tie.Need-find-leaf-requires
-find-leaf-requires c κs = search needs
-
 returns-2 : tie.Need-returns-2
 returns-2 c =
     λ t o. partner-missing o _ _ (c .before .find-leaf .ensures) (c .if2 .taken)
@@ -22,4 +19,4 @@ returns-3 c =
     λ t o. partner-found o _ _ (c .before .find-leaf .ensures) (c .if2 .left)
 
 pub look-up-spec : {M : Type 1} → statement M
-look-up-spec = tie.close (tie.spec (λ c κs. search needs) returns find-leaf-requires returns-2 returns-3)
+look-up-spec = tie.close (tie.spec (λ c κs. search needs) returns (λ c κs. search needs) returns-2 returns-3)

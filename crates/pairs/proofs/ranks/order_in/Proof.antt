@@ -1,7 +1,6 @@
 -- `ranks::order_in` meets its contract. Assumes nothing.
 use mathlib.Core.Path.{subst}
 use Prim.Native.Nat.{ℕ}
-use native.Mathlib.Omega.{arith}
 use Rattle.pairs.specs.CommonRanks.{Partners}
 use Rattle.trees.specs.Tree.{decoded}
 use Rattle.trees.proofs.TokenLaws.{valid-decoded}

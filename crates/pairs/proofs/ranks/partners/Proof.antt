@@ -18,7 +18,8 @@ use Rattle.pairs.proofs.ranks.partners.Tie as tie
 
 abbrev Inv-loop : tie.InvT-loop
 Inv-loop edition first tree1 second tree2 start1 size1 left2 start2 size2 partner₀ u₀ partner u =
-    (u ≤ tree1 .nodes) × (length partner ≡ 159) × ((s t : Tree) (left1 : List ℕ) → OwnLeaves s (inEdition edition first) left1 start1 size1 (tree1 .nodes)
+    (u ≤ tree1 .nodes) × (length partner ≡ 159) × ((s t : Tree) (left1 : List ℕ) → OwnLeaves s (inEdition edition first) left1 start1 size1
+    (tree1 .nodes)
     → OwnLeaves t (inEdition edition second) left2 start2 size2 (tree2 .nodes) → Partners u (decoded s) (decoded t) partner)
 
 abbrev μ-loop : tie.MeasureT-loop
@@ -29,38 +30,6 @@ loop-holds : tie.Need-loop-holds Inv-loop μ-loop
 loop-holds c =
     (omega arith, length-replicate {A = ℕ} 159 159, λ s t left1 o q. partners-none (decoded s) (decoded t) _)
 
-slice-aggregate-leaf-label : tie.Need-slice-aggregate-leaf-label Inv-loop μ-loop
-slice-aggregate-leaf-label c =
-    search needs
-
-slice-aggregate-leaf-label-2 : tie.Need-slice-aggregate-leaf-label-2 Inv-loop μ-loop
-slice-aggregate-leaf-label-2 c =
-    search needs
-
-leaf-label-requires : tie.Need-leaf-label-requires Inv-loop μ-loop
-leaf-label-requires c κs =
-    search needs
-
-look-up-requires : tie.Need-look-up-requires Inv-loop μ-loop
-look-up-requires c κs =
-    search needs
-
-mul-partner : tie.Need-mul-partner Inv-loop μ-loop
-mul-partner c =
-    omega arith
-
-array-write-partner : tie.Need-array-write-partner Inv-loop μ-loop
-array-write-partner c =
-    omega arith
-
-add-u : tie.Need-add-u Inv-loop μ-loop
-add-u c =
-    omega arith
-
-loop-less : tie.Need-loop-less Inv-loop μ-loop
-loop-less c =
-    omega arith
-
 loop-again : tie.Need-loop-again Inv-loop μ-loop
 loop-again c =
     let i = c .before .before .before .before .before .before .before .before .before .loop .inv in
@@ -68,9 +37,17 @@ loop-again c =
       omega (arith, c .before .before .before .before .before .before .before .if1 .taken),
       length-set {A = ℕ} (c .before .before .before .before .before .before .before .before .before .loop .partner) _ _ ∙ i .1,
       λ s t left1 o q.
-          partners-next (c .before .before .before .before .before .before .before .before .before .loop .u) (decoded s) (decoded t) (c .before .before .before .before .before .before .before .before .before .loop .partner) _ (omega (arith, c .before .before .before .before .before .before .before .if1 .taken)) (i .1)
+          partners-next (c .before .before .before .before .before .before .before .before .before .loop .u) (decoded s) (decoded t)
+          (c .before .before .before .before .before .before .before .before .before .loop .partner) _ (omega (
+            arith,
+            c .before .before .before .before .before .before .before .if1 .taken,
+          )) (i .1)
           (λ x e.
-          subst (λ (y : Label). PartnerIs (decoded t) y (c .look-up .result)) (ap spelling (ap (inEdition (g .edition)) (c .before .before .before .before .leaf-label .ensures) ∙ sym (fold-part (g .edition) _ _ (g .first .now))) ∙ own-part o (c .before .before .before .before .before .before .before .before .before .loop .u) x (own-leaf-at o (c .before .before .before .before .before .before .before .before .before .loop .u) x (c .before .before .before .before .before .before .before .if1 .taken) e))
+          subst (λ (y : Label). PartnerIs (decoded t) y (c .look-up .result)) (ap spelling (ap (inEdition (g .edition))
+          (c .before .before .before .before .leaf-label .ensures) ∙ sym (fold-part (g .edition) _ _ (g .first .now))) ∙ own-part o
+          (c .before .before .before .before .before .before .before .before .before .loop .u) x (own-leaf-at o
+          (c .before .before .before .before .before .before .before .before .before .loop .u) x
+          (c .before .before .before .before .before .before .before .if1 .taken) e))
           (c .look-up .ensures t q))
           (i .2 s t left1 o q),
     )
@@ -85,17 +62,5 @@ returns c =
 pub partners-spec : {M : Type 1} → statement M
 partners-spec =
     tie.close
-    (tie.spec
-    Inv-loop
-    μ-loop
-    loop-holds
-    slice-aggregate-leaf-label
-    slice-aggregate-leaf-label-2
-    leaf-label-requires
-    look-up-requires
-    mul-partner
-    array-write-partner
-    add-u
-    loop-less
-    loop-again
-    returns)
+    (tie.spec Inv-loop μ-loop loop-holds (λ c. search needs) (λ c. search needs) (λ c κs. search needs) (λ c κs. search needs)
+    (λ c. omega arith) (λ c. omega arith) (λ c. omega arith) (λ c. omega arith) loop-again returns)

@@ -30,65 +30,33 @@ loop-holds : tie.Need-loop-holds Inv-loop μ-loop
 loop-holds c =
     (omega arith, omega arith, λ t left nodes C o i e n. halved-all _ C _ e)
 
-sub-mid : tie.Need-sub-mid Inv-loop μ-loop
-sub-mid c =
-    omega arith
-
-add-mid : tie.Need-add-mid Inv-loop μ-loop
-add-mid c =
-    omega arith
-
-mul-stored-leaf : tie.Need-mul-stored-leaf Inv-loop μ-loop
-mul-stored-leaf c =
-    omega arith
-
-element-copy-out-stored-leaf : tie.Need-element-copy-out-stored-leaf Inv-loop μ-loop
-element-copy-out-stored-leaf c =
-    omega arith
-
-stored-leaf-requires : tie.Need-stored-leaf-requires Inv-loop μ-loop
-stored-leaf-requires c κs =
-    search needs
-
-comes-first-requires : tie.Need-comes-first-requires Inv-loop μ-loop
-comes-first-requires c κs =
-    search needs
-
-loop-less : tie.Need-loop-less Inv-loop μ-loop
-loop-less c =
-    omega arith
-
 loop-again : tie.Need-loop-again Inv-loop μ-loop
 loop-again c =
-    let mid = c .before .before .before .before .before .before .before .loop .low + (c .before .before .before .before .before .before .before .loop .high - c .before .before .before .before .before .before .before .loop .low) / 2 in (
+    let mid = c .before .before .before .before .before .before .before .loop .low +
+    (c .before .before .before .before .before .before .before .loop .high - c .before .before .before .before .before .before .before .loop .low) / 2 in (
       omega arith,
       omega arith,
       λ t left nodes C o i e n.
           let b : mid < length C = omega arith in
           let x = ap storedBytes (c .before .before .stored-leaf .ensures) ∙ stored-at o _ _ (n mid b) in
           halved-low (storedBytes (c .before .before .before .before .before .before .before .before .before .args .label)) C _ _ mid i b
-          (ap (labelLess (storedBytes (c .before .before .before .before .before .before .before .before .before .args .label))) (sym x) ∙ sym (c .before .comes-first .ensures) ∙ c .if1 .taken)
+          (ap (labelLess (storedBytes (c .before .before .before .before .before .before .before .before .before .args .label))) (sym x)
+          ∙ sym (c .before .comes-first .ensures) ∙ c .if1 .taken)
           (c .before .before .before .before .before .before .before .loop .inv .2 t left nodes C o i e n),
     )
 
-add-low : tie.Need-add-low Inv-loop μ-loop
-add-low c =
-    omega arith
-
-loop-less-2 : tie.Need-loop-less-2 Inv-loop μ-loop
-loop-less-2 c =
-    omega arith
-
 loop-again-2 : tie.Need-loop-again-2 Inv-loop μ-loop
 loop-again-2 c =
-    let mid = c .before .before .before .before .before .before .before .loop .low + (c .before .before .before .before .before .before .before .loop .high - c .before .before .before .before .before .before .before .loop .low) / 2 in (
+    let mid = c .before .before .before .before .before .before .before .loop .low +
+    (c .before .before .before .before .before .before .before .loop .high - c .before .before .before .before .before .before .before .loop .low) / 2 in (
       omega arith,
       omega arith,
       λ t left nodes C o i e n.
           let b : mid < length C = omega arith in
           let x = ap storedBytes (c .before .before .stored-leaf .ensures) ∙ stored-at o _ _ (n mid b) in
           halved-high (storedBytes (c .before .before .before .before .before .before .before .before .before .args .label)) C _ _ mid i b
-          (ap (labelLess (storedBytes (c .before .before .before .before .before .before .before .before .before .args .label))) (sym x) ∙ sym (c .before .comes-first .ensures) ∙ c .if1 .left)
+          (ap (labelLess (storedBytes (c .before .before .before .before .before .before .before .before .before .args .label))) (sym x)
+          ∙ sym (c .before .comes-first .ensures) ∙ c .if1 .left)
           (c .before .before .before .before .before .before .before .loop .inv .2 t left nodes C o i e n),
     )
 
@@ -102,19 +70,5 @@ returns c =
 pub place-of-spec : {M : Type 1} → statement M
 place-of-spec =
     tie.close
-    (tie.spec
-    Inv-loop
-    μ-loop
-    loop-holds
-    sub-mid
-    add-mid
-    mul-stored-leaf
-    element-copy-out-stored-leaf
-    stored-leaf-requires
-    comes-first-requires
-    loop-less
-    loop-again
-    add-low
-    loop-less-2
-    loop-again-2
-    returns)
+    (tie.spec Inv-loop μ-loop loop-holds (λ c. omega arith) (λ c. omega arith) (λ c. omega arith) (λ c. omega arith)
+    (λ c κs. search needs) (λ c κs. search needs) (λ c. omega arith) loop-again (λ c. omega arith) (λ c. omega arith) loop-again-2 returns)

@@ -28,7 +28,8 @@ returns c = (
   λ s t left-is nodes-is v p.
       record {
         found = λ h.
-            lone-found left-is nodes-is v p _ (c .before .before .before .before .before .before .loop .inv .1 s t left-is nodes-is v p) (omega (arith, c .before .before .before .before .before .loop-test .taken))
+            lone-found left-is nodes-is v p _ (c .before .before .before .before .before .before .loop .inv .1 s t left-is nodes-is v p)
+            (omega (arith, c .before .before .before .before .before .loop-test .taken))
             (sym (rw (c .before .before .before .wide .ensures) at (c .before .is-lone .ensures)) ∙ c .if1 .taken);
         missing = λ h. absurd (omega (arith, nodes-is, c .before .before .before .before .before .loop-test .taken));
       },
@@ -38,7 +39,8 @@ loop-again : tie.Need-loop-again Inv-loop μ-loop
 loop-again c = (
   omega arith,
   λ s t left-is nodes-is v p.
-      lone-next left-is nodes-is v p _ (c .before .before .before .before .before .before .loop .inv .1 s t left-is nodes-is v p) (omega (arith, c .before .before .before .before .before .loop-test .taken))
+      lone-next left-is nodes-is v p _ (c .before .before .before .before .before .before .loop .inv .1 s t left-is nodes-is v p) (omega
+      (arith, c .before .before .before .before .before .loop-test .taken))
       (sym (rw (c .before .before .before .wide .ensures) at (c .before .is-lone .ensures)) ∙ c .if1 .left),
 )
 
@@ -48,7 +50,11 @@ returns-2 c = (
   λ s t left-is nodes-is v p.
       record {
         found = λ h. absurd (omega (arith, nodes-is, c .loop-test .left));
-        missing = λ h. lone-none left-is nodes-is v p (c .before .loop .u) (c .before .loop .inv .1 s t left-is nodes-is v p) (omega (arith, nodes-is, h));
+        missing = λ h. lone-none left-is nodes-is v p (c .before .loop .u) (c .before .loop .inv .1 s t left-is nodes-is v p) (omega (
+          arith,
+          nodes-is,
+          h,
+        ));
       },
 )
 

@@ -10,13 +10,21 @@ use Rattle.pairs.proofs.strict.pair_leaves.Tie as tie
 returns : tie.Need-returns
 returns c =
     λ s t one two.
-    record { partners = c .before .before .partners .ensures (folded _ s) (folded _ t) one two; told = paired-plain _ s t (not-true _ (c .if1 .taken)) }
+    record {
+      partners = c .before .before .partners .ensures (folded _ s) (folded _ t) one two;
+      told = paired-plain _ s t (not-true _
+          (c .if1 .taken));
+    }
 
 returns-2 : tie.Need-returns-2
 returns-2 c =
     λ s t one two.
     let p = c .before .before .before .before .partners .ensures (folded _ s) (folded _ t) one two in
-    record { partners = p; told = c .stray-leaf .ensures (folded _ s) (folded _ t) _ _ one two p ∙ paired-strict _ s t (not-false _ (c .before .before .if1 .left)) }
+    record {
+      partners = p;
+      told = c .stray-leaf .ensures (folded _ s) (folded _ t) _ _ one two p ∙ paired-strict _ s t (not-false _
+          (c .before .before .if1 .left));
+    }
 
 pub pair-leaves-spec : {M : Type 1} → statement M
 pair-leaves-spec = tie.close (tie.spec (λ c κs. search needs) returns (λ c κs. search needs) returns-2)

@@ -21,20 +21,33 @@ returns-2 c =
     λ s t first second one two p.
     let l = c .before .before .before .before .before .before .before .before .before .before .before .before .before in
     let lone = l .lone-leaf .ensures .1 (decoded s) (decoded t) (own-left one) (own-nodes one) (own-proper two) p in
-    let back = c .before .before .before .before .before .before .before .before .before .turned-round .ensures (decoded s) (decoded t) (own-left one) (own-nodes one) (own-proper two) p in
-    let other = c .before .before .before .before .lone-leaf2 .ensures .1 (decoded t) (decoded s) (own-left two) (own-nodes two) (own-proper one) (partners-of (own-nodes two) back) in
+    let back = c .before .before .before .before .before .before .before .before .before .turned-round .ensures (decoded s) (decoded t)
+    (own-left one) (own-nodes one) (own-proper two) p in
+    let other = c .before .before .before .before .lone-leaf2 .ensures .1 (decoded t) (decoded s) (own-left two) (own-nodes two)
+    (own-proper one) (partners-of (own-nodes two) back) in
     c .stray2 .ensures ∙ ap (strayAt T) (c .before .wide-place2 .ensures)
-    ∙ shared-second one two lone (omega (arith, c .before .before .before .before .before .before .before .before .before .before .before .if1 .left, l .lone-leaf .ensures .0)) other (c .before .before .if2 .taken)
+    ∙ shared-second one two lone (omega (
+      arith,
+      c .before .before .before .before .before .before .before .before .before .before .before .if1 .left,
+      l .lone-leaf .ensures .0,
+    )) other
+    (c .before .before .if2 .taken)
 
 returns-3 : tie.Need-returns-3
 returns-3 c =
     λ s t first second one two p.
     let l = c .before .before .before .before .before .before .before .before .before .before .before in
     let lone = l .lone-leaf .ensures .1 (decoded s) (decoded t) (own-left one) (own-nodes one) (own-proper two) p in
-    let back = c .before .before .before .before .before .before .before .turned-round .ensures (decoded s) (decoded t) (own-left one) (own-nodes one) (own-proper two) p in
+    let back = c .before .before .before .before .before .before .before .turned-round .ensures (decoded s) (decoded t) (own-left one)
+    (own-nodes one) (own-proper two) p in
     let o = c .before .before in
-    let other = o .lone-leaf2 .ensures .1 (decoded t) (decoded s) (own-left two) (own-nodes two) (own-proper one) (partners-of (own-nodes two) back) in
-    shared-all one two lone (omega (arith, c .before .before .before .before .before .before .before .before .before .if1 .left, l .lone-leaf .ensures .0)) other
+    let other = o .lone-leaf2 .ensures .1 (decoded t) (decoded s) (own-left two) (own-nodes two) (own-proper one) (partners-of
+    (own-nodes two) back) in
+    shared-all one two lone (omega (
+      arith,
+      c .before .before .before .before .before .before .before .before .before .if1 .left,
+      l .lone-leaf .ensures .0,
+    )) other
     (omega (arith, c .if2 .left, o .lone-leaf2 .ensures .0))
 
 pub stray-leaf-spec : {M : Type 1} → statement M

@@ -31,7 +31,8 @@ loop-again c = (
       let i = c .before .before .before .before .before .before .before .loop .inv .1 s t left-is nodes-is v p in
       let h = c .before .before .before .before .before .before .loop-test .taken in
       subst (Turned s t (c .before .before .before .before .before .before .before .loop .u + 1)) (sym (c .put-at .ensures (i .size)))
-      (turned-next v (rw (← nodes-is) h) (node-partner left-is nodes-is t _ p _ _ h (rw (c .before .before .before .wide .ensures) at (c .before .leaf-partner .ensures))) i),
+      (turned-next v (rw (← nodes-is) h) (node-partner left-is nodes-is t _ p _ _ h (rw (c .before .before .before .wide .ensures) at
+      (c .before .leaf-partner .ensures))) i),
 )
 
 returns : tie.Need-returns Inv-loop μ-loop

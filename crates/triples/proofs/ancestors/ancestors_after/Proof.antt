@@ -22,25 +22,6 @@ loop-holds : tie.Need-loop-holds Inv-loop μ-loop
 loop-holds c =
     (omega arith, simp length-replicate, sym (span-end _ _ _ _ (omega arith)), λ v h k. absurd (omega arith))
 
-sub-w : tie.Need-sub-w Inv-loop μ-loop
-sub-w c =
-    omega arith
-
-nearer-requires : tie.Need-nearer-requires Inv-loop μ-loop
-nearer-requires c κs =
-    omega arith
-
-narrow-requires : tie.Need-narrow-requires Inv-loop μ-loop
-narrow-requires c κs = search needs
-
-array-write-at : tie.Need-array-write-at Inv-loop μ-loop
-array-write-at c =
-    omega arith
-
-loop-less : tie.Need-loop-less Inv-loop μ-loop
-loop-less c =
-    omega arith
-
 loop-again : tie.Need-loop-again Inv-loop μ-loop
 loop-again c =
     let c3 = c .before .before .before in
@@ -64,14 +45,5 @@ returns c =
 pub ancestors-after-spec : {M : Type 1} → statement M
 ancestors-after-spec =
     tie.close
-    (tie.spec
-    Inv-loop
-    μ-loop
-    loop-holds
-    sub-w
-    nearer-requires
-    narrow-requires
-    array-write-at
-    loop-less
-    loop-again
-    returns)
+    (tie.spec Inv-loop μ-loop loop-holds (λ c. omega arith) (λ c κs. omega arith) (λ c κs. search needs) (λ c. omega arith)
+    (λ c. omega arith) loop-again returns)

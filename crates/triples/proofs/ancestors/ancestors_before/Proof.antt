@@ -22,26 +22,6 @@ loop-holds : tie.Need-loop-holds Inv-loop μ-loop
 loop-holds c =
     (omega arith, simp length-replicate, λ a h. refl, λ a h k. absurd (omega arith))
 
-sub-v : tie.Need-sub-v Inv-loop μ-loop
-sub-v c =
-    omega arith
-
-next-spanning-requires : tie.Need-next-spanning-requires Inv-loop μ-loop
-next-spanning-requires c κs =
-    omega arith
-
-narrow-requires : tie.Need-narrow-requires Inv-loop μ-loop
-narrow-requires c κs =
-    search needs
-
-array-write-at : tie.Need-array-write-at Inv-loop μ-loop
-array-write-at c =
-    omega arith
-
-loop-less : tie.Need-loop-less Inv-loop μ-loop
-loop-less c =
-    omega arith
-
 loop-again : tie.Need-loop-again Inv-loop μ-loop
 loop-again c =
     let c3 = c .before .before .before in
@@ -64,14 +44,5 @@ returns c =
 pub ancestors-before-spec : {M : Type 1} → statement M
 ancestors-before-spec =
     tie.close
-    (tie.spec
-    Inv-loop
-    μ-loop
-    loop-holds
-    sub-v
-    next-spanning-requires
-    narrow-requires
-    array-write-at
-    loop-less
-    loop-again
-    returns)
+    (tie.spec Inv-loop μ-loop loop-holds (λ c. omega arith) (λ c κs. omega arith) (λ c κs. search needs) (λ c. omega arith)
+    (λ c. omega arith) loop-again returns)

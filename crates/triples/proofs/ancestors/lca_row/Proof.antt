@@ -17,41 +17,9 @@ abbrev μ-loop : tie.MeasureT-loop
 μ-loop low nodes leaf count i u before after row₀ q₀ row q =
     count - q
 
-leaf-of-requires : tie.Need-leaf-of-requires Inv-loop μ-loop
-leaf-of-requires c κs =
-    omega arith
-
-ancestors-before-requires : tie.Need-ancestors-before-requires Inv-loop μ-loop
-ancestors-before-requires c κs =
-    omega arith
-
-ancestors-after-requires : tie.Need-ancestors-after-requires Inv-loop μ-loop
-ancestors-after-requires c κs =
-    omega arith
-
 loop-holds : tie.Need-loop-holds Inv-loop μ-loop
 loop-holds c =
     (omega arith, simp length-replicate, λ k h. absurd (omega arith))
-
-leaf-of-requires-2 : tie.Need-leaf-of-requires-2 Inv-loop μ-loop
-leaf-of-requires-2 c κs =
-    omega arith
-
-on-side-requires : tie.Need-on-side-requires Inv-loop μ-loop
-on-side-requires c κs =
-    omega arith
-
-array-write-row : tie.Need-array-write-row Inv-loop μ-loop
-array-write-row c =
-    omega arith
-
-add-q : tie.Need-add-q Inv-loop μ-loop
-add-q c =
-    omega arith
-
-loop-less : tie.Need-loop-less Inv-loop μ-loop
-loop-less c =
-    omega arith
 
 loop-again : tie.Need-loop-again Inv-loop μ-loop
 loop-again c =
@@ -85,17 +53,5 @@ returns c =
 pub lca-row-spec : {M : Type 1} → statement M
 lca-row-spec =
     tie.close
-    (tie.spec
-    Inv-loop
-    μ-loop
-    leaf-of-requires
-    ancestors-before-requires
-    ancestors-after-requires
-    loop-holds
-    leaf-of-requires-2
-    on-side-requires
-    array-write-row
-    add-q
-    loop-less
-    loop-again
-    returns)
+    (tie.spec Inv-loop μ-loop (λ c κs. omega arith) (λ c κs. omega arith) (λ c κs. omega arith) loop-holds (λ c κs. omega arith)
+    (λ c κs. omega arith) (λ c. omega arith) (λ c. omega arith) (λ c. omega arith) loop-again returns)

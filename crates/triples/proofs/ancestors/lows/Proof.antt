@@ -20,26 +20,6 @@ loop-holds : tie.Need-loop-holds Inv-loop μ-loop
 loop-holds c =
     (omega arith, simp length-replicate, λ v h. absurd (omega arith))
 
-low-at-requires : tie.Need-low-at-requires Inv-loop μ-loop
-low-at-requires c κs =
-    omega arith
-
-mul-low : tie.Need-mul-low Inv-loop μ-loop
-mul-low c =
-    omega arith
-
-array-write-low : tie.Need-array-write-low Inv-loop μ-loop
-array-write-low c =
-    omega arith
-
-add-u : tie.Need-add-u Inv-loop μ-loop
-add-u c =
-    omega arith
-
-loop-less : tie.Need-loop-less Inv-loop μ-loop
-loop-less c =
-    omega arith
-
 loop-again : tie.Need-loop-again Inv-loop μ-loop
 loop-again c =
     let c4 = c .before .before .before .before in
@@ -57,14 +37,5 @@ returns c =
 pub lows-spec : {M : Type 1} → statement M
 lows-spec =
     tie.close
-    (tie.spec
-    Inv-loop
-    μ-loop
-    loop-holds
-    low-at-requires
-    mul-low
-    array-write-low
-    add-u
-    loop-less
-    loop-again
-    returns)
+    (tie.spec Inv-loop μ-loop loop-holds (λ c κs. omega arith) (λ c. omega arith) (λ c. omega arith) (λ c. omega arith) (λ c. omega arith)
+    loop-again returns)

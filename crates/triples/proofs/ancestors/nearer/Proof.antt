@@ -5,12 +5,6 @@ use borrow.Author.Needs.{needs}
 use Rattle.triples.proofs.ancestors.nearer.Statement.{statement}
 use Rattle.triples.proofs.ancestors.nearer.Tie as tie
 
-mul-if1 : tie.Need-mul-if1
-mul-if1 c = search needs
-
-element-copy-out-if1 : tie.Need-element-copy-out-if1
-element-copy-out-if1 c = search needs
-
 returns : tie.Need-returns
 returns c =
     rw (le-leb _ _ (c .if1 .taken)) refl
@@ -20,4 +14,4 @@ returns-2 c =
     rw (lt-leb _ _ (c .if1 .left)) refl
 
 pub nearer-spec : {M : Type 1} → statement M
-nearer-spec = tie.close (tie.spec mul-if1 element-copy-out-if1 returns returns-2)
+nearer-spec = tie.close (tie.spec (λ c. search needs) (λ c. search needs) returns returns-2)

@@ -5,12 +5,6 @@ use borrow.Author.Needs.{needs}
 use Rattle.triples.proofs.ancestors.on_side.Statement.{statement}
 use Rattle.triples.proofs.ancestors.on_side.Tie as tie
 
-element-copy-out-result : tie.Need-element-copy-out-result
-element-copy-out-result c = search needs
-
-element-copy-out-result-2 : tie.Need-element-copy-out-result-2
-element-copy-out-result-2 c = search needs
-
 returns : tie.Need-returns
 returns c =
     rw (lt-ltb _ _ (c .before .if1 .taken)) refl
@@ -21,4 +15,4 @@ returns-2 c =
 
 pub on-side-spec : {M : Type 1} → statement M
 on-side-spec =
-    tie.close (tie.spec element-copy-out-result element-copy-out-result-2 returns returns-2)
+    tie.close (tie.spec (λ c. search needs) (λ c. search needs) returns returns-2)

@@ -21,44 +21,10 @@ abbrev μ-loop : tie.MeasureT-loop
 μ-loop row1 row2 count j x1 x2 found₀ k₀ found k =
     count - k
 
-element-copy-out-x1 : tie.Need-element-copy-out-x1 Inv-loop μ-loop
-element-copy-out-x1 c =
-    omega arith
-
-element-copy-out-x2 : tie.Need-element-copy-out-x2 Inv-loop μ-loop
-element-copy-out-x2 c =
-    omega arith
-
-add-k : tie.Need-add-k Inv-loop μ-loop
-add-k c =
-    omega arith
-
 loop-holds : tie.Need-loop-holds Inv-loop μ-loop
 unfolding thirdOf
 loop-holds c =
     (omega arith, refl, refl, λ clash i h t. refl)
-
-element-copy-out-apart : tie.Need-element-copy-out-apart Inv-loop μ-loop
-element-copy-out-apart c =
-    omega arith
-
-element-copy-out-apart-2 : tie.Need-element-copy-out-apart-2 Inv-loop μ-loop
-element-copy-out-apart-2 c =
-    omega arith
-
-apart-requires : tie.Need-apart-requires Inv-loop μ-loop
-apart-requires c κs = search needs
-
-either-requires : tie.Need-either-requires Inv-loop μ-loop
-either-requires c κs = search needs
-
-add-k-2 : tie.Need-add-k-2 Inv-loop μ-loop
-add-k-2 c =
-    omega arith
-
-loop-less : tie.Need-loop-less Inv-loop μ-loop
-loop-less c =
-    omega arith
 
 loop-again : tie.Need-loop-again Inv-loop μ-loop
 loop-again c =
@@ -88,18 +54,5 @@ returns c =
 pub any-apart-spec : {M : Type 1} → statement M
 any-apart-spec =
     tie.close
-    (tie.spec
-    Inv-loop
-    μ-loop
-    element-copy-out-x1
-    element-copy-out-x2
-    add-k
-    loop-holds
-    element-copy-out-apart
-    element-copy-out-apart-2
-    apart-requires
-    either-requires
-    add-k-2
-    loop-less
-    loop-again
-    returns)
+    (tie.spec Inv-loop μ-loop (λ c. omega arith) (λ c. omega arith) (λ c. omega arith) loop-holds (λ c. omega arith) (λ c. omega arith)
+    (λ c κs. search needs) (λ c κs. search needs) (λ c. omega arith) (λ c. omega arith) loop-again returns)

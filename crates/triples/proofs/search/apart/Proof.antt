@@ -6,19 +6,10 @@ use borrow.Author.Needs.{needs}
 use Rattle.triples.proofs.search.apart.Statement.{statement}
 use Rattle.triples.proofs.search.apart.Tie as tie
 
-differs-requires : tie.Need-differs-requires
-differs-requires c κs = search needs
-
-differs-requires-2 : tie.Need-differs-requires-2
-differs-requires-2 c κs = search needs
-
-either-requires : tie.Need-either-requires
-either-requires c κs = search needs
-
 returns : tie.Need-returns
 unfolding apartOf
 returns c =
     c .either .ensures ∙ ap₂ (λ (a b : Bool). a || b) (c .before .before .differs .ensures) (c .before .differs2 .ensures)
 
 pub apart-spec : {M : Type 1} → statement M
-apart-spec = tie.close (tie.spec differs-requires differs-requires-2 either-requires returns)
+apart-spec = tie.close (tie.spec (λ c κs. search needs) (λ c κs. search needs) (λ c κs. search needs) returns)

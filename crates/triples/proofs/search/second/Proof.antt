@@ -19,18 +19,10 @@ abbrev μ-loop : tie.MeasureT-loop
 μ-loop row1 row2 count i j₀ j =
     count - j
 
-add-j : tie.Need-add-j Inv-loop μ-loop
-add-j c =
-    omega arith
-
 loop-holds : tie.Need-loop-holds Inv-loop μ-loop
 unfolding secondOf
 loop-holds c =
     (omega arith, omega arith, λ clash t. refl)
-
-any-apart-requires : tie.Need-any-apart-requires Inv-loop μ-loop
-any-apart-requires c κs =
-    omega arith
 
 returns : tie.Need-returns Inv-loop μ-loop
 returns c =
@@ -42,14 +34,6 @@ returns c =
     sym (from-hit (λ k. ltb (thirdOf clash (a .count) k) (a .count)) (a .count) (c3 .loop .j)
     (sym (c .before .any-apart .ensures clash (a .i) (inv .0) t) ∙ c .if1 .taken))
     ∙ inv .2 clash t
-
-add-j-2 : tie.Need-add-j-2 Inv-loop μ-loop
-add-j-2 c =
-    omega arith
-
-loop-less : tie.Need-loop-less Inv-loop μ-loop
-loop-less c =
-    omega arith
 
 loop-again : tie.Need-loop-again Inv-loop μ-loop
 loop-again c =
@@ -72,14 +56,5 @@ returns-2 c =
 pub second-spec : {M : Type 1} → statement M
 second-spec =
     tie.close
-    (tie.spec
-    Inv-loop
-    μ-loop
-    add-j
-    loop-holds
-    any-apart-requires
-    returns
-    add-j-2
-    loop-less
-    loop-again
+    (tie.spec Inv-loop μ-loop (λ c. omega arith) loop-holds (λ c κs. omega arith) returns (λ c. omega arith) (λ c. omega arith) loop-again
     returns-2)

@@ -20,33 +20,10 @@ abbrev μ-loop : tie.MeasureT-loop
 μ-loop row1 row2 count j x1 x2 k₀ k =
     count - k
 
-element-copy-out-x1 : tie.Need-element-copy-out-x1 Inv-loop μ-loop
-element-copy-out-x1 c =
-    omega arith
-
-element-copy-out-x2 : tie.Need-element-copy-out-x2 Inv-loop μ-loop
-element-copy-out-x2 c =
-    omega arith
-
-add-k : tie.Need-add-k Inv-loop μ-loop
-add-k c =
-    omega arith
-
 loop-holds : tie.Need-loop-holds Inv-loop μ-loop
 unfolding thirdOf
 loop-holds c =
     (omega arith, refl, refl, λ clash i h t. refl)
-
-element-copy-out-apart : tie.Need-element-copy-out-apart Inv-loop μ-loop
-element-copy-out-apart c =
-    omega arith
-
-element-copy-out-apart-2 : tie.Need-element-copy-out-apart-2 Inv-loop μ-loop
-element-copy-out-apart-2 c =
-    omega arith
-
-apart-requires : tie.Need-apart-requires Inv-loop μ-loop
-apart-requires c κs = search needs
 
 returns : tie.Need-returns Inv-loop μ-loop
 returns c =
@@ -61,14 +38,6 @@ returns c =
     ∙ ap₂ (λ (x y : ℕ). apartOf x (getD (a .row1 .now) k 0) y (getD (a .row2 .now) k 0)) (sym (inv .1)) (sym (inv .2))
     ∙ sym (c .before .apart .ensures) ∙ c .if1 .taken))
     ∙ inv .3 clash i h t
-
-add-k-2 : tie.Need-add-k-2 Inv-loop μ-loop
-add-k-2 c =
-    omega arith
-
-loop-less : tie.Need-loop-less Inv-loop μ-loop
-loop-less c =
-    omega arith
 
 loop-again : tie.Need-loop-again Inv-loop μ-loop
 loop-again c =
@@ -96,18 +65,5 @@ returns-2 c =
 pub third-spec : {M : Type 1} → statement M
 third-spec =
     tie.close
-    (tie.spec
-    Inv-loop
-    μ-loop
-    element-copy-out-x1
-    element-copy-out-x2
-    add-k
-    loop-holds
-    element-copy-out-apart
-    element-copy-out-apart-2
-    apart-requires
-    returns
-    add-k-2
-    loop-less
-    loop-again
-    returns-2)
+    (tie.spec Inv-loop μ-loop (λ c. omega arith) (λ c. omega arith) (λ c. omega arith) loop-holds (λ c. omega arith) (λ c. omega arith)
+    (λ c κs. search needs) returns (λ c. omega arith) (λ c. omega arith) loop-again returns-2)

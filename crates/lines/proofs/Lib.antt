@@ -1,0 +1,5 @@
+pub mod AreaLaws
+pub mod LineLaws
+pub mod OutputLaws
+pub mod Promises
+pub mod ShortLaws

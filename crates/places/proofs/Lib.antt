@@ -1,0 +1,9 @@
+pub mod DownwardLaws
+pub mod LineLaws
+pub mod MarkLaws
+pub mod PieceLaws
+pub mod Promises
+pub mod RankLaws
+pub mod TopLaws
+pub mod UpwardLaws
+pub mod WholeLaws

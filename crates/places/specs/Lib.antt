@@ -1,0 +1,3 @@
+pub mod PieceRanks
+pub mod Nodes
+pub mod Marks

@@ -1,0 +1,5 @@
+pub mod ListLaws
+pub mod LookupLaws
+pub mod MarkLaws
+pub mod Promises
+pub mod ReadLaws

@@ -1,0 +1,5 @@
+pub mod FirstMarks
+pub mod ListRead
+pub mod Missing
+pub mod Query
+pub mod RankedList
