@@ -1,5 +1,5 @@
 /* Calls the engine from C, through each entry: an answer, each refusal that it can give, an output that is too short, empty inputs,
- * options, claims. Prints one line for each call, which .ci/run compares with examples/host.out. Each call is made in a thread whose stack has just
+ * options, claims, pieces. Prints one line for each call, which .ci/run compares with examples/host.out. Each call is made in a thread whose stack has just
  * the bytes that agree.h tells, and what the C library itself keeps there:
  *
  *     gcc -pthread -Iinclude -o host examples/host.c target/staticlib/libcabi.a
@@ -12,6 +12,9 @@
 
 /* Thread data, thread-local variables and the first frames: less than two pages with glibc on x86-64. */
 #define THREAD_OWN 8192
+
+/* Bytes of the lines `size`, `set` and `tree` at their longest, without those of pieces. */
+#define RECORD_ROOM 5776
 
 static int failed;
 
@@ -185,36 +188,58 @@ static const char *longest(void)
     return caterpillar_of(text, LONGEST_LABEL);
 }
 
-/* All its labels. */
-static const char *longest_list(void)
+/* The first of its labels, so many. */
+static const char *longest_list(int count)
 {
     static char list[AGREE_TREE_ROOM];
     size_t n = 0;
-    for (int i = 0; i < 80; i++) {
-        if (i > 0)
-            list[n++] = ',';
-        n += (size_t)sprintf(list + n, LONGEST_LABEL, i);
-    }
+    for (int i = 0; i < count; i++)
+        n += (size_t)sprintf(list + n, "%s" LONGEST_LABEL, i > 0 ? "," : "", i);
     return list;
 }
 
-/* The job of this tree twice, and of a list of all its labels, with lines before their lengths: no answer is longer. */
-static const char *longest_job(const char *lines)
+/* The job of a tree twice and a list, with lines before their lengths. */
+static const char *job_of(const char *lines, const char *tree, const char *list)
 {
-    static char text[3 * AGREE_TREE_ROOM];
-    const char *tree = longest(), *list = longest_list();
+    static char text[4 * AGREE_TREE_ROOM];
     sprintf(text, "%sS %zu\nT %zu\nK %zu\n\n%s%s%s", lines, strlen(tree), strlen(tree), strlen(list), tree, tree, list);
     return text;
+}
+
+/* With all its labels required: no record is longer. */
+static const char *longest_job(const char *lines)
+{
+    return job_of(lines, longest(), longest_list(80));
 }
 
 /* The same with all labels claimed: no job whose claim passes is longer, but for such lines. */
 static const char *longest_claim(const char *lines)
 {
     static char text[4 * AGREE_TREE_ROOM];
-    const char *tree = longest(), *list = longest_list();
+    const char *tree = longest(), *list = longest_list(80);
     size_t n = strlen(tree), m = strlen(list);
     sprintf(text, "%sS %zu\nT %zu\nK %zu\nC %zu\n\n%s%s%s%s", lines, n, n, m, m, tree, tree, list, list);
     return text;
+}
+
+/* As many leaves as may be, of which 27 are required and each of the others hangs at a place of its own, 53 places in all. Leaf 0 is the
+ * innermost of the required ones; a further one and the leaf above it are joined above all before, and then one more leaf. */
+static const char *pieced(void)
+{
+    static char text[AGREE_TREE_ROOM + 1];
+    size_t n = 53;
+    memset(text, '(', n);
+    n += (size_t)sprintf(text + n, LONGEST_LABEL "," LONGEST_LABEL ")", 0, 27);
+    for (int i = 1; i < 27; i++)
+        n += (size_t)sprintf(text + n, ",(" LONGEST_LABEL "," LONGEST_LABEL "))," LONGEST_LABEL ")", i, 27 + i, 53 + i);
+    strcpy(text + n, ";");
+    return text;
+}
+
+/* With the line `pieces` no answer is longer. */
+static const char *pieces_job(const char *lines)
+{
+    return job_of(lines, pieced(), longest_list(27));
 }
 
 /* The labels of the first of these trees in a list, and what may follow. */
@@ -273,8 +298,8 @@ static void edition_jobs(void)
     job("strict\nE 2\nS 10\nT 8\nK 1\n\n('a b',c);(C,A_B);C", AGREE_LINES_ROOM);
     job("E 2\nstrict\nS 10\nT 8\nK 1\n\n('a b',c);(C,A_B);C", AGREE_LINES_ROOM);
     job("E 3\nS 10\nT 8\nK 1\n\n('a b',c);(C,A_B);C", AGREE_LINES_ROOM);
-    job(longest_job("strict\nE 2\n"), AGREE_LINES_ROOM);
-    job(longest_job("strict\nE 2\n"), AGREE_LINES_ROOM - 1);
+    job(longest_job("strict\nE 2\n"), RECORD_ROOM);
+    job(longest_job("strict\nE 2\n"), RECORD_ROOM - 1);
 }
 
 #define P "((((a,b),c),d),e);"
@@ -333,7 +358,7 @@ static void claims(void)
     claim(AGREE_STRICT + 4, "(a b);", "a;", "a,", ",");
     claim(SIZE_MAX, "(a,b);", "(b,a);", "a", "b,a");
     /* as many labels as may be, and one more */
-    claim(AGREE_STRICT, longest(), longest(), longest_list(), longest_list());
+    claim(AGREE_STRICT, longest(), longest(), longest_list(80), longest_list(80));
     claim(0, caterpillar(), caterpillar(), "t79,t00", eighty_and(""));
     claim(0, caterpillar(), caterpillar(), "t79,t00", eighty_and(",'t80'"));
     struct agree_result r = agree_claim(0, NULL, 0, NULL, 0, NULL, 0, NULL, 0);
@@ -361,6 +386,37 @@ static void claim_jobs(void)
     job("S 2\nT 2\nC 1\nK 1\n\na;a;aa", AGREE_LINES_ROOM);
     job("S 16\nT 18\nK 13\nC 3\n\n((a_b,'c_d'),e);(('a b',e),'c_d');'a b','c_d',e" "a_b", AGREE_LINES_ROOM);
     job(longest_claim("strict\nE 2\n"), AGREE_LINES_ROOM);
+}
+
+static void piece_jobs(void)
+{
+    const char *four = "pieces\nS 14\nT 14\nK 1\n\n((a,b),(c,d));((a,c),(b,d));a";
+    job(four, AGREE_LINES_ROOM);
+    job(four, 47);
+    job(four, 46);
+    job("pieces\nS 14\nT 14\nK 3\n\n(((a,x),b),y);(y,(b,(x,a)));b,a", AGREE_LINES_ROOM);
+    /* nothing required, nothing shared, all required */
+    job("pieces\nS 14\nT 14\nK 0\n\n((a,b),(c,d));((a,c),(b,d));", AGREE_LINES_ROOM);
+    job("pieces\nS 2\nT 2\nK 0\n\na;b;", AGREE_LINES_ROOM);
+    job("pieces\nS 6\nT 6\nK 3\n\n(a,b);(b,a);b,a", AGREE_LINES_ROOM);
+    /* a leaf at two places is on no line */
+    job("pieces\nS 10\nT 10\nK 3\n\n((a,b),c);((a,c),b);a,c", AGREE_LINES_ROOM);
+    /* labels as the first tree spells them */
+    job("strict\nE 2\npieces\nS 16\nT 18\nK 7\n\n((A_b,'x_Y'),c);(('X_y','a B'),C);'a b',C", AGREE_LINES_ROOM);
+    /* what a job is refused for without the line; a claim, an empty one too; the line twice and at a wrong place */
+    job("pieces\nS 10\nT 10\nK 5\n\n((a,b),c);((a,c),b);c,a,b", AGREE_LINES_ROOM);
+    job("strict\npieces\nS 10\nT 6\nK 2\n\n((a,b),x);(b,a);b,", AGREE_LINES_ROOM);
+    job("pieces\nS 2\nT 2\nK 1\n\na;b;a", 0);
+    job("pieces\nS 2\nT 2\nK 1\nC 1\n\na;a;aa", AGREE_LINES_ROOM);
+    job("pieces\nS 2\nT 2\nK 1\nC 0\n\na;a;a", AGREE_LINES_ROOM);
+    job("pieces\npieces\nS 2\nT 2\nK 1\n\na;a;a", AGREE_LINES_ROOM);
+    job("pieces\nE 2\nS 2\nT 2\nK 1\n\na;a;a", AGREE_LINES_ROOM);
+    job("S 2\npieces\nT 2\nK 1\n\na;a;a", AGREE_LINES_ROOM);
+    /* the longest lines, and the same job without its pieces */
+    job(pieces_job("strict\nE 2\npieces\n"), AGREE_LINES_ROOM);
+    job(pieces_job("strict\nE 2\npieces\n"), AGREE_LINES_ROOM - 1);
+    job(pieces_job("pieces\n"), RECORD_ROOM);
+    job(pieces_job(""), RECORD_ROOM);
 }
 
 int main(void)
@@ -450,13 +506,14 @@ int main(void)
     job("S 6\nstrict\nT 10\nK 3\n\n(b,a);(y,(a,b));b,a", AGREE_LINES_ROOM);
     job("S 14\nT 16\nK 3\n\n(('a_b',c),d);((c,'a_b'),'d');'c'", AGREE_LINES_ROOM);
     job("S 16\nT 18\nK 13\n\n((a_b,'c_d'),e);(('a b',e),'c_d');e,'c_d','a b'", AGREE_LINES_ROOM);
-    job(longest_job(""), AGREE_LINES_ROOM);
-    job(longest_job(""), AGREE_LINES_ROOM - 1);
+    job(longest_job(""), RECORD_ROOM);
+    job(longest_job(""), RECORD_ROOM - 1);
     edition_jobs();
     job(blanks(16384), AGREE_LINES_ROOM);
     job(blanks(16385), AGREE_LINES_ROOM);
     claims();
     claim_jobs();
+    piece_jobs();
     if (failed)
         puts("a byte that had to stay was changed, or a number that had to be 0 was another");
     return failed;

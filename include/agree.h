@@ -29,8 +29,8 @@ extern "C" {
 
 /* Bytes of stack that a call takes at most, whatever it is given. The prover does not speak of it. It is held against two figures:
  *
- *     from the machine code, for every input (tools/frames): the sum of frames along the calls is about 42,000 bytes for two trees and a
- *     list, with a claim or without, and 51,000 for a job;
+ *     from the machine code, for every input (tools/frames): the sum of frames along the calls is about 46,000 bytes for two trees and a
+ *     list, with a claim or without, and 50,000 for a job;
  *     measured, the worst of many inputs (tools/stack.c): the same.
  *
  * The first counts 256 bytes for memset and memcpy of the C library. A thread needs what it takes for itself besides, and so does a loader
@@ -40,7 +40,7 @@ extern "C" {
 /* Bytes of output that always suffice, and that some inputs need: for a tree's text, and for the lines that answer a job. With fewer bytes,
  * an answer that does not fit is refused with 9. */
 #define AGREE_TREE_ROOM 2958
-#define AGREE_LINES_ROOM 5776
+#define AGREE_LINES_ROOM 9656
 
 /* What every call returns.
  *
@@ -136,12 +136,14 @@ struct agree_result agree_claim(size_t options, const uint8_t *first, size_t fir
                                 const uint8_t *required, size_t required_length, const uint8_t *claim, size_t claim_length);
 
 /* Answers a job in the format of the program `agree` (README.md): contents, two trees, a list and possibly a claim, in one text. The answer is
- * written to `out`: the three lines `size`, `set` and `tree` or, if the job has a claim that passes, the line `claim ok` with its size.
+ * written to `out`: the three lines `size`, `set` and `tree` or, if the job has a claim that passes, the line `claim ok` with its size. If the
+ * job has the line `pieces`, its pieces are written before the three lines: a line `pieces` with their total, and a line `at` for each.
  * `length` is the number of bytes written, at most AGREE_LINES_ROOM. `size` is 0: the size is in the lines. Number 9 is given if the output is
  * shorter than the lines.
  *
  * The first lines of the job are its options: `strict` means AGREE_STRICT, and `E 2`, first or right after `strict`, means AGREE_EDITION_2.
- * `E 1` there means the same as no line `E`. A line `C 0` claims the empty set; a job without a claim has no line `C`.
+ * `E 1` there means the same as no line `E`. The line `pieces` comes after these two and before `S`; a job that has it and a line `C` is
+ * refused with 10. A line `C 0` claims the empty set; a job without a claim has no line `C`.
  *
  * For numbers 8 and 14, first, second and third are the places of the three labels' first bytes in the job: in its list for 8, in its claim for
  * 14. A quoted label ends at its closing quote. A bare label ends before the next comma, or at the end of its body. Bodies follow each other

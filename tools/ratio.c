@@ -1,6 +1,6 @@
 /* Calls two archives of the engine in turn, each entry on the jobs of standard input or on their bodies, and prints how the time of the new one
  * relates to that of the old one. A job stands after its length as two bytes. tools/ratio builds it: names of the former archive begin with
- * `old_`. */
+ * `old_`. A job with a line that the former archive does not know, which it refuses with 10, is left out. */
 #include "agree.h"
 #include <stdio.h>
 #include <stdlib.h>
@@ -92,6 +92,7 @@ static void measure(int entry, size_t bytes, const struct bodies *b, int rounds,
 {
     double least[2] = {1e9, 1e9};
     struct agree_result r[2];
+    memset(out, 0, sizeof out);
     for (int i = 0; i < 2 * rounds; i++) {
         double start = microseconds();
         r[i % 2] = call(entry, i % 2, bytes, b);
@@ -99,6 +100,8 @@ static void measure(int entry, size_t bytes, const struct bodies *b, int rounds,
         if (took < least[i % 2])
             least[i % 2] = took;
     }
+    if (entry == JOB && r[0].number == 10 && r[1].number != 10)
+        return;
     if (memcmp(&r[0], &r[1], sizeof r[0]) != 0 || memcmp(out[0], out[1], sizeof out[0]) != 0) {
         printf("%s: the archives answer job %zu differently\n", names[entry], which);
         exit(1);

@@ -26,20 +26,23 @@ static const char *after(const char *line, const char *text)
     return text + (strncmp(text, line, length) == 0 ? length : 0);
 }
 
-/* The bodies of the job, where its contents can be read; what is asked beside them is left aside. A job without a claim has its list in
- * place of one. */
+/* The bodies of the job, if its contents can be read, and its sort; `strict` and the edition are left aside. A job without a claim has its
+ * list in place of one. */
+enum sort { PLAIN, CLAIMED, PIECES, SORTS };
 static const char *body[4];
 static size_t body_length[4];
-static int claimed;
+static enum sort sort;
 
 static int split(void)
 {
     int head = 0, more = 0;
     job[job_length] = 0;
-    const char *lengths = after("E 1\n", after("E 2\n", after("strict\n", job)));
+    const char *line = after("E 1\n", after("E 2\n", after("strict\n", job)));
+    const char *lengths = after("pieces\n", line);
+    sort = PLAIN;
     if (sscanf(lengths, "S %zu\nT %zu\nK %zu%n", &body_length[0], &body_length[1], &body_length[2], &head) != 3)
         return 0;
-    claimed = sscanf(lengths + head, "\nC %zu%n", &body_length[3], &more) == 1;
+    int claimed = sscanf(lengths + head, "\nC %zu%n", &body_length[3], &more) == 1;
     if (!claimed)
         body_length[3] = 0;
     body[0] = lengths + head + more + 2;
@@ -54,6 +57,7 @@ static int split(void)
         body[3] = body[2];
         body_length[3] = body_length[2];
     }
+    sort = claimed ? CLAIMED : lengths > line ? PIECES : PLAIN;
     return 1;
 }
 
@@ -127,6 +131,7 @@ int main(void)
 {
     struct worst entries[] = {{"agree_job", run_job, 0, 0, 0},
                               {"agree_job, with a claim", run_job, 0, 0, 0},
+                              {"agree_job, with pieces", run_job, 0, 0, 0},
                               {"agree_largest", run_largest, 0, 0, 0},
                               {"agree_largest_with, strict", run_with, AGREE_STRICT, 0, 0},
                               {"agree_largest_with, edition 2", run_with, AGREE_EDITION_2, 0, 0},
@@ -145,8 +150,9 @@ int main(void)
         if (fread(job, 1, job_length, stdin) != job_length)
             abort();
         int whole = split();
-        measure(&entries[whole && claimed], count);
-        for (size_t i = 2; whole && i < all; i++)
+        measure(&entries[sort], count);
+        /* pieces are for whole jobs alone: the other entries are measured on jobs without them */
+        for (size_t i = SORTS; whole && sort != PIECES && i < all; i++)
             measure(&entries[i], count);
         count++;
     }

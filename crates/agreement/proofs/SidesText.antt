@@ -26,7 +26,7 @@ use Rattle.agreement.proofs.EditionText.{restrict-keyed, spelled-leaf}
 use Rattle.agreement.proofs.SameLaws.{same-holds, join-straight, join-crossed}
 
 -- equal trees restricted to a set
-same-kept : (P : Label → Bool) {s t : Tree} → Same s t → SameKept (restrict P s) (restrict P t)
+pub same-kept : (P : Label → Bool) {s t : Tree} → Same s t → SameKept (restrict P s) (restrict P t)
 unfolding restrict
 same-kept P (same-leaf {x}) = go (P x)
   where

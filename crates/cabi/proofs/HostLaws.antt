@@ -46,7 +46,7 @@ module _ (q : Task) (room : ℕ) where
 
   module _ (s t : Tree) (xs : List Token) (reads : Reads q s t xs) where
     pub set-numbers : (X : List Label) → SetGiven (q .options .edition) s t xs X room
-        → numbersOf (solve q room) ≡ succeeded (length X) (length (solutionText (solution (q .options .edition) s X)))
+        → numbersOf (solve q room) ≡ succeeded (length X) (length (solutionText (solution (q .options .edition) s t xs X)))
     unfolding numbersOf
     set-numbers X g = ap numbersOf (mast.set-promise q room s t xs reads X .1 g)
 

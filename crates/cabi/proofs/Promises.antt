@@ -1,7 +1,7 @@
 -- What hosts written in C receive for each outcome, in 01's order. Each theorem cites one name. Assumes nothing.
 use Prim.Native.Nat.{ℕ, _+_, _≤_, _<_}
 use mathlib.Core.Path.{_≡_, refl}
-use mathlib.Core.Bool.{true}
+use mathlib.Core.Bool.{Bool, true}
 use mathlib.Core.List.{List}
 use lib.ListN.{length}
 use Rattle.trees.specs.declared.Body.the-variants.{K, C}
@@ -36,7 +36,7 @@ use Rattle.cabi.proofs.HostLaws
 module _ (q : Task) (room : ℕ) where
   module _ (s t : Tree) (xs : List Token) (reads : Reads q s t xs) where
     pub set-promise : (X : List Label) → SetGiven (q .options .edition) s t xs X room
-        → numbersOf (solve q room) ≡ succeeded (length X) (length (solutionText (solution (q .options .edition) s X)))
+        → numbersOf (solve q room) ≡ succeeded (length X) (length (solutionText (solution (q .options .edition) s t xs X)))
     set-promise = HostLaws.set-numbers q room s t xs reads
 
     -- Number 8 comes with the places of its three labels in the list.
@@ -116,15 +116,15 @@ pub claim-unknown-flags : (first second required claim : List ℕ) (flags : ℕ)
     → judgeWith flags first second required claim ≡ refused unknownFlags
 claim-unknown-flags first second required claim flags = HostLaws.claim-flags-refused flags first second required claim
 
--- A job: the length of its lines, or number 9 if the output has fewer bytes.
+-- A job: the length of its lines, with those of its pieces if it asks for them (C-17), or number 9 if the output has fewer bytes.
 module _ (bytes : List ℕ) (room : ℕ) where
-  pub job-promise : (r : Solution) → JobOutcome bytes (setReply r) → length (replyLines (solved r)) ≤ room
-      → jobNumbers (answerTo bytes room) ≡ succeeded 0 (length (replyLines (solved r)))
-  job-promise r = HostLaws.reply-numbers bytes room (solved r)
+  pub job-promise : (shows : Bool) (r : Solution) → JobOutcome bytes (setReply shows r) → length (replyLines (solved shows r)) ≤ room
+      → jobNumbers (answerTo bytes room) ≡ succeeded 0 (length (replyLines (solved shows r)))
+  job-promise shows r = HostLaws.reply-numbers bytes room (solved shows r)
 
-  pub job-nine-promise : (r : Solution) → JobOutcome bytes (setReply r) → room < length (replyLines (solved r))
+  pub job-nine-promise : (shows : Bool) (r : Solution) → JobOutcome bytes (setReply shows r) → room < length (replyLines (solved shows r))
       → jobNumbers (answerTo bytes room) ≡ refusedWith tooShort
-  job-nine-promise r = HostLaws.nine-numbers bytes room (solved r)
+  job-nine-promise shows r = HostLaws.nine-numbers bytes room (solved shows r)
 
   -- Number 8 comes with the places of its three labels in the job's list.
   pub job-eight-promise : (e : Edition) (s : Tree) (xs : List Token) (a b c : Label) → JobOutcome bytes (naming disagreement (trio e s xs a b c))

@@ -2,7 +2,7 @@
 -- Assumes nothing.
 use Prim.Native.Nat.{ℕ, _+_, _≤_}
 use mathlib.Core.Path.{_≡_, refl, sym, _∙_, ap, ap₂, subst}
-use mathlib.Core.Bool.{true, false}
+use mathlib.Core.Bool.{Bool, true, false, cond}
 use mathlib.Core.Logic.{_⊎_, inl, inr, _↔_}
 use mathlib.Core.List.{List, [], _∷_, _++_, map, append-assoc}
 use mathlib.Core.Option.{Option, some, none}
@@ -26,7 +26,8 @@ use Rattle.contents.specs.declared.Span.{Span}
 use Rattle.contents.specs.declared.Span.the-variants as span
 use Rattle.contents.specs.declared.Table.{Table}
 use Rattle.contents.specs.Contents.{Bodies, Entry, entries, lookup, part, bytes, line, entryLine, listedText, headLines, linesThen, headed, sizes, lined}
-use Rattle.contents.specs.Contents.{tableText, joinedParts, jobOf, FitsEntries, WellFormed, headAt, wordAfter, sizesAfter, linesAfter, spansAfter, bodiesAfter}
+use Rattle.contents.specs.Contents.{tableText, joinedParts, jobOf, FitsEntries, compatible, WellFormed}
+use Rattle.contents.specs.Contents.{headAt, wordAfter, sizesAfter, linesAfter, spansAfter, bodiesAfter}
 use Rattle.contents.specs.Contents.{tableOf, spansOf, laidOut, layoutOf, spanIn, bodiesIn, bodiesFrom, bodiesOf, placeOf, bodyPlace, spansFrom, LaidAs}
 use Rattle.contents.proofs.BeginsLaws.{among, Opens}
 use Rattle.contents.proofs.HeadLaws.{opens-past, HeadIs, head-written, head-text}
@@ -77,9 +78,13 @@ four : (job : List ℕ) (h : Head) (start from : Next)
 unfolding entries sizesAfter spansAfter
 four job h start from = refl
 
+-- the layout, if these lines and bodies go together
+abbrev layoutIf : List ℕ → Head → List BodyLength → Next → Layout
+layoutIf job h vs from = cond (compatible h vs) (laidOut job (tableOf h (spansAfter job from vs)) (bodiesAfter job from vs)) layout.Broken
+
 -- ---- what is written is read
 
-module _ (b : Bodies) (fits : WellFormed b) where
+module _ (b : Bodies) (good : WellFormed b) where
   abbrev job : List ℕ
   job = jobOf b
 
@@ -93,11 +98,14 @@ module _ (b : Bodies) (fits : WellFormed b) where
   from = wordAfter job (linesAfter job start entries) (10 ∷ [])
 
   pub head-of : HeadIs job (b .head) lines
-  head-of = head-written job (b .head) lines (opens-past (b .head) lines (entries-open (sizes b) (10 ∷ joinedParts (b .parts)) fits)) (table-text b)
+  head-of =
+      head-written job (b .head) lines (opens-past (b .head) lines (entries-open (sizes b) (10 ∷ joinedParts (b .parts)) (good .fits)))
+      (table-text b)
 
   lines-of : LinesAre job start entries (sizes b) (10 ∷ joinedParts (b .parts))
   lines-of =
-      lines-written job entries (sizes b) (10 ∷ joinedParts (b .parts)) (10 ∷ []) start fits entries-apart (ends-open (joinedParts (b .parts)))
+      lines-written job entries (sizes b) (10 ∷ joinedParts (b .parts)) (10 ∷ []) start (good .fits) entries-apart
+      (ends-open (joinedParts (b .parts)))
       (record { at = headAt job .next; is = refl; rest = head-of .next .rest; inside = head-of .next .inside })
 
   bodies-here : Here job from (joinedParts (b .parts))
@@ -110,10 +118,11 @@ module _ (b : Bodies) (fits : WellFormed b) where
   unfolding layoutOf line
   layout-is =
       let end = spans-of .next in
+      let t : Table = tableOf (b .head) (spansAfter job from (sizes b)) in
       let at-end : end .at ≡ length job = omega (arith, end .inside, ap (length {A = ℕ}) (end .rest), length-drop (end .at) job) in
-      ap₂ (λ (h : Head) (vs : List BodyLength). laidOut job (tableOf h (spansAfter job from vs)) (bodiesAfter job from vs)) (head-of .head-is) (lines-of .listed)
-      ∙ sym (laid-if job (tableOf (b .head) (spansAfter job from (sizes b))) (bodiesAfter job from (sizes b)) (end .at) (end .is) true
-      (eq-eqb (end .at) (length job) at-end))
+      ap₂ (λ (h : Head) (vs : List BodyLength). layoutIf job h vs from) (head-of .head-is) (lines-of .listed)
+      ∙ ap (λ (c : Bool). cond c (laidOut job t (bodiesAfter job from (sizes b))) layout.Broken) (good .together)
+      ∙ sym (laid-if job t (bodiesAfter job from (sizes b)) (end .at) (end .is) true (eq-eqb (end .at) (length job) at-end))
 
   pub layout-written : layoutOf job ≡ layout.Laid (tableOf (b .head) (spansFrom (length (tableText b)) (sizes b)))
   unfolding jobOf
@@ -143,6 +152,10 @@ module _ (b : Bodies) (fits : WellFormed b) where
 
 not-laid : {t : Table} → layout.Broken ≡ layout.Laid t → ⊥
 not-laid e = let z : _≡_ {A = ℕ} 0 1 = cc in omega arith
+
+settled : (c : Bool) (l : Layout) (t : Table) → cond c l layout.Broken ≡ layout.Laid t → (c ≡ true) × (l ≡ layout.Laid t)
+settled true l t e = (refl, e)
+settled false l t e = absurd (not-laid e)
 
 -- the last body ends where the job does
 record Ended (job : List ℕ) (made t : Table) (end : Next) : Type 0 where
@@ -182,9 +195,12 @@ module _ (job : List ℕ) (t : Table) (e : layoutOf job ≡ layout.Laid t) where
   abbrev made : Table
   made = tableOf (headAt job .head) ss
 
-  last : Ended job made t (bodiesAfter job first-body vs)
+  allowed : (compatible (headAt job .head) vs ≡ true) × (laidOut job made (bodiesAfter job first-body vs) ≡ layout.Laid t)
   unfolding layoutOf line
-  last = ended job made t (bodiesAfter job first-body vs) e
+  allowed = settled (compatible (headAt job .head) vs) (laidOut job made (bodiesAfter job first-body vs)) t e
+
+  last : Ended job made t (bodiesAfter job first-body vs)
+  last = ended job made t (bodiesAfter job first-body vs) (allowed .1)
 
   bodies-took : SpansTook job first-body vs (length job)
   bodies-took = spans-took job vs first-body (length job) (last .is) (drop-length job)
@@ -217,7 +233,12 @@ module _ (job : List ℕ) (t : Table) (e : layoutOf job ≡ layout.Laid t) where
       made-text ∙ ap (λ (xs : List BodyLength). headed (headAt job .head) (lined entries xs (10 ∷ joinedParts parts))) (sym sized) ∙ sym (table-text b) in
       record {
         text = text ∙ ap jobOf (sym whole);
-        fits = subst WellFormed (sym whole) (subst (FitsEntries entries) (sym sized) (all-lines .fits));
+        fits =
+            subst WellFormed (sym whole)
+            (record {
+              fits = subst (FitsEntries entries) (sym sized) (all-lines .fits);
+              together = ap (compatible (headAt job .head)) sized ∙ allowed .0;
+            });
         inside = subst (AllInside job) (sym (four job (headAt job .head) first-line first-body)) (bodies-took .inside);
       }
 

@@ -8,13 +8,13 @@ use native.Mathlib.Omega.{arith}
 use lib.ListN.{length, drop}
 use lib.Seq.{drop-drop}
 use Rattle.trees.specs.Words.{bytesOf}
-use Rattle.trees.proofs.Bools.{bool-cases}
+use Rattle.trees.proofs.Bools.{bool-cases, clash}
 use Rattle.contents.specs.declared.Flag.{Flag}
 use Rattle.contents.specs.declared.Head.{Head}
 use Rattle.contents.specs.declared.Stated.{Stated}
 use Rattle.contents.specs.declared.Stated.the-variants as states
 use Rattle.contents.specs.declared.StatedAt.{StatedAt}
-use Rattle.contents.specs.Contents.{line, lineIf, strictText, editionText, headed, begins, flagAt, statedAt, headAt}
+use Rattle.contents.specs.Contents.{line, lineIf, strictText, editionText, piecesText, headed, begins, flagAt, statedAt, headAt}
 use Rattle.contents.proofs.BeginsLaws.{begins-own, begins-split, begins-inside, among, Opens, opens-more, opens-own, opens-other}
 use Rattle.contents.proofs.PlaceLaws.{rest-past, inside-past}
 use Rattle.contents.proofs.StepLaws.{flag-if, stated-one, stated-other}
@@ -26,8 +26,9 @@ pub record NoEdition (rest : List ℕ) : Type 0 where
 
 -- after these lines none stands that could still be taken
 pub record Past (h : Head) (rest : List ℕ) : Type 0 where
-  pub strict : h .strict ≡ false → begins (line (bytesOf "strict")) (editionText (h .stated) ++ rest) ≡ false
-  pub edition : h .stated ≡ states.Nothing → NoEdition rest
+  pub strict : h .strict ≡ false → begins (line (bytesOf "strict")) (editionText (h .stated) ++ (piecesText (h .pieces) ++ rest)) ≡ false
+  pub edition : h .stated ≡ states.Nothing → NoEdition (piecesText (h .pieces) ++ rest)
+  pub pieces : h .pieces ≡ false → begins (line (bytesOf "pieces")) rest ≡ false
 
 opens-edition : (stated : Stated) (bs rest : List ℕ) → Opens bs rest → Opens (69 ∷ bs) (editionText stated ++ rest)
 unfolding editionText line bytesOf
@@ -35,13 +36,21 @@ opens-edition states.Nothing bs rest o = opens-more 69 bs rest o
 opens-edition states.One bs rest o = opens-own 69 bs []
 opens-edition states.Two bs rest o = opens-own 69 bs []
 
+opens-pieces : (on : Bool) (bs rest : List ℕ) → Opens bs rest → Opens (112 ∷ bs) (piecesText on ++ rest)
+unfolding piecesText line bytesOf
+opens-pieces false bs rest o = opens-more 112 bs rest o
+opens-pieces true bs rest o = opens-own 112 bs []
+
 -- so it is before the line of S, by its first byte
 pub opens-past : (h : Head) (rest : List ℕ) → Opens (83 ∷ []) rest → Past h rest
 unfolding among line bytesOf
 opens-past h rest o =
+    let last : List ℕ = piecesText (h .pieces) ++ rest in
+    let p = opens-pieces (h .pieces) (83 ∷ []) rest o in
     record {
-      strict = λ e. opens-other 115 _ (editionText (h .stated) ++ rest) (69 ∷ 83 ∷ []) (opens-edition (h .stated) (83 ∷ []) rest o) refl;
-      edition = λ e. record { one = opens-other 69 _ rest (83 ∷ []) o refl; two = opens-other 69 _ rest (83 ∷ []) o refl };
+      strict = λ e. opens-other 115 _ (editionText (h .stated) ++ last) (69 ∷ 112 ∷ 83 ∷ []) (opens-edition (h .stated) (112 ∷ 83 ∷ []) last p) refl;
+      edition = λ e. record { one = opens-other 69 _ last (112 ∷ 83 ∷ []) p refl; two = opens-other 69 _ last (112 ∷ 83 ∷ []) p refl };
+      pieces = λ e. opens-other 112 _ rest (83 ∷ []) o refl;
     }
 
 edition-not-strict : (stated : Stated) (rest : List ℕ) → (stated ≡ states.Nothing → ⊥)
@@ -52,9 +61,36 @@ edition-not-strict states.One rest said = refl
 edition-not-strict states.Two rest said = refl
 
 -- and after a line of the edition
-pub stated-past : (h : Head) (rest : List ℕ) → (h .stated ≡ states.Nothing → ⊥) → Past h rest
-stated-past h rest said =
-    record { strict = λ e. edition-not-strict (h .stated) rest said; edition = λ e. absurd (said e) }
+pub stated-past : (h : Head) (rest : List ℕ) → (h .stated ≡ states.Nothing → ⊥) → begins (line (bytesOf "pieces")) rest ≡ false → Past h rest
+stated-past h rest said other =
+    record {
+      strict = λ e. edition-not-strict (h .stated) (piecesText (h .pieces) ++ rest) said;
+      edition = λ e. absurd (said e);
+      pieces = λ e. other;
+    }
+
+pieces-not-strict : (stated : Stated) (rest : List ℕ)
+    → begins (line (bytesOf "strict")) (editionText stated ++ (line (bytesOf "pieces") ++ rest)) ≡ false
+unfolding begins line bytesOf editionText
+pieces-not-strict states.Nothing rest = refl
+pieces-not-strict states.One rest = refl
+pieces-not-strict states.Two rest = refl
+
+pieces-not-edition : (rest : List ℕ) → NoEdition (line (bytesOf "pieces") ++ rest)
+unfolding begins line bytesOf
+pieces-not-edition rest = record { one = refl; two = refl }
+
+-- and after the line `pieces`, which is the last of these
+pub pieces-past : (h : Head) (rest : List ℕ) → h .pieces ≡ true → Past h rest
+unfolding piecesText
+pieces-past h rest on =
+    record {
+      strict = λ e.
+          subst (λ (p : Bool). begins (line (bytesOf "strict")) (editionText (h .stated) ++ (piecesText p ++ rest)) ≡ false) (sym on)
+          (pieces-not-strict (h .stated) rest);
+      edition = λ e. subst (λ (p : Bool). NoEdition (piecesText p ++ rest)) (sym on) (pieces-not-edition rest);
+      pieces = λ e. clash on e;
+    }
 
 two-not-one : (rest : List ℕ) → begins (line (bytesOf "E 1")) (line (bytesOf "E 2") ++ rest) ≡ false
 unfolding begins line bytesOf
@@ -132,13 +168,21 @@ module _ (job : List ℕ) where
     pub next : LeftAt (headAt job .next) rest
 
   pub head-written : (h : Head) (rest : List ℕ) → Past h rest → job ≡ headed h rest → HeadIs h rest
-  unfolding headAt strictText
+  unfolding headAt strictText piecesText
   head-written h rest past e =
-      let f = flag-written 0 (h .strict) (bytesOf "strict") (editionText (h .stated) ++ rest) (past .strict) (record { rest = e; inside = omega arith }) in
-      let s = stated-written (flagAt job 0 (line (bytesOf "strict")) .next) (h .stated) rest (past .edition) (f .next) in
+      let last : List ℕ = piecesText (h .pieces) ++ rest in
+      let begin : LeftAt 0 (headed h rest) = record { rest = e; inside = omega arith } in
+      let f = flag-written 0 (h .strict) (bytesOf "strict") (editionText (h .stated) ++ last) (past .strict) begin in
+      let strict : Flag = flagAt job 0 (line (bytesOf "strict")) in
+      let s = stated-written (strict .next) (h .stated) last (past .edition) (f .next) in
+      let edition : StatedAt = statedAt job (strict .next) in
+      let p = flag-written (edition .next) (h .pieces) (bytesOf "pieces") rest (past .pieces) (s .next) in
+      let pieces : Flag = flagAt job (edition .next) (line (bytesOf "pieces")) in
       record {
-        head-is = ap₂ (λ (b : Bool) (d : Stated). record { strict = b; stated = d }) (f .on-is) (s .stated-is);
-        next = s .next;
+        head-is =
+            ap₂ (λ (b : Bool) (d : Stated). record { strict = b; stated = d; pieces = pieces .on }) (f .on-is) (s .stated-is)
+            ∙ ap (λ (b : Bool). record { strict = h .strict; stated = h .stated; pieces = b }) (p .on-is);
+        next = p .next;
       }
 
   -- ---- what is read is written
@@ -182,8 +226,12 @@ module _ (job : List ℕ) where
       go (inr e) (inr f) = subst (λ (s : StatedAt). Split at (editionText (s .stated)) (s .next)) (other-read at false e f) (split-none at i)
 
   pub head-text : job ≡ headed (headAt job .head) (drop (headAt job .next) job)
-  unfolding headAt strictText
+  unfolding headAt strictText piecesText
   head-text =
       let f = flag-took 0 (bytesOf "strict") (omega arith) in
       let strict : Flag = flagAt job 0 (line (bytesOf "strict")) in
-      f .rest ∙ ap (λ (l : List ℕ). lineIf (strict .on) (bytesOf "strict") ++ l) (stated-took (strict .next) (f .inside) .rest)
+      let s = stated-took (strict .next) (f .inside) in
+      let edition : StatedAt = statedAt job (strict .next) in
+      let p = flag-took (edition .next) (bytesOf "pieces") (s .inside) in
+      f .rest
+      ∙ ap (λ (l : List ℕ). lineIf (strict .on) (bytesOf "strict") ++ l) (s .rest ∙ ap (λ (l : List ℕ). editionText (edition .stated) ++ l) (p .rest))

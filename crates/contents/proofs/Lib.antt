@@ -1,4 +1,5 @@
 pub mod BeginsLaws
+pub mod BrokenLaws
 pub mod ContentsLaws
 pub mod HeadLaws
 pub mod NumberLaws

@@ -13,6 +13,7 @@ use Rattle.trees.specs.Refusals.{letterOf}
 use Rattle.trees.specs.Stored.{partOf}
 use Rattle.trees.specs.Words.{bytesOf}
 use Rattle.contents.specs.declared.Flag.{Flag}
+use Rattle.contents.specs.declared.Head.{Head}
 use Rattle.contents.specs.declared.HeadAt.{HeadAt}
 use Rattle.contents.specs.declared.Layout.{Layout}
 use Rattle.contents.specs.declared.Layout.the-variants as layout
@@ -30,6 +31,7 @@ use Rattle.contents.specs.declared.Table.{Table}
 use Rattle.contents.specs.declared.decimal.Digits.{Digits}
 use Rattle.contents.specs.declared.decimal.Digits.the-variants as digits
 use Rattle.contents.specs.Contents.{bytes, spanIn, statedOf, statedAt, brokenLine, Entry, always, perhaps, entries, begins, line, flagAt, headAt, wordAfter, numberAt, counted, lineAfter}
+use Rattle.contents.specs.Contents.{lookup, mayClaim, claimAllowed, compatible}
 use Rattle.contents.specs.Contents.{sizesAfter, linesAfter, nowhere, placeAfter, spansAfter, bodiesAfter, laidOut, layoutOf}
 use Rattle.contents.proofs.BeginsLaws.{begins-inside}
 
@@ -134,17 +136,30 @@ module _ (job : List ℕ) (at : ℕ) (one : Flag) (f : one ≡ flagAt job at (li
   unfolding statedAt
   stated-other two g e b h = stated-if one two false b e h ∙ ap₂ statedOf f g
 
+module _ (h : Head) (v : BodyLength) where
+  pub claim-none : v ≡ listed.Absent → true ≡ claimAllowed h v
+  unfolding claimAllowed
+  claim-none e = rw e refl
+
+  pub claim-some : (n : ℕ) → v ≡ listed.Bytes n → mayClaim h ≡ claimAllowed h v
+  unfolding claimAllowed
+  claim-some n e = rw e refl
+
 -- all steps, one after another
-pub contents-steps : (job : List ℕ) (h : HeadAt) (f g k c : Line) (b : Next) (p q r s : Placed) (l : Layout)
-    → h ≡ headAt job → f ≡ lineAfter job (next.At (h .next)) (always S) → g ≡ lineAfter job (f .next) (always T)
-    → k ≡ lineAfter job (g .next) (always K) → c ≡ lineAfter job (k .next) (perhaps C)
-    → b ≡ wordAfter job (c .next) (line []) → p ≡ placeAfter job b (f .listed) → q ≡ placeAfter job (p .next) (g .listed) → r ≡ placeAfter job (q .next) (k .listed)
-    → s ≡ placeAfter job (r .next) (c .listed)
-    → l ≡ laidOut job (record { head = h .head; first = p .span; second = q .span; list = r .span; claim = s .span }) (s .next)
-    → l ≡ layoutOf job
-unfolding layoutOf entries sizesAfter linesAfter spansAfter bodiesAfter
-contents-steps job h f g k c b p q r s l eh ef eg ek ec eb ep eq er es el =
-    el ∙ rw (es, er, eq, ep, eb, ec, ek, eg, ef, eh) refl
+module _ (job : List ℕ) (h : HeadAt) (f g k c : Line) (eh : h ≡ headAt job) (ef : f ≡ lineAfter job (next.At (h .next)) (always S))
+    (eg : g ≡ lineAfter job (f .next) (always T)) (ek : k ≡ lineAfter job (g .next) (always K)) (ec : c ≡ lineAfter job (k .next) (perhaps C)) where
+  pub contents-apart : claimAllowed (h .head) (c .listed) ≡ false → layout.Broken ≡ layoutOf job
+  unfolding layoutOf compatible lookup letterOf entries sizesAfter linesAfter spansAfter bodiesAfter
+  contents-apart e = rw (rw (ec, ek, eg, ef, eh) at e) refl
+
+  pub contents-steps : (b : Next) (p q r s : Placed) (l : Layout) → claimAllowed (h .head) (c .listed) ≡ true
+      → b ≡ wordAfter job (c .next) (line []) → p ≡ placeAfter job b (f .listed) → q ≡ placeAfter job (p .next) (g .listed)
+      → r ≡ placeAfter job (q .next) (k .listed) → s ≡ placeAfter job (r .next) (c .listed)
+      → l ≡ laidOut job (record { head = h .head; first = p .span; second = q .span; list = r .span; claim = s .span }) (s .next)
+      → l ≡ layoutOf job
+  unfolding layoutOf compatible lookup letterOf entries sizesAfter linesAfter spansAfter bodiesAfter
+  contents-steps b p q r s l e eb ep eq er es el =
+      el ∙ rw (es, er, eq, ep, eb, rw (ec, ek, eg, ef, eh) at e, ec, ek, eg, ef, eh) refl
 
 -- the bytes of a body
 module _ (job : List ℕ) (s : Span) where

@@ -1,7 +1,8 @@
 -- The table of contents of a job. 01, "Job and printed result": "three lines `S n`, `T n`, `K n`, an empty line, then the
 -- first tree, the second tree and the required list, joined directly". C-11: "A job may carry `strict` as its first
 -- contents line". C-15: "A contents line `E 1` or `E 2`, after `strict` if that is there, picks the edition". C-16: "A body with letter C,
--- listed and read right after K and written like K, holds the claimed set".
+-- listed and read right after K and written like K, holds the claimed set". C-17: "A contents line `pieces`, after `strict` and `E`"; "A job
+-- with both this line and C is number 10".
 use Prim.Native.Nat.{ℕ, _+_, _^_, _<_}
 use mathlib.Core.Path.{_≡_}
 use mathlib.Core.Bool.{Bool, true, false, cond, _&&_, _||_, not}
@@ -51,7 +52,7 @@ pub record Bodies : Type 0 where
 
 -- no line before those of the bodies
 abbrev pub plain : Head
-plain = record { strict = false; stated = states.Nothing }
+plain = record { strict = false; stated = states.Nothing; pieces = false }
 
 -- the same bodies under these lines
 abbrev pub under : Head → Bodies → Bodies
@@ -164,9 +165,15 @@ editionText states.Nothing = []
 editionText states.One = line (bytesOf "E 1")
 editionText states.Two = line (bytesOf "E 2")
 
--- the lines before those of the bodies, in order: C-11, "as its first contents line"; C-15, "after `strict` if that is there"
+-- C-17: "A contents line `pieces`"
+unfoldable pub piecesText : Bool → List ℕ
+unfolding line bytesOf
+piecesText pieces = lineIf pieces (bytesOf "pieces")
+
+-- the lines before those of the bodies, in order: C-11, "as its first contents line"; C-15, "after `strict` if that is there"; C-17,
+-- "after `strict` and `E`"
 abbrev pub headLines : Head → List (List ℕ)
-headLines h = strictText (h .strict) ∷ editionText (h .stated) ∷ []
+headLines h = strictText (h .strict) ∷ editionText (h .stated) ∷ piecesText (h .pieces) ∷ []
 
 -- some lines, then these bytes
 abbrev pub linesThen : List (List ℕ) → List ℕ → List ℕ
@@ -198,7 +205,7 @@ lined (e ∷ es) (v ∷ vs) rest = listedText (e .body) v ++ lined es vs rest
 
 -- all lines, "an empty line"
 unfoldable pub tableText : Bodies → List ℕ
-unfolding strictText editionText entries listedText line
+unfolding strictText editionText piecesText entries listedText line
 tableText b = headed (b .head) (lined entries (sizes b) (line []))
 
 -- the bodies, "joined directly"
@@ -222,8 +229,25 @@ FitsEntries [] (v ∷ vs) = ⊥
 FitsEntries (e ∷ es) [] = ⊥
 FitsEntries (e ∷ es) (v ∷ vs) = FitsLine e v × FitsEntries es vs
 
-abbrev pub WellFormed : Bodies → Type 0
-WellFormed b = FitsEntries entries (sizes b)
+-- whether a job with these lines may have a claim: C-17, "A job with both this line and C is number 10"
+unfoldable pub mayClaim : Head → Bool
+mayClaim h = not (h .pieces)
+
+-- whether a job with these lines may list this of the claim; `C 0` lists one
+unfoldable pub claimAllowed : Head → BodyLength → Bool
+unfolding mayClaim
+claimAllowed h listed.Absent = true
+claimAllowed h (listed.Bytes n) = mayClaim h
+
+-- whether a job may have these lines together with bodies of these lengths: a further rule of this kind is a further test here
+unfoldable pub compatible : Head → List BodyLength → Bool
+unfolding claimAllowed lookup entries
+compatible h vs = claimAllowed h (lookup listed.Absent C entries vs)
+
+-- the bodies and lines that a job can have
+pub record WellFormed (b : Bodies) : Type 0 where
+  pub fits : FitsEntries entries (sizes b)
+  pub together : compatible (b .head) (sizes b) ≡ true
 
 -- ---- how a job is read
 
@@ -254,7 +278,8 @@ unfolding flagAt statedAt line bytesOf
 headAt job =
     let strict : Flag = flagAt job 0 (line (bytesOf "strict")) in
     let edition : StatedAt = statedAt job (strict .next) in
-    record { head = record { strict = strict .on; stated = edition .stated }; next = edition .next }
+    let pieces : Flag = flagAt job (edition .next) (line (bytesOf "pieces")) in
+    record { head = record { strict = strict .on; stated = edition .stated; pieces = pieces .on }; next = pieces .next }
 
 -- these bytes, or the contents break their rules
 unfoldable pub wordAfter : List ℕ → Next → List ℕ → Next
@@ -345,14 +370,14 @@ unfoldable pub laidOut : List ℕ → Table → Next → Layout
 laidOut job t (next.At at) = cond (eqb at (length job)) (layout.Laid t) layout.Broken
 laidOut job t next.Broken = layout.Broken
 
--- where the bodies are in a job
+-- where the bodies are in a job, if its lines and bodies go together
 unfoldable pub layoutOf : List ℕ → Layout
-unfolding headAt entries sizesAfter linesAfter wordAfter line spansAfter bodiesAfter laidOut
+unfolding headAt entries sizesAfter linesAfter wordAfter line spansAfter bodiesAfter laidOut compatible
 layoutOf job =
     let h : HeadAt = headAt job in
     let vs : List BodyLength = sizesAfter job (next.At (h .next)) entries in
     let from : Next = wordAfter job (linesAfter job (next.At (h .next)) entries) (line []) in
-    laidOut job (tableOf (h .head) (spansAfter job from vs)) (bodiesAfter job from vs)
+    cond (compatible (h .head) vs) (laidOut job (tableOf (h .head) (spansAfter job from vs)) (bodiesAfter job from vs)) layout.Broken
 
 -- the bytes there
 unfoldable pub spanIn : List ℕ → Span → Option (List ℕ)

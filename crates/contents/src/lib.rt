@@ -1,5 +1,5 @@
-// The table of contents of a job: the line `strict` and a line of the edition where the job carries them, a line with the length of
-// each body, the claimed set's only where the job has one, an empty line, then the bodies.
+// The table of contents of a job: the line `strict`, a line of the edition and the line `pieces` where the job carries them, a line with
+// the length of each body, the claimed set's only where the job has one, an empty line, then the bodies.
 //
 // No public function has a `requires`. Each line is a step from one place to the next, so a further line is a further step.
 use crate::decimal::Digits;
@@ -8,7 +8,7 @@ use trees::Edition;
 ghost use mathlib.Core.Path.{_≡_};
 ghost use lib.ListN.{drop};
 ghost use Rattle.contents.specs.Contents.{begins, flagAt, statedAt, headAt, wordAfter, brokenLine, lineAfter, nowhere, placeAfter, laidOut, layoutOf};
-ghost use Rattle.contents.specs.Contents.{bytes, spanIn, placeOf, editionOf};
+ghost use Rattle.contents.specs.Contents.{bytes, spanIn, placeOf, editionOf, claimAllowed};
 
 mod decimal;
 
@@ -19,10 +19,11 @@ pub enum Stated {
     Two,
 }
 
-// The lines before those of the bodies: whether the job carries `strict`, and what it states of its edition.
+// The lines before those of the bodies: whether the job carries `strict`, what it states of its edition, and whether it carries `pieces`.
 pub struct Head {
     pub strict: bool,
     pub stated: Stated,
+    pub pieces: bool,
 }
 
 // Where a body is in the job, its first byte and its length; or that the job has none.
@@ -153,14 +154,16 @@ fn head_at(job: &[u8]) -> HeadAt
 {
     let strict = flag_at(job, 0, b"strict\n");
     let edition = stated_at(job, strict.next);
+    let pieces = flag_at(job, edition.next, b"pieces\n");
     let stated = edition.stated;
     let head = Head {
         strict: strict.on,
         stated,
+        pieces: pieces.on,
     };
     HeadAt {
         head,
-        next: edition.next,
+        next: pieces.next,
     }
 }
 
@@ -213,6 +216,16 @@ fn line_after(job: &[u8], from: Line, body: Body, needed: bool) -> Line
     Line {
         listed: BodyLength::Bytes(n),
         next: word_after(job, Next::At(end), b"\n"),
+    }
+}
+
+// Whether a job with these lines may list this of the claim: pieces are for jobs that ask for a set, so not with a claim.
+fn claim_allowed(head: Head, claim: BodyLength) -> bool
+    ensures { λ r. ⌜ r ≡ claimAllowed head claim ⌝ }
+{
+    match claim {
+        BodyLength::Absent => true,
+        BodyLength::Bytes(_) => !head.pieces,
     }
 }
 
@@ -290,6 +303,11 @@ pub fn contents(job: &[u8]) -> Layout
     let second = line_after(job, first, Body::T, true);
     let list = line_after(job, second, Body::K, true);
     let claim = line_after(job, list, Body::C, false);
+    let head = front.head;
+    let claimed = claim.listed;
+    if !claim_allowed(head, claimed) {
+        return Layout::Broken;
+    }
     let lines_end = claim.next;
     let begin = Placed {
         span: Span::Absent,
@@ -299,7 +317,6 @@ pub fn contents(job: &[u8]) -> Layout
     let t = place_after(job, s, second);
     let k = place_after(job, t, list);
     let c = place_after(job, k, claim);
-    let head = front.head;
     laid_out(job, head, s, t, k, c)
 }
 

@@ -2,7 +2,7 @@
 use Prim.Native.Nat.{ℕ, _+_, _≤_, _<_}
 use mathlib.Core.Path.{_≡_, refl, sym, _∙_, ap, ap₂, subst}
 use mathlib.Core.Bool.{Bool, true, false, cond}
-use mathlib.Core.List.{List, _++_}
+use mathlib.Core.List.{List, _++_, map}
 use mathlib.Core.Option.{Option, some, none}
 use native.Mathlib.Omega.{arith}
 use lib.ListN.{length, take, drop, replicate, length-append, length-replicate}
@@ -16,16 +16,20 @@ use Rattle.trees.specs.Label.{Label, isIn}
 use Rattle.trees.specs.Refusals.{letterOf}
 use Rattle.trees.specs.Text.{treeRoom}
 use Rattle.trees.specs.declared.Edition.{Edition}
-use Rattle.trees.specs.Edition.{folded}
+use Rattle.trees.specs.Edition.{folded, keyed}
 use Rattle.trees.specs.Words.{Within}
 use Rattle.trees.specs.Tree.{leafLimit}
 use Rattle.lists.specs.ReadList.{keysOf}
-use Rattle.lists.specs.declared.LabelPlaces.{LabelPlaces}
+use Rattle.lists.proofs.Promises.{accepted-list}
 use Rattle.agreement.specs.Places.{placeIn, tokenIn, spelledIn, nameIn}
 use Rattle.agreement.proofs.EditionText.{spelled-size}
+use Rattle.agreement.proofs.DemandLaws.{allowed-held}
+use Rattle.division.specs.PiecesAt.{PiecesAt}
 use Rattle.mast.specs.declared.LargestAnswer.{LargestAnswer}
 use Rattle.mast.specs.declared.LargestAnswer.the-variants.{Found, Naming, Refused}
 use Rattle.mast.specs.declared.LargestResult.{LargestResult}
+use Rattle.mast.specs.declared.DividedResult.{DividedResult}
+use Rattle.mast.specs.PiecesWith.{PiecesWith, withoutPieces}
 use Rattle.mast.specs.declared.Named.{Named}
 use Rattle.pairs.specs.Outcome.{Outcome, refused, naming, found, andThen, Trio}
 use Rattle.mast.specs.NamedLabels.{namedLabel, namedOf}
@@ -44,12 +48,15 @@ use Rattle.contents.specs.Contents.{Bodies, entries, lookup, part, bytes, first
 use Rattle.contents.proofs.ContentsLaws.{body-ends}
 use Rattle.job.specs.Printed.{Reply, solved, setReply, claimReply, replyLines, solveTask, solveBodies, solveJob, jobLimit}
 use Rattle.lines.specs.Lines.{recordLines, labelsIn}
+use Rattle.lines.specs.PieceLines.{piecesLines, placedRecord, placedPieces, linesAt}
+use Rattle.lines.proofs.LineLaws.{uncut}
 use Rattle.job.specs.declared.Begin.{Begin}
 use Rattle.lines.specs.Output.{lineOutput}
 use Rattle.job.specs.Answered.{recordAnswer, beginIn, ofClaim, baseOf, movedBy, answered, answerTo, jobOutput}
 use Rattle.job.specs.NamedPlaces.{Near}
-use Rattle.job.proofs.ShownLaws.{labels-are, reply-lines}
-use Rattle.job.proofs.SolvedLaws.{NamedBy, From, solution-from, Judged, judged-from, set-few, set-shown, three-in, label-listed, three-shown}
+use Rattle.job.proofs.PieceLaws.{pieces-shown}
+use Rattle.job.proofs.ShownLaws.{labels-are, piecesPart, reply-lines}
+use Rattle.job.proofs.SolvedLaws.{SolvedBy, NamedBy, From, solution-from, Judged, judged-from, set-answer, set-few, set-shown, three-in, label-listed, three-shown}
 
 -- ---- one kind of answer each
 
@@ -129,29 +136,64 @@ module _ {first list : List ℕ} {x : Outcome Reply} {p : Refusal} {m : Named} (
 -- ---- what the engine found
 
 -- a set with a text of k bytes
-pub record SetFound (q : Task) (area : List ℕ) (places : LabelPlaces) (k : ℕ) : Type 0 where
+pub record SetFound (pieces : Bool) (q : Task) (area : List ℕ) (r : DividedResult) (k : ℕ) : Type 0 where
   pub of : Solution
-  pub is : solveTask q none ≡ setReply of
+  pub is : solveTask pieces q none ≡ setReply pieces of
   pub inside : k ≤ length area
-  pub short : length (take k area) ≤ treeRoom
-  pub few : places .count ≤ leafLimit
-  pub lines : recordLines (labelsIn (q .first) (places .start) (places .size) (places .count)) (take k area) ≡ replyLines (solved of)
+  pub lines : linesAt pieces (q .first) (r .pieces) (r .set) (take k area) ≡ replyLines (solved pieces of)
 
-module _ (q : Task) (blank area : List ℕ) (r : LargestResult) (roomy : length blank ≡ treeRoom)
-    (told : r ≡ largestOf (solve q (length blank))) (kept : area ≡ outputOf (solve q (length blank)) blank) where
+-- the lines of a set, and those of its pieces
+module _ (q : Task) (room : ℕ) (r : DividedResult) (y : Solution) (f : SolvedBy q room y) where
+  abbrev Names : List Label
+  Names = map (nameIn (y .edition) (y .first)) (y .set)
+
+  set-part : withoutPieces r ≡ largestOf (found y) → (tree : List ℕ) → tree ≡ solutionText y → length tree ≤ treeRoom
+      → placedRecord (q .first) (r .set) tree ≡ recordLines Names (solutionText y)
+  unfolding largestOf setPlaces
+  set-part t tree e short =
+      let count : r .set .count ≤ leafLimit = omega (arith, set-few q room y f, ap (λ (z : LargestResult). z .set .count) t) in
+      uncut (labelsIn (q .first) (r .set .start) (r .set .size)) tree (r .set .count) count short
+      ∙ ap₂ recordLines
+      (ap (λ (z : LargestResult). labelsIn (q .first) (z .set .start) (z .set .size) (z .set .count)) t
+      ∙ labels-are (q .first) (placeIn (folded (y .edition) (y .first)) 0)
+      (λ (x : Label). length (tokenIn (folded (y .edition) (y .first)) x)) (spelledIn (y .edition) (y .first))
+      (nameIn (y .edition) (y .first)) (y .set) (set-shown q room y f)
+      (λ (x : Label) (i : isIn x (y .set) ≡ true). sym (spelled-size (y .edition) (y .first) x))) e
+
+  pieces-part : PiecesAt (y .edition) (y .first) (y .second) (y .required) (r .pieces)
+      → placedPieces (q .first) (r .pieces) ≡ piecesPart true y
+  pieces-part p =
+      ap piecesLines
+      (pieces-shown (y .edition) (y .first) (y .second) (y .required) (q .first) (f .read)
+      (accepted-list (y .edition) (q .required) (y .required) (f .listed) .different)
+      (allowed-held (keyed (y .edition) (y .first)) (keyed (y .edition) (y .second)) (keysOf (y .edition) (y .required)) (y .set)
+      (set-answer q room y f .allowedSet))
+      (r .pieces) p)
+
+  result-is : (pieces : Bool) → withoutPieces r ≡ largestOf (found y) → (tree : List ℕ) → tree ≡ solutionText y → length tree ≤ treeRoom
+      → (pieces ≡ true → PiecesAt (y .edition) (y .first) (y .second) (y .required) (r .pieces))
+      → linesAt pieces (q .first) (r .pieces) (r .set) tree ≡ replyLines (solved pieces y)
+  unfolding linesAt
+  result-is true t tree e short p =
+      ap₂ (λ (k l : List ℕ). k ++ l) (pieces-part (p refl)) (set-part t tree e short) ∙ reply-lines true y _ _ _ refl refl refl
+  result-is false t tree e short p = set-part t tree e short ∙ reply-lines false y _ _ _ refl refl refl
+
+module _ (pieces : Bool) (q : Task) (blank area : List ℕ) (r : DividedResult) (roomy : length blank ≡ treeRoom)
+    (told : withoutPieces r ≡ largestOf (solve q (length blank))) (kept : area ≡ outputOf (solve q (length blank)) blank)
+    (with : pieces ≡ true → PiecesWith (solve q (length blank)) (r .pieces)) where
   -- what each answer comes from
   abbrev EngineTold : LargestAnswer → Type 0
-  EngineTold (Found n k) = SetFound q area (r .set) k
-  EngineTold (Naming p m) = (ofClaim (p .body) ≡ false) × NamesFound (q .first) (q .required) (solveTask q none) p m
-  EngineTold (Refused p) = solveTask q none ≡ refused p
+  EngineTold (Found n k) = SetFound pieces q area r k
+  EngineTold (Naming p m) = (ofClaim (p .body) ≡ false) × NamesFound (q .first) (q .required) (solveTask pieces q none) p m
+  EngineTold (Refused p) = solveTask pieces q none ≡ refused p
 
-  in-room : (x : Outcome Solution) → solve q (length blank) ≡ x → solveTask q none ≡ andThen x setReply
+  in-room : (x : Outcome Solution) → solve q (length blank) ≡ x → solveTask pieces q none ≡ andThen x (setReply pieces)
   unfolding solveTask
-  in-room x e = ap (λ (y : Outcome Solution). andThen y setReply) (ap (solve q) (sym roomy) ∙ e)
+  in-room x e = ap (λ (y : Outcome Solution). andThen y (setReply pieces)) (ap (solve q) (sym roomy) ∙ e)
 
-  set-found : (y : Solution) → solve q (length blank) ≡ found y → From q (length blank) (found y) → r ≡ largestOf (found y)
-      → area ≡ outputOf (found y) blank → SetFound q area (r .set) (length (solutionText y))
-  unfolding largestOf outputOf setPlaces andThen
+  set-found : (y : Solution) → solve q (length blank) ≡ found y → From q (length blank) (found y) → withoutPieces r ≡ largestOf (found y)
+      → area ≡ outputOf (found y) blank → SetFound pieces q area r (length (solutionText y))
+  unfolding largestOf outputOf andThen
   set-found y g f t o =
       let front : take (length (solutionText y)) area ≡ solutionText y =
       ap (take (length (solutionText y))) o ∙ take-at (solutionText y) (drop (length (solutionText y)) blank) (length (solutionText y)) refl in
@@ -159,26 +201,19 @@ module _ (q : Task) (blank area : List ℕ) (r : LargestResult) (roomy : length 
         of = y;
         is = in-room (found y) g;
         inside = omega (arith, ap (length {A = ℕ}) o, length-append (solutionText y) (drop (length (solutionText y)) blank));
-        short = omega (arith, f .short, ap (length {A = ℕ}) front);
-        few = omega (arith, set-few q (length blank) y f, ap (λ (z : LargestResult). z .set .count) t);
         lines =
-            reply-lines y _ _
-            (ap (λ (z : LargestResult). labelsIn (q .first) (z .set .start) (z .set .size) (z .set .count)) t
-            ∙ labels-are (q .first) (placeIn (folded (y .edition) (y .first)) 0)
-            (λ (x : Label). length (tokenIn (folded (y .edition) (y .first)) x)) (spelledIn (y .edition) (y .first))
-            (nameIn (y .edition) (y .first)) (y .set) (set-shown q (length blank) y f)
-            (λ (x : Label) (i : isIn x (y .set) ≡ true). sym (spelled-size (y .edition) (y .first) x)))
-            front;
+            result-is q (length blank) r y f pieces t _ front (omega (arith, f .short, ap (length {A = ℕ}) front))
+            (λ b. subst (λ (x : Outcome Solution). PiecesWith x (r .pieces)) g (with b));
       }
 
   engine-told : EngineTold (r .answer)
   unfolding largestOf andThen
   engine-told = go (solve q (length blank)) refl (solution-from q (length blank)) told kept
     where
-      told-of : (x : Outcome Solution) → r ≡ largestOf x → EngineTold (largestOf x .answer) → EngineTold (r .answer)
+      told-of : (x : Outcome Solution) → withoutPieces r ≡ largestOf x → EngineTold (largestOf x .answer) → EngineTold (r .answer)
       told-of x t = subst EngineTold (sym (ap (λ (z : LargestResult). z .answer) t))
 
-      go : (x : Outcome Solution) → solve q (length blank) ≡ x → From q (length blank) x → r ≡ largestOf x → area ≡ outputOf x blank
+      go : (x : Outcome Solution) → solve q (length blank) ≡ x → From q (length blank) x → withoutPieces r ≡ largestOf x → area ≡ outputOf x blank
           → EngineTold (r .answer)
       go (found y) g f t o = told-of (found y) t (set-found y g f t o)
       go (naming p n) g f t o = told-of (naming p n) t (f .0, record { of = n; is = in-room (naming p n) g; named = refl; by = f .1 })
@@ -191,9 +226,9 @@ module _ (q : Task) (blank area : List ℕ) (r : LargestResult) (roomy : length 
 
 module _ (q : Task) (claim : List ℕ) where
   abbrev ClaimTold : ClaimAnswer → Type 0
-  ClaimTold (said.Passed n) = solveTask q (some claim) ≡ claimReply n
-  ClaimTold (said.Naming p m) = NamesFound (q .first) (cond (ofClaim (p .body)) claim (q .required)) (solveTask q (some claim)) p m
-  ClaimTold (said.Refused p) = solveTask q (some claim) ≡ refused p
+  ClaimTold (said.Passed n) = solveTask false q (some claim) ≡ claimReply n
+  ClaimTold (said.Naming p m) = NamesFound (q .first) (cond (ofClaim (p .body)) claim (q .required)) (solveTask false q (some claim)) p m
+  ClaimTold (said.Refused p) = solveTask false q (some claim) ≡ refused p
 
   claim-told : ClaimTold (claimOf (judge q claim))
   unfolding claimOf solveTask andThen
@@ -275,20 +310,20 @@ module _ (job : List ℕ) (t : Table) (e : layout.Laid t ≡ layoutOf job) where
     abbrev pub partsTask : Task
     partsTask = task (record { strict = t .head .strict; edition = edition }) first second list
 
-    parts-solved : solveTask partsTask (spanIn job (t .claim)) ≡ solveJob job
+    parts-solved : solveTask (t .head .pieces) partsTask (spanIn job (t .claim)) ≡ solveJob job
     unfolding solveBodies bodiesOf bodiesFrom firstText secondText listText claimText part lookup entries letterOf
     parts-solved = rw (d, ef, es, el) (sym (job-bodies job _ fits (ap (bodiesFrom job) (sym e))))
 
-    pub job-solved : t .claim ≡ span.Absent → solveTask partsTask none ≡ solveJob job
+    pub job-solved : t .claim ≡ span.Absent → solveTask (t .head .pieces) partsTask none ≡ solveJob job
     unfolding spanIn
-    job-solved k = ap (λ (s : Span). solveTask partsTask (spanIn job s)) (sym k) ∙ parts-solved
+    job-solved k = ap (λ (s : Span). solveTask (t .head .pieces) partsTask (spanIn job s)) (sym k) ∙ parts-solved
 
     pub job-judged : (at n : ℕ) → t .claim ≡ span.At at n → (claim : List ℕ) → claim ≡ bytes (spanIn job (t .claim))
-        → solveTask partsTask (some claim) ≡ solveJob job
-    unfolding spanIn
+        → solveTask false partsTask (some claim) ≡ solveJob job
+    unfolding spanIn solveTask
     job-judged at n k claim c =
-        ap (λ (x : List ℕ). solveTask partsTask (some x)) (c ∙ ap (λ (s : Span). bytes (spanIn job s)) k)
-        ∙ ap (λ (s : Span). solveTask partsTask (spanIn job s)) (sym k)
+        ap (λ (x : List ℕ). solveTask (t .head .pieces) partsTask (some x)) (c ∙ ap (λ (s : Span). bytes (spanIn job s)) k)
+        ∙ ap (λ (s : Span). solveTask (t .head .pieces) partsTask (spanIn job s)) (sym k)
         ∙ parts-solved
 
 -- the answer to bodies is that to their job
@@ -306,3 +341,14 @@ blank = replicate treeRoom 0
 
 pub blank-room : length blank ≡ treeRoom
 blank-room = length-replicate {A = ℕ} treeRoom 0
+
+-- ---- the two sorts of lines
+
+module _ (pieces : Bool) (first : List ℕ) (r : DividedResult) (tree : List ℕ) where
+  pub lines-divided : pieces ≡ true → placedPieces first (r .pieces) ++ placedRecord first (r .set) tree ≡ linesAt pieces first (r .pieces) (r .set) tree
+  unfolding linesAt
+  lines-divided e = rw e refl
+
+  pub lines-plain : pieces ≡ false → placedRecord first (r .set) tree ≡ linesAt pieces first (r .pieces) (r .set) tree
+  unfolding linesAt
+  lines-plain e = rw e refl

@@ -60,7 +60,7 @@ job-names : (job : List ℕ) → JobNames job (solveJob job)
 unfolding solveJob solveBodies solveTask andThen firstText listText claimText
 job-names job = go (leb (length job) jobLimit) (bodiesOf job) refl
   where
-    set : (d : Bodies) → bodiesOf job ≡ some d → (x : Outcome Solution) → From (taskOf d) treeRoom x → JobNames job (andThen x setReply)
+    set : (d : Bodies) → bodiesOf job ≡ some d → (x : Outcome Solution) → From (taskOf d) treeRoom x → JobNames job (andThen x (setReply (d .head .pieces)))
     set d f (found r) w = tt
     set d f (naming q n) w =
         record {
@@ -89,7 +89,7 @@ job-names job = go (leb (length job) jobLimit) (bodiesOf job) refl
         within false = body-promise job d f K
     claimed d f claim h (refused q) w = tt
 
-    task : (d : Bodies) → bodiesOf job ≡ some d → (c : Option (List ℕ)) → claimText d ≡ c → JobNames job (solveTask (taskOf d) c)
+    task : (d : Bodies) → bodiesOf job ≡ some d → (c : Option (List ℕ)) → claimText d ≡ c → JobNames job (solveTask (d .head .pieces) (taskOf d) c)
     task d f none h = set d f (solve (taskOf d) treeRoom) (solution-from (taskOf d) treeRoom)
     task d f (some claim) h = claimed d f claim h (judge (taskOf d) claim) (judged-from (taskOf d) claim)
 
@@ -195,7 +195,7 @@ names-one s [] h = refl
 names-one s (x ∷ X) h =
     ap₂ {C = List Label} _∷_ (name-one s x (h x (in-head x X))) (names-one s X (λ (y : Label) (k : isIn y X ≡ true). h y (in-tail y x X k)))
 
-pub one-printed : (s : Tree) (X : List Label) → ((x : Label) → isIn x X ≡ true → holds (keyed One s) x ≡ true)
-    → printedOf (setReply (solution One s X)) ≡ recordLines X (solutionText (solution One s X))
-one-printed s X h =
-    set-printed (solution One s X) ∙ ap (λ (N : List Label). recordLines N (solutionText (solution One s X))) (names-one s X h)
+pub one-printed : (s t : Tree) (xs : List Token) (X : List Label) → ((x : Label) → isIn x X ≡ true → holds (keyed One s) x ≡ true)
+    → printedOf (setReply false (solution One s t xs X)) ≡ recordLines X (solutionText (solution One s t xs X))
+one-printed s t xs X h =
+    set-printed false (solution One s t xs X) ∙ ap (λ (N : List Label). recordLines N (solutionText (solution One s t xs X))) (names-one s X h)

@@ -1,9 +1,9 @@
 -- The lines of a set, of a claim that passes, and of three labels are printed exactly if the papers say so. Assumes nothing.
 use Prim.Native.Nat.{ℕ, _≤_}
 use mathlib.Core.Path.{_≡_, refl, sym, _∙_, ap, ap₂, subst}
-use mathlib.Core.Bool.{true}
+use mathlib.Core.Bool.{Bool, true, false}
 use mathlib.Core.Logic.{_⊎_, inl, inr, _↔_}
-use mathlib.Core.List.{List, [], _∷_, map}
+use mathlib.Core.List.{List, [], _∷_, _++_, map}
 use mathlib.Core.Option.{some}
 use native.Mathlib.Omega.{arith}
 use lib.ListN.{length, getD, length-map}
@@ -14,7 +14,7 @@ use Rattle.trees.specs.declared.Edition.{Edition}
 use Rattle.trees.specs.Edition.{inEdition, folded, keyed, ValidIn}
 use Rattle.trees.specs.Refusals.{numberOf}
 use Rattle.trees.specs.Text.{treeRoom}
-use Rattle.trees.specs.Token.{Token, spelling}
+use Rattle.trees.specs.Token.{Token, spelling, tokenOf}
 use Rattle.trees.specs.Tree.{Tree, leafLimit, leaves}
 use Rattle.trees.specs.Words.{bytesOf}
 use Rattle.trees.specs.Writable.{writableLabels}
@@ -34,19 +34,21 @@ use Rattle.decimals.specs.Decimal.{decimalOf}
 use Rattle.pairs.specs.Outcome.{Outcome, refused, naming, found, andThen, Trio, trio}
 use Rattle.queries.specs.Query.{disagreement}
 use Rattle.mast.specs.Largest.{Solution, solution, solutionText}
+use Rattle.pieces.specs.Pieces.{Piece}
 use Rattle.job.specs.Printed.{Reply, solved, passed, setReply, claimReply}
 use Rattle.lines.specs.Lines.{refusedWords, refusedLine, setLines, recordLines, namingLine, threeLine, claimLine}
-use Rattle.job.specs.Printed.{disagreementLine, claimDisagreementLine, solveJob, printedOf, printed}
-use Rattle.job.specs.JobOutcome.{Asks, SetAnswered, DisagreementAnswered, ClaimAnswered, ClaimDisagreementAnswered, JobOutcome}
+use Rattle.lines.specs.PieceLines.{piecesLines}
+use Rattle.job.specs.Printed.{disagreementLine, claimDisagreementLine, dividedRecord, solveJob, printedOf, printed, pieceBy}
+use Rattle.job.specs.JobOutcome.{Asks, SetAnswered, DividedAnswered, DisagreementAnswered, ClaimAnswered, ClaimDisagreementAnswered, JobOutcome}
 use Rattle.job.specs.JobOutcome.{too-long, no-contents, first-fault, second-fault, list-fault, claim-fault, stray-first, stray-second, first-lacks, second-lacks, three-disagree, largest-set, judged}
 use Rattle.job.proofs.OutcomeLaws.{outcome-exactly, claim-some}
 use Rattle.job.proofs.ReadBack.{kept-line, lines-back, refusal-no-three, three-back, claim-back}
 use Rattle.job.proofs.RoomLaws.{kept-short}
-use Rattle.job.proofs.ShownLaws.{writable-names, set-printed, claim-printed, naming-printed}
+use Rattle.job.proofs.ShownLaws.{writable-names, piecesNamed, piecesPart, set-printed, claim-printed, naming-printed}
 
 -- ---- what is printed of labels: few, and in forms that can be written
 
-module _ {job : List ℕ} {N : List Label} {text : List ℕ} (a : SetAnswered job N text) where
+module _ {job : List ℕ} {pieces : Bool} {N : List Label} {text : List ℕ} (a : SetAnswered job pieces N text) where
   inside : (x : Label) → isIn x (a .X) ≡ true → isIn x (leaves (keyed (a .e) (a .s))) ≡ true
   unfolding holds
   inside x h = a .isAnswer .allowedSet .commonLeaves x h .0
@@ -103,7 +105,7 @@ module _ {job : List ℕ} {n : ℕ} (a : ClaimAnswered job n) where
 -- ---- what an outcome that names a set, a size or labels means
 
 abbrev pub MeantFor : List ℕ → Reply → Type 0
-MeantFor job (solved r) = SetAnswered job (map (nameIn (r .edition) (r .first)) (r .set)) (solutionText r)
+MeantFor job (solved pieces r) = SetAnswered job pieces (map (nameIn (r .edition) (r .first)) (r .set)) (solutionText r)
 MeantFor job (passed n) = ClaimAnswered job n
 
 -- three labels as the first tree spells them
@@ -190,6 +192,7 @@ module _ (job : List ℕ) where
         xs = xs;
         X = X;
         asked = asks;
+        line = refl;
         isAnswer = o;
         spelled = refl;
         first-text = refl;
@@ -226,9 +229,16 @@ refusal-opens q = refl
 naming-opens : (q : Refusal) (n : Trio) → firstByte (printedOf (naming q n)) ≡ 114
 naming-opens q n = ap firstByte (naming-printed q n) ∙ three-opens q _ _ _
 
-solved-opens : (r : Solution) → firstByte (printedOf (setReply r)) ≡ 115
+solved-opens : (r : Solution) → firstByte (printedOf (setReply false r)) ≡ 115
 solved-opens r =
-    ap firstByte (set-printed r) ∙ record-opens (map (nameIn (r .edition) (r .first)) (r .set)) (solutionText r)
+    ap firstByte (set-printed false r) ∙ record-opens (map (nameIn (r .edition) (r .first)) (r .set)) (solutionText r)
+
+pieces-opens : (ps : List Piece) (rest : List ℕ) → firstByte (piecesLines ps ++ rest) ≡ 112
+unfolding piecesLines line bytesOf
+pieces-opens ps rest = refl
+
+divided-opens : (r : Solution) → firstByte (printedOf (setReply true r)) ≡ 112
+divided-opens r = ap firstByte (set-printed true r) ∙ pieces-opens (map (pieceBy tokenOf) (piecesNamed r)) _
 
 passed-opens : (n : ℕ) → firstByte (printedOf (claimReply n)) ≡ 99
 passed-opens n = ap firstByte (claim-printed n) ∙ claim-opens n
@@ -242,28 +252,57 @@ eight-fourteen a b c x y z e =
 
 -- ---- the lines of a set
 
+-- as the record has them
+pub answered-lines : (job : List ℕ) (pieces : Bool) (N : List Label) (text : List ℕ) → (a : SetAnswered job pieces N text)
+    → printed job ≡ piecesPart pieces (solution (a .e) (a .s) (a .t) (a .xs) (a .X)) ++ recordLines N text
+unfolding printed solutionText
+answered-lines job pieces N text a =
+    let r : Solution = solution (a .e) (a .s) (a .t) (a .xs) (a .X) in
+    ap printedOf (outcome-exactly job _ .1 (largest-set (a .e) (a .s) (a .t) (a .xs) (a .asked) (a .X) (a .isAnswer))
+    ∙ ap (λ (b : Bool). setReply b r) (a .line))
+    ∙ set-printed pieces r
+    ∙ ap₂ (λ (M : List Label) (l : List ℕ). piecesPart pieces r ++ recordLines M l) (sym (a .spelled)) (sym (a .first-text))
+
 module _ (job : List ℕ) (N : List Label) (text : List ℕ) (can : writableLabels N ≡ true) where
-  set-from : (x : Outcome Reply) → Meant job x → printedOf x ≡ recordLines N text → SetAnswered job N text
-  set-from (found (solved r)) a k =
-      let w = lines-back N _ text _ can (set-writable a) (set-few a) (set-line a) (sym k ∙ set-printed r) in
+  set-from : (x : Outcome Reply) → Meant job x → printedOf x ≡ recordLines N text → SetAnswered job false N text
+  set-from (found (solved true r)) a k = absurd (omega (arith, ap firstByte k, divided-opens r, record-opens N text))
+  set-from (found (solved false r)) a k =
+      let w = lines-back N _ text _ can (set-writable a) (set-few a) (set-line a) (sym k ∙ set-printed false r) in
       rw (w .0, w .1) a
   set-from (found (passed n)) a k = absurd (omega (arith, ap firstByte k, passed-opens n, record-opens N text))
   set-from (naming q n) m k = absurd (omega (arith, ap firstByte k, naming-opens q n, record-opens N text))
   set-from (refused q) m k = absurd (omega (arith, ap firstByte k, refusal-opens q, record-opens N text))
 
 pub set-lines : (job : List ℕ) (N : List Label) (text : List ℕ)
-    → ((writableLabels N ≡ true) × (printed job ≡ recordLines N text)) ↔ SetAnswered job N text
-unfolding printed solutionText
+    → ((writableLabels N ≡ true) × (printed job ≡ recordLines N text)) ↔ SetAnswered job false N text
+unfolding printed
 set-lines job N text = (
   λ (k : (writableLabels N ≡ true) × (printedOf (solveJob job) ≡ recordLines N text)).
       set-from job N text (k .0) (solveJob job) (job-meant job) (k .1),
-  λ (a : SetAnswered job N text). (
-    set-writable a,
-    ap printedOf (outcome-exactly job _ .1 (largest-set (a .e) (a .s) (a .t) (a .xs) (a .asked) (a .X) (a .isAnswer)))
-        ∙ set-printed (solution (a .e) (a .s) (a .X))
-        ∙ ap₂ recordLines (sym (a .spelled)) (sym (a .first-text)),
-  ),
+  λ (a : SetAnswered job false N text). (set-writable a, answered-lines job false N text a),
 )
+
+-- ---- the lines of a set and its pieces
+
+pub divided-lines : (job : List ℕ) (P : List Piece) (N : List Label) (text : List ℕ) → DividedAnswered job P N text
+    → printed job ≡ dividedRecord P N text
+divided-lines job P N text a =
+    answered-lines job true N text (a .set)
+    ∙ ap (λ (Q : List Piece). dividedRecord Q N text) (sym (a .pieces-are))
+
+-- the only lines that begin with `pieces`
+pub divided-only : (job rest : List ℕ) → printed job ≡ bytesOf "pieces " ++ rest
+    → (P : List Piece) × (N : List Label) × (text : List ℕ) × DividedAnswered job P N text
+unfolding printed bytesOf
+divided-only job rest k = from (solveJob job) (job-meant job) (ap firstByte k)
+  where
+    from : (x : Outcome Reply) → Meant job x → firstByte (printedOf x) ≡ 112
+        → (P : List Piece) × (N : List Label) × (text : List ℕ) × DividedAnswered job P N text
+    from (found (solved true r)) a h = (_, _, _, record { set = a; pieces-are = refl })
+    from (found (solved false r)) a h = absurd (omega (arith, solved-opens r))
+    from (found (passed n)) a h = absurd (omega (arith, passed-opens n))
+    from (naming q n) a h = absurd (omega (arith, naming-opens q n))
+    from (refused q) a h = absurd (omega (arith, refusal-opens q))
 
 -- ---- the line of a claim that passes
 
@@ -279,7 +318,8 @@ claim-lines job n = (
 )
   where
     from : (x : Outcome Reply) → Meant job x → printedOf x ≡ claimLine n → ClaimAnswered job n
-    from (found (solved r)) a k = absurd (omega (arith, ap firstByte k, solved-opens r, claim-opens n))
+    from (found (solved true r)) a k = absurd (omega (arith, ap firstByte k, divided-opens r, claim-opens n))
+    from (found (solved false r)) a k = absurd (omega (arith, ap firstByte k, solved-opens r, claim-opens n))
     from (found (passed m)) a k =
         subst (ClaimAnswered job) (claim-back m n (omega (arith, a .size, claim-few a)) (sym (claim-printed m) ∙ k)) a
     from (naming q m) a k = absurd (omega (arith, ap firstByte k, naming-opens q m, claim-opens n))
@@ -297,7 +337,8 @@ module _ (job : List ℕ) (u v w : Label) where
   -- neither the lines of a set or a claim nor a refusal without labels
   only-naming : (p : Refusal) (G : Type 0) (x : Outcome Reply) → Meant job x
       → ((q : Refusal) (n : Trio) → Meant job (naming q n) → printedOf (naming q n) ≡ threeLine p u v w → G) → printedOf x ≡ threeLine p u v w → G
-  only-naming p G (found (solved r)) m f k = absurd (omega (arith, ap firstByte k, solved-opens r, three-opens p u v w))
+  only-naming p G (found (solved true r)) m f k = absurd (omega (arith, ap firstByte k, divided-opens r, three-opens p u v w))
+  only-naming p G (found (solved false r)) m f k = absurd (omega (arith, ap firstByte k, solved-opens r, three-opens p u v w))
   only-naming p G (found (passed n)) m f k = absurd (omega (arith, ap firstByte k, passed-opens n, three-opens p u v w))
   only-naming p G (naming q n) m f k = f q n m k
   only-naming p G (refused q) m f k = absurd (refusal-no-three q p u v w k)

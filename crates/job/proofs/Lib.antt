@@ -1,8 +1,10 @@
 pub mod AnswerLaws
 pub mod ClashLaws
 pub mod DemandLaws
+pub mod DividedLaws
 pub mod NineLaws
 pub mod OutcomeLaws
+pub mod PieceLaws
 pub mod PrintLaws
 pub mod ProgramLaws
 pub mod Promises

@@ -88,9 +88,9 @@ module _ (job : List ℕ) (b : Bodies) (held : Holds job b) where
   E = editionIn b
 
   abbrev Out : Type 0
-  Out = JobOutcome job (solveTask (taskOf b) (claimText b))
+  Out = JobOutcome job (solveTask (b .head .pieces) (taskOf b) (claimText b))
 
-  of : (x : Outcome Reply) → solveTask (taskOf b) (claimText b) ≡ x → JobOutcome job x → Out
+  of : (x : Outcome Reply) → solveTask (b .head .pieces) (taskOf b) (claimText b) ≡ x → JobOutcome job x → Out
   of x e o = subst (JobOutcome job) (sym e) o
 
   module _ (s t : Tree) (first : readTreeIn E (firstText b) ≡ good s) (second : readTreeIn E (secondText b) ≡ good t) where
@@ -108,7 +108,7 @@ module _ (job : List ℕ) (b : Bodies) (held : Holds job b) where
         abbrev reads : Reads (taskOf b) s t xs
         reads = record { first-is = first; second-is = second; shared = shared; list-is = listed }
 
-        asks : (c : Option (List Token)) → ClaimRead E (claimText b) c → Asks job E s t xs c
+        abbrev asks : (c : Option (List Token)) → ClaimRead E (claimText b) c → Asks job E s t xs c
         asks c w = record {
           bodies = b;
           held = held;
@@ -129,14 +129,14 @@ module _ (job : List ℕ) (b : Bodies) (held : Holds job b) where
             (last : (X : List Label) → IsAnswer (keyed E s) (keyed E t) (keysOf E xs) X → Out) where
           answers : (A : Answer) → answer (keyed E s) (keyed E t) (keysOf E xs) ≡ A → Out
           answers (firstLacks n) k =
-              of _ (task-first-lacks (taskOf b) s t xs reads (claimText b) (read-claim E (claimText b) c w) n (told (firstLacks n) k))
+              of _ (task-first-lacks (b .head .pieces) (taskOf b) s t xs reads (claimText b) (read-claim E (claimText b) c w) n (told (firstLacks n) k))
               (first-lacks E s t xs c (asks c w) n (told (firstLacks n) k))
           answers (secondLacks n) k =
-              of _ (task-second-lacks (taskOf b) s t xs reads (claimText b) (read-claim E (claimText b) c w) n (told (secondLacks n) k))
+              of _ (task-second-lacks (b .head .pieces) (taskOf b) s t xs reads (claimText b) (read-claim E (claimText b) c w) n (told (secondLacks n) k))
               (second-lacks E s t xs c (asks c w) n (told (secondLacks n) k))
           answers (disagree p q r) k =
               let o = told (disagree p q r) k in
-              of _ (task-clash (taskOf b) s t xs reads (claimText b) (read-claim E (claimText b) c w) p q r (o .0) (o .1))
+              of _ (task-clash (b .head .pieces) (taskOf b) s t xs reads (claimText b) (read-claim E (claimText b) c w) p q r (o .0) (o .1))
               (three-disagree E s t xs c (asks c w) p q r (o .0) (o .1))
           answers (largest X) k = last X (told (largest X) k)
 
@@ -145,13 +145,13 @@ module _ (job : List ℕ) (b : Bodies) (held : Holds job b) where
             let w : ClaimRead E (claimText b) none = subst (λ (y : Option (List ℕ)). ClaimRead E y none) (sym d) tt in
             answers none w
             (λ (X : List Label) (o : IsAnswer (keyed E s) (keyed E t) (keysOf E xs) X).
-            of _ (ap (solveTask (taskOf b)) d ∙ task-set (taskOf b) s t xs reads X o) (largest-set E s t xs (asks none w) X o))
+            of _ (ap (solveTask (b .head .pieces) (taskOf b)) d ∙ task-set (b .head .pieces) (taskOf b) s t xs reads X o) (largest-set E s t xs (asks none w) X o))
             (answer (keyed E s) (keyed E t) (keysOf E xs)) refl
         claimed (some text) d = go (readListIn E text) refl
           where
             go : (z : Reading (List Token)) → readListIn E text ≡ z → Out
             go (unread r i) k =
-                of _ (ap (solveTask (taskOf b)) d ∙ task-claim (taskOf b) s t first second shared xs listed text r i k)
+                of _ (ap (solveTask (b .head .pieces) (taskOf b)) d ∙ task-claim (b .head .pieces) (taskOf b) s t first second shared xs listed text r i k)
                 (claim-fault b held s t one-body two-body shared xs list-body text d r i (lists.refused-first E text r i k))
             go (good ys) k =
                 let w : ClaimRead E (claimText b) (some ys) =
@@ -159,14 +159,14 @@ module _ (job : List ℕ) (b : Bodies) (held : Holds job b) where
                 answers (some ys) w
                 (λ (X : List Label) (o : IsAnswer (keyed E s) (keyed E t) (keysOf E xs) X).
                 let clear = answer-clear (keyed E s) (keyed E t) (keysOf E xs) X o in
-                let v = some-verdict (taskOf b) s t xs reads text ys k clear in
-                of _ (ap (solveTask (taskOf b)) d ∙ task-verdict (taskOf b) s t xs reads text ys k clear (v .0) (v .1))
+                let v = some-verdict (b .head .pieces) (taskOf b) s t xs reads text ys k clear in
+                of _ (ap (solveTask (b .head .pieces) (taskOf b)) d ∙ task-verdict (b .head .pieces) (taskOf b) s t xs reads text ys k clear (v .0) (v .1))
                 (judged E s t xs ys (asks (some ys) w) clear (v .0) (v .1)))
                 (answer (keyed E s) (keyed E t) (keysOf E xs)) refl
 
       listed-outcome : (z : Reading (List Token)) → readListIn E (listText b) ≡ z → Out
       listed-outcome (unread r i) e =
-          of _ (task-list (taskOf b) s t first second shared (claimText b) r i e)
+          of _ (task-list (b .head .pieces) (taskOf b) s t first second shared (claimText b) r i e)
           (list-fault b held s t one-body two-body shared r i (lists.refused-first E (listText b) r i e))
       listed-outcome (good xs) e = claimed xs e (claimText b) refl
 
@@ -174,10 +174,10 @@ module _ (job : List ℕ) (b : Bodies) (held : Holds job b) where
     shared-outcome : (z : Stray) → strayFor (taskOf b .options) s t ≡ z → Out
     shared-outcome (inFirst x) e =
         let w = stray-strict (taskOf b .options) s t (inFirst x) e (λ k. let z : _≡_ {A = ℕ} 0 1 = cc in absurd (omega arith)) in
-        of _ (task-stray-first (taskOf b) s t first second (claimText b) (w .0) x (w .1)) (stray-first b held (w .0) s t one-body two-body x (w .1))
+        of _ (task-stray-first (b .head .pieces) (taskOf b) s t first second (claimText b) (w .0) x (w .1)) (stray-first b held (w .0) s t one-body two-body x (w .1))
     shared-outcome (inSecond x) e =
         let w = stray-strict (taskOf b .options) s t (inSecond x) e (λ k. let z : _≡_ {A = ℕ} 0 1 = cc in absurd (omega arith)) in
-        of _ (task-stray-second (taskOf b) s t first second (claimText b) (w .0) x (w .1 .0) (w .1 .1))
+        of _ (task-stray-second (b .head .pieces) (taskOf b) s t first second (claimText b) (w .0) x (w .1 .0) (w .1 .1))
         (stray-second b held (w .0) s t one-body two-body x (w .1 .0) (w .1 .1))
     shared-outcome nowhere e = listed-outcome (nowhere-shared (taskOf b .options) s t e) (readListIn E (listText b)) refl
 
@@ -186,9 +186,9 @@ module _ (job : List ℕ) (b : Bodies) (held : Holds job b) where
     where
       go : (x y : Reading Tree) → readTreeIn E (firstText b) ≡ x → readTreeIn E (secondText b) ≡ y → Out
       go (unread r i) y ex ey =
-          of _ (task-first (taskOf b) (claimText b) r i ex) (first-fault b held r i (newick.refused-first E (firstText b) r i ex))
+          of _ (task-first (b .head .pieces) (taskOf b) (claimText b) r i ex) (first-fault b held r i (newick.refused-first E (firstText b) r i ex))
       go (good s) (unread r i) ex ey =
-          of _ (task-second (taskOf b) (claimText b) r i s ex ey)
+          of _ (task-second (b .head .pieces) (taskOf b) (claimText b) r i s ex ey)
           (second-fault b held s (tree-body E (firstText b) s ex) r i (newick.refused-first E (secondText b) r i ey))
       go (good s) (good t) ex ey = shared-outcome s t ex ey (strayFor (taskOf b .options) s t) refl
 
@@ -208,18 +208,18 @@ outcome job = sized (bool-cases (leb (length job) jobLimit))
 -- ---- and one only
 
 module _ (job : List ℕ) (b : Bodies) (held : Holds job b) where
-  pub job-solve : solveJob job ≡ solveTask (taskOf b) (claimText b)
+  pub job-solve : solveJob job ≡ solveTask (b .head .pieces) (taskOf b) (claimText b)
   unfolding solveJob solveBodies
   job-solve = rw (le-leb (length job) jobLimit (held .size)) (ap solveBodies (holds-bodies job b held))
 
   -- the two sorts of jobs
-  pub without-claim : claimText b ≡ none → solveJob job ≡ andThen (solve (taskOf b) treeRoom) setReply
+  pub without-claim : claimText b ≡ none → solveJob job ≡ andThen (solve (taskOf b) treeRoom) (setReply (b .head .pieces))
   unfolding solveTask
-  without-claim d = job-solve ∙ ap (solveTask (taskOf b)) d
+  without-claim d = job-solve ∙ ap (solveTask (b .head .pieces) (taskOf b)) d
 
   pub with-claim : (text : List ℕ) → claimText b ≡ some text → solveJob job ≡ andThen (judge (taskOf b) text) claimReply
   unfolding solveTask
-  with-claim text d = job-solve ∙ ap (solveTask (taskOf b)) d
+  with-claim text d = job-solve ∙ ap (solveTask (b .head .pieces) (taskOf b)) d
 
 module _ (job : List ℕ) (e : Edition) (s t : Tree) (xs : List Token) (c : Option (List Token)) (asks : Asks job e s t xs c) where
   abbrev bodies : Bodies
@@ -246,8 +246,8 @@ module _ (job : List ℕ) (e : Edition) (s t : Tree) (xs : List Token) (c : Opti
   asked-claim : ReadClaim e (claimText bodies)
   asked-claim = read-claim e (claimText bodies) c (asks .claim)
 
-  decided : (x : Outcome Reply) → solveTask asked (claimText bodies) ≡ x → solveJob job ≡ x
-  decided x o = job-solve job bodies (asks .held) ∙ ap (λ (q : Task). solveTask q (claimText bodies)) (sym asked-is) ∙ o
+  decided : (x : Outcome Reply) → solveTask (bodies .head .pieces) asked (claimText bodies) ≡ x → solveJob job ≡ x
+  decided x o = job-solve job bodies (asks .held) ∙ ap (λ (q : Task). solveTask (bodies .head .pieces) q (claimText bodies)) (sym asked-is) ∙ o
 
 one : (job : List ℕ) (x : Outcome Reply) → JobOutcome job x → solveJob job ≡ x
 unfolding solveJob solveBodies asked
@@ -258,41 +258,41 @@ one job x (no-contents h never) = rw (le-leb (length job) jobLimit h) (go (bodie
     go none e = refl
     go (some b) e = absurd (never b (bodies-follow job b e))
 one job x (first-fault b held r i f) =
-    job-solve job b held ∙ task-first (taskOf b) (claimText b) r i (newick.first-refused (editionIn b) (firstText b) r i f)
+    job-solve job b held ∙ task-first (b .head .pieces) (taskOf b) (claimText b) r i (newick.first-refused (editionIn b) (firstText b) r i f)
 one job x (second-fault b held s p r i f) =
     job-solve job b held
-    ∙ task-second (taskOf b) (claimText b) r i s (body-tree (editionIn b) (firstText b) s p) (newick.first-refused (editionIn b) (secondText b) r i f)
+    ∙ task-second (b .head .pieces) (taskOf b) (claimText b) r i s (body-tree (editionIn b) (firstText b) s p) (newick.first-refused (editionIn b) (secondText b) r i f)
 one job x (list-fault b held s t p q h r i f) =
     job-solve job b held
-    ∙ task-list (taskOf b) s t (body-tree (editionIn b) (firstText b) s p) (body-tree (editionIn b) (secondText b) t q) h (claimText b) r i
+    ∙ task-list (b .head .pieces) (taskOf b) s t (body-tree (editionIn b) (firstText b) s p) (body-tree (editionIn b) (secondText b) t q) h (claimText b) r i
     (lists.first-refused (editionIn b) (listText b) r i f)
 one job x (claim-fault b held s t p q h xs l text d r i f) =
     job-solve job b held
-    ∙ ap (solveTask (taskOf b)) d
-    ∙ task-claim (taskOf b) s t (body-tree (editionIn b) (firstText b) s p) (body-tree (editionIn b) (secondText b) t q) h xs
+    ∙ ap (solveTask (b .head .pieces) (taskOf b)) d
+    ∙ task-claim (b .head .pieces) (taskOf b) s t (body-tree (editionIn b) (firstText b) s p) (body-tree (editionIn b) (secondText b) t q) h xs
     (lists.labels-read (editionIn b) (listText b) xs l) text r i (lists.first-refused (editionIn b) text r i f)
 one job x (stray-first b held e s t p q y k) =
     job-solve job b held
-    ∙ task-stray-first (taskOf b) s t (body-tree (editionIn b) (firstText b) s p) (body-tree (editionIn b) (secondText b) t q) (claimText b) e y k
+    ∙ task-stray-first (b .head .pieces) (taskOf b) s t (body-tree (editionIn b) (firstText b) s p) (body-tree (editionIn b) (secondText b) t q) (claimText b) e y k
 one job x (stray-second b held e s t p q y a k) =
     job-solve job b held
-    ∙ task-stray-second (taskOf b) s t (body-tree (editionIn b) (firstText b) s p) (body-tree (editionIn b) (secondText b) t q) (claimText b) e y a k
+    ∙ task-stray-second (b .head .pieces) (taskOf b) s t (body-tree (editionIn b) (firstText b) s p) (body-tree (editionIn b) (secondText b) t q) (claimText b) e y a k
 one job x (first-lacks e s t xs c asks n o) =
-    decided job e s t xs c asks _ (task-first-lacks (asked job e s t xs c asks) s t xs (asked-reads job e s t xs c asks) (claimText (asks .bodies))
+    decided job e s t xs c asks _ (task-first-lacks (asks .bodies .head .pieces) (asked job e s t xs c asks) s t xs (asked-reads job e s t xs c asks) (claimText (asks .bodies))
     (asked-claim job e s t xs c asks) n o)
 one job x (second-lacks e s t xs c asks n o) =
-    decided job e s t xs c asks _ (task-second-lacks (asked job e s t xs c asks) s t xs (asked-reads job e s t xs c asks) (claimText (asks .bodies))
+    decided job e s t xs c asks _ (task-second-lacks (asks .bodies .head .pieces) (asked job e s t xs c asks) s t xs (asked-reads job e s t xs c asks) (claimText (asks .bodies))
     (asked-claim job e s t xs c asks) n o)
 one job x (three-disagree e s t xs z asks a b c held o) =
-    decided job e s t xs z asks _ (task-clash (asked job e s t xs z asks) s t xs (asked-reads job e s t xs z asks) (claimText (asks .bodies))
+    decided job e s t xs z asks _ (task-clash (asks .bodies .head .pieces) (asked job e s t xs z asks) s t xs (asked-reads job e s t xs z asks) (claimText (asks .bodies))
     (asked-claim job e s t xs z asks) a b c held o)
 one job x (largest-set e s t xs asks X o) =
-    decided job e s t xs none asks _ (ap (solveTask (asked job e s t xs none asks)) (claim-none e (claimText (asks .bodies)) (asks .claim))
-    ∙ task-set (asked job e s t xs none asks) s t xs (asked-reads job e s t xs none asks) X o)
+    decided job e s t xs none asks _ (ap (solveTask (asks .bodies .head .pieces) (asked job e s t xs none asks)) (claim-none e (claimText (asks .bodies)) (asks .claim))
+    ∙ task-set (asks .bodies .head .pieces) (asked job e s t xs none asks) s t xs (asked-reads job e s t xs none asks) X o)
 one job x (judged e s t xs ys asks clear v o) =
     let w = claim-some e (claimText (asks .bodies)) ys (asks .claim) in
-    decided job e s t xs (some ys) asks _ (ap (solveTask (asked job e s t xs (some ys) asks)) (w .1)
-    ∙ task-verdict (asked job e s t xs (some ys) asks) s t xs (asked-reads job e s t xs (some ys) asks) (w .0) ys
+    decided job e s t xs (some ys) asks _ (ap (solveTask (asks .bodies .head .pieces) (asked job e s t xs (some ys) asks)) (w .1)
+    ∙ task-verdict (asks .bodies .head .pieces) (asked job e s t xs (some ys) asks) s t xs (asked-reads job e s t xs (some ys) asks) (w .0) ys
     (lists.labels-read e (w .0) ys (w .2)) clear v o)
 
 pub outcome-exactly : (job : List ℕ) (x : Outcome Reply) → (solveJob job ≡ x) ↔ JobOutcome job x

@@ -1,9 +1,9 @@
 -- What jobs promise, in 01's order. Each theorem cites one name. Assumes nothing.
-use Prim.Native.Nat.{ℕ, _+_, _<_, _≤_}
+use Prim.Native.Nat.{ℕ, _+_, _*_, _<_, _≤_}
 use mathlib.Core.Path.{_≡_, refl}
-use mathlib.Core.Bool.{true}
+use mathlib.Core.Bool.{Bool, true, false}
 use mathlib.Core.Logic.{_↔_}
-use mathlib.Core.List.{List, [], _∷_, map}
+use mathlib.Core.List.{List, [], _∷_, _++_, map}
 use mathlib.Core.Option.{some, none}
 use lib.ListN.{length, take}
 use Rattle.trees.specs.declared.Refusal.{Refusal}
@@ -13,14 +13,17 @@ use Rattle.trees.specs.Text.{treeRoom}
 use Rattle.trees.specs.Token.{Token}
 use Rattle.trees.specs.declared.Edition.{Edition}
 use Rattle.trees.specs.declared.Edition.the-variants.{One}
-use Rattle.trees.specs.Edition.{key, folded, keyed}
-use Rattle.trees.specs.Tree.{Tree, leafLimit}
-use Rattle.lists.specs.ReadList.{listLimit, foldedList}
+use Rattle.trees.specs.Edition.{key, folded, keyed, rewritten}
+use Rattle.trees.specs.Tree.{Tree, leafLimit, normal}
+use Rattle.lists.specs.ReadList.{listLimit, foldedList, keysOf}
 use Rattle.trees.specs.Words.{bytesOf, Within}
 use Rattle.trees.specs.Writable.{writableLabels}
 use Rattle.agreement.specs.Closer.{holds}
 use Rattle.agreement.specs.Places.{placeIn, placeOfLabel, tokenOfKey, spelledIn}
+use Rattle.agreement.specs.Restrict.{restrict}
+use Rattle.agreement.specs.Sets.{keep, common, setOf}
 use Rattle.agreement.specs.Strict.{SameLeaves}
+use Rattle.pieces.specs.Pieces.{placeOf, cladesOf, Piece, listed, pieces, total, joinedSets}
 use Rattle.contents.specs.declared.Stated.the-variants as states
 use Rattle.contents.specs.Contents.{Bodies, digitLimit, editionOf, part, firstText, secondText, listText, claimText, under}
 use Rattle.mast.specs.declared.Named.{Named}
@@ -30,16 +33,18 @@ use Rattle.mast.specs.Largest.{Solution, solution, solutionText, tooShort, solv
 use Rattle.claims.specs.Judge.{claimDisagreement, judge}
 use Rattle.job.specs.declared.JobAnswer.the-variants as job-answer
 use Rattle.job.specs.Printed.{Reply, solved, passed, setReply, claimReply, taskOf, jobLimit, solveBodies, solveJob}
-use Rattle.lines.specs.Lines.{recordRoom, recordLines, claimLine, namedLine}
-use Rattle.job.specs.Printed.{disagreementLine, claimDisagreementLine, printedOf, printed}
+use Rattle.lines.specs.Lines.{recordLines, claimLine, namedLine}
+use Rattle.lines.specs.PieceLines.{linesRoom}
+use Rattle.job.specs.Printed.{disagreementLine, claimDisagreementLine, dividedRecord, shownOf, piecesBy, printedOf, printed, pieceBy}
 use Rattle.lines.specs.Output.{lineAnswer, lineOutput, writtenPart}
 use Rattle.job.specs.Answered.{beginIn, answerTo}
-use Rattle.job.specs.JobOutcome.{Holds, editionIn, TreeBody, SetAnswered, DisagreementAnswered, ClaimAnswered, ClaimDisagreementAnswered, JobOutcome, Stopped, withoutLine}
+use Rattle.job.specs.JobOutcome.{Holds, editionIn, TreeBody, SetAnswered, DividedAnswered, DisagreementAnswered, ClaimAnswered, ClaimDisagreementAnswered, JobOutcome, Stopped, withoutPiecesLine, plainly, withoutLine}
 use Rattle.job.specs.PaperNumbers.{saidOfJob}
 use Rattle.job.specs.PaperTable.{NumberRow, numberRows, LetterRow, letterRows, Limits, paperLimits, LineRow, linesOf, bytesOfJob, lineRows}
 use Rattle.job.specs.Sides.{SidesExchanged}
 use Rattle.job.proofs.ClashLaws
 use Rattle.job.proofs.DemandLaws
+use Rattle.job.proofs.DividedLaws
 use Rattle.job.proofs.NineLaws
 use Rattle.job.proofs.OutcomeLaws
 use Rattle.job.proofs.ProgramLaws
@@ -48,12 +53,67 @@ use Rattle.job.proofs.SidesLaws
 use Rattle.job.proofs.StrictLaws
 use Rattle.job.proofs.Table
 
--- Demand 3, from the bytes of a job. The program prints the lines for labels N and a tree text if and only if the job has no claim, its
--- bodies can be read, N is the largest and first set as the first tree spells it, and the text is the normal text of the common
--- restriction. N ranges over labels that a text can contain (`writableLabels`); other byte strings could be printed alike.
+-- Demand 3, from the bytes of a job. The program prints the lines for labels N and a tree text if and only if the job has no claim and no
+-- line `pieces`, its bodies can be read, N is the largest and first set as the first tree spells it, and the text is the normal text of the
+-- common restriction. N ranges over labels that a text can contain (`writableLabels`); other byte strings could be printed alike.
 pub demand-promise : (job : List ℕ) (N : List Label) (text : List ℕ)
-    → ((writableLabels N ≡ true) × (printed job ≡ recordLines N text)) ↔ SetAnswered job N text
+    → ((writableLabels N ≡ true) × (printed job ≡ recordLines N text)) ↔ SetAnswered job false N text
 demand-promise = DemandLaws.set-lines
+
+-- C-17, from the bytes of a job. A job with the line `pieces` that is answered with a set first prints the total and the `at` lines. They are
+-- those of the definition, over the keys of both trees and of the required list, with the labels as the first tree spells them.
+pub divided-promise : (job : List ℕ) (P : List Piece) (N : List Label) (text : List ℕ) → DividedAnswered job P N text
+    → printed job ≡ dividedRecord P N text
+divided-promise = DemandLaws.divided-lines
+
+-- No other job prints lines that begin so.
+pub divided-only : (job rest : List ℕ) → printed job ≡ bytesOf "pieces " ++ rest
+    → (P : List Piece) × (N : List Label) × (text : List ℕ) × DividedAnswered job P N text
+divided-only = DemandLaws.divided-only
+
+-- The line "adds them before `size`": the lines of the set are those of the job without it, and so are the refusals.
+pub record-follows : (r : Solution) → printedOf (setReply true r) ≡ piecesBy rewritten (shownOf true r .pieces) ++ printedOf (setReply false r)
+record-follows = DividedLaws.record-follows
+
+pub line-plain : (b : Bodies) → plainly (solveBodies (some b)) ≡ solveBodies (some (withoutPiecesLine b))
+line-plain = DividedLaws.line-plain
+
+-- A job that is answered with a set, whether or not it has the line. S, T and K are its trees and its required list by their keys, X is its
+-- set.
+module _ {job : List ℕ} {shows : Bool} {N : List Label} {text : List ℕ} (a : SetAnswered job shows N text) where
+  abbrev S : Tree
+  S = keyed (a .e) (a .s)
+
+  abbrev T : Tree
+  T = keyed (a .e) (a .t)
+
+  abbrev K : List Label
+  K = keysOf (a .e) (a .xs)
+
+  -- "The engine's set is the required leaves joined with the sets it gives for the pieces, each with its one required label"
+  pub joined-promise : a .X ≡ keep (setOf (K ++ joinedSets S T (pieces S T K))) (common S T)
+  joined-promise = DividedLaws.set-joined a
+
+  -- "and one whose places differ is in no answer"
+  pub place-promise : (x : Label) → isIn x (a .X) ≡ true → isIn x K ≡ false → placeOf K S x ≡ placeOf K T x
+  place-promise = DividedLaws.set-placed a
+
+  -- "When k required leaves, k at least 1, agree, their common restricted tree has 2k - 1 places"
+  pub places-promise : (y : Label) → isIn y K ≡ true
+      → (r : Tree) × (restrict (setOf K) S ≡ some r) × (length (cladesOf (normal r)) + 1 ≡ 2 * length K)
+  places-promise = DividedLaws.places-of a
+
+  -- The total "is at most n + k - 1, with n common leaves in all", for k at least 1.
+  pub total-promise : (y : Label) → isIn y K ≡ true → total (pieces S T K) + 1 ≤ length (common S T) + length K
+  total-promise = DividedLaws.total-most a
+
+  -- "A job with K empty is one piece, all common leaves and no required one, or no piece if there are none; its total is n"
+  pub no-required-promise : K ≡ [] → (pieces S T K ≡ listed [] (common S T) []) × (total (pieces S T K) ≡ length (common S T))
+  no-required-promise e = (DividedLaws.piece-none a e, DividedLaws.total-none a e)
+
+-- The total that is printed is that of the pieces by their keys: a spelling changes no number of labels.
+pub total-printed : (name : Label → Token) (P : List Piece) → total (map (pieceBy name) P) ≡ total P
+total-printed = DividedLaws.total-by
 
 -- The program prints number 8's line with three labels if and only if these are the first three required labels with different closer
 -- pairs, as the first tree spells them. Here too the labels are ones that a text can contain.
@@ -74,7 +134,8 @@ fourteen-promise = DemandLaws.fourteen-lines
 
 -- "that is the job's answer: what 01 and demands 1 and 3 say of the set as the answer is about jobs without C". A job without C has the
 -- engine's solution for its trees and list, a job with C the judgement of its claim.
-pub no-claim : (job : List ℕ) (b : Bodies) → Holds job b → claimText b ≡ none → solveJob job ≡ andThen (solve (taskOf b) treeRoom) setReply
+pub no-claim : (job : List ℕ) (b : Bodies) → Holds job b → claimText b ≡ none
+    → solveJob job ≡ andThen (solve (taskOf b) treeRoom) (setReply (b .head .pieces))
 no-claim = OutcomeLaws.without-claim
 
 pub claim-judged : (job : List ℕ) (b : Bodies) → Holds job b → (text : List ℕ) → claimText b ≡ some text
@@ -134,9 +195,9 @@ pub nine-of-output : (job : List ℕ) (room : ℕ) (q : Refusal) → answerTo jo
     → numberOf (q .reason) ≡ 9 → room < length (printed job)
 nine-of-output = NineLaws.nine-output
 
-pub nine-when-short : (job : List ℕ) (room : ℕ) → room < length (printed job) → (r : Solution) → solveJob job ≡ setReply r
+pub nine-when-short : (job : List ℕ) (room : ℕ) → room < length (printed job) → (shows : Bool) (r : Solution) → solveJob job ≡ setReply shows r
     → answerTo job room ≡ job-answer.Refused tooShort
-nine-when-short job room h r = NineLaws.short-output job room h (solved r)
+nine-when-short job room h shows r = NineLaws.short-output job room h (solved shows r)
 
 pub nine-when-claim-short : (job : List ℕ) (room : ℕ) → room < length (printed job) → (n : ℕ) → solveJob job ≡ claimReply n
     → answerTo job room ≡ job-answer.Refused tooShort
@@ -167,22 +228,22 @@ fourteen-places = ClashLaws.fourteen-shown
 
 -- C-15, "a job without it has edition 1": the same job with the line `E 1`, or without it, has the same answer.
 pub edition-one-written : (b : Bodies)
-    → solveBodies (some (under (record { strict = b .head .strict; stated = states.Nothing }) b))
-    ≡ solveBodies (some (under (record { strict = b .head .strict; stated = states.One }) b))
+    → solveBodies (some (under (record { strict = b .head .strict; stated = states.Nothing; pieces = b .head .pieces }) b))
+    ≡ solveBodies (some (under (record { strict = b .head .strict; stated = states.One; pieces = b .head .pieces }) b))
 unfolding solveBodies editionOf firstText secondText listText claimText part
 edition-one-written b = refl
 
 -- "Old records must still be judged by the first edition": under edition 1 each label of the answer is printed as itself.
-pub first-edition-prints : (s : Tree) (X : List Label) → ((x : Label) → isIn x X ≡ true → holds (keyed One s) x ≡ true)
-    → printedOf (setReply (solution One s X)) ≡ recordLines X (solutionText (solution One s X))
+pub first-edition-prints : (s t : Tree) (xs : List Token) (X : List Label) → ((x : Label) → isIn x X ≡ true → holds (keyed One s) x ≡ true)
+    → printedOf (setReply false (solution One s t xs X)) ≡ recordLines X (solutionText (solution One s t xs X))
 first-edition-prints = ClashLaws.one-printed
 
 -- "The program `agree` reads a job from standard input": it reads at most one byte over the limit, and writes what is printed for the whole
 -- input. Its area fits any answer.
-pub program-promise : (input out : List ℕ) → recordRoom ≤ length out
+pub program-promise : (input out : List ℕ) → linesRoom ≤ length out
     → writtenPart (lineOutput (printed (take (jobLimit + 1) input)) out) (lineAnswer (printed (take (jobLimit + 1) input)) (length out))
     ≡ printed input
 program-promise = ProgramLaws.program-prints
 
-pub lines-fit : (job : List ℕ) → length (printed job) ≤ recordRoom
+pub lines-fit : (job : List ℕ) → length (printed job) ≤ linesRoom
 lines-fit = ProgramLaws.printed-short

@@ -46,9 +46,9 @@ kept-short e X t v = go (restrictIn e X t) refl
     go (some r) d =
         text-short (normalTree e r) (valid-spelled e (normalTree e r) (normal-tree-valid e r (restrict-valid e X t r v d)))
 
-pub text-fits : (e : Edition) (s : Tree) (X : List Label) → ValidIn e s → fitted treeRoom (solution e s X) ≡ found (solution e s X)
+pub text-fits : (e : Edition) (s t : Tree) (xs : List Token) (X : List Label) → ValidIn e s → fitted treeRoom (solution e s t xs X) ≡ found (solution e s t xs X)
 unfolding fitted solutionText
-text-fits e s X v = rw (le-leb (length (keptTextIn e (restrictIn e (setOf X) s))) treeRoom (kept-short e (setOf X) s v)) refl
+text-fits e s t xs X v = rw (le-leb (length (keptTextIn e (restrictIn e (setOf X) s))) treeRoom (kept-short e (setOf X) s v)) refl
 
 -- ---- the other refusals
 
@@ -81,16 +81,16 @@ module _ (q : Task) where
       (λ (s t : Tree) (e : readTreeIn E (q .first) ≡ good s) (f : readTreeIn E (q .second) ≡ good t).
       each-list E K (q .required) (solveList E treeRoom (record { first = s; second = t })) NotNine
       (λ (r : Reason) (i : ℕ) (g : readListIn E (q .required) ≡ unread r i). low r (fault-low (refused-first E (q .required) r i g .here)))
-      (λ (xs : List Token) (g : readListIn E (q .required) ≡ good xs). answers s e xs (answer (keyed E s) (keyed E t) (keysOf E xs))))
+      (λ (xs : List Token) (g : readListIn E (q .required) ≡ good xs). answers s t e xs (answer (keyed E s) (keyed E t) (keysOf E xs))))
     where
       low : (r : Reason) → numberOf r ≤ 5 → numberOf r ≡ 9 → ⊥
       low r h e = omega arith
 
-      answers : (s : Tree) → readTreeIn E (q .first) ≡ good s → (xs : List Token) (w : Answer) → NotNine (solutionOf E s xs treeRoom w)
-      answers s e xs (firstLacks n) = λ h. omega arith
-      answers s e xs (secondLacks n) = λ h. omega arith
-      answers s e xs (disagree a b c) = tt
-      answers s e xs (largest X) = subst NotNine (sym (text-fits E s X (accepts-in E (q .first) s e .1))) tt
+      answers : (s t : Tree) → readTreeIn E (q .first) ≡ good s → (xs : List Token) (w : Answer) → NotNine (solutionOf E s t xs treeRoom w)
+      answers s t e xs (firstLacks n) = λ h. omega arith
+      answers s t e xs (secondLacks n) = λ h. omega arith
+      answers s t e xs (disagree a b c) = tt
+      answers s t e xs (largest X) = subst NotNine (sym (text-fits E s t xs X (accepts-in E (q .first) s e .1))) tt
 
   -- whatever is asked
   pub engine-fits : (p : Refusal) → solve q treeRoom ≡ refused p → numberOf (p .reason) ≡ 9 → ⊥

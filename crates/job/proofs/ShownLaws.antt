@@ -1,7 +1,7 @@
 -- Labels taken from a text by their places: those of a set. Assumes nothing.
 use Prim.Native.Nat.{ℕ, zero, suc, _+_, _-_, _≤_, _<_}
 use mathlib.Core.Path.{_≡_, refl, sym, _∙_, ap, ap₂}
-use mathlib.Core.Bool.{true, false}
+use mathlib.Core.Bool.{Bool, true, false, cond}
 use mathlib.Core.Logic.{_⊎_, inl, inr, ⊎-elim}
 use mathlib.Core.List.{List, [], _∷_, _++_, map}
 use mathlib.Core.Option.{Option, some, none}
@@ -32,8 +32,11 @@ use Rattle.agreement.specs.Places.{keptTextIn, spelledIn, nameIn}
 use Rattle.agreement.proofs.SetLaws.{in-head, in-tail, in-cases}
 use Rattle.pairs.specs.Outcome.{Trio, refused, naming}
 use Rattle.mast.specs.Largest.{Solution, solutionText}
+use Rattle.division.specs.PiecesAt.{piecesFor}
+use Rattle.pieces.specs.Pieces.{Piece}
 use Rattle.lines.specs.Lines.{refusedLine, setLines, recordLines, threeLine, claimLine, labelIn, labelsIn}
-use Rattle.job.specs.Printed.{inOrder, shownOf, treeBy, linesBy, solved, setReply, claimReply, replyLines, printedOf}
+use Rattle.lines.specs.PieceLines.{piecesLines}
+use Rattle.job.specs.Printed.{inOrder, shownOf, treeBy, pieceBy, piecesBy, linesBy, solved, setReply, claimReply, replyLines, printedOf}
 
 -- a good token that stands for the label x stands in the text at place p
 pub record Stands (text : List ℕ) (p : ℕ) (token : Token) (x : Label) : Type 0 where
@@ -140,18 +143,40 @@ unfolding keptTextIn treeBy inOrder
 kept-by e none = refl
 kept-by e (some t) = refl
 
-pub reply-lines : (r : Solution) (N : List Label) (text : List ℕ) → N ≡ map (nameIn (r .edition) (r .first)) (r .set) → text ≡ solutionText r
-    → recordLines N text ≡ replyLines (solved r)
+-- the pieces, named as the first tree spells them, in their written forms
+piece-forms : (e : Edition) (s : Tree) (ps : List Piece)
+    → map (pieceBy tokenOf) (map (pieceBy (nameIn e s)) ps) ≡ map (pieceBy rewritten) (map (pieceBy (spelledIn e s)) ps)
+piece-forms e s [] = refl
+piece-forms e s (p ∷ ps) =
+    ap₂ {C = List Piece} _∷_
+    (ap₂ (λ (k l : List Token). record { required = k; others = l }) (forms-are e s (p .required)) (forms-are e s (p .others))) (piece-forms e s ps)
+
+abbrev pub piecesNamed : Solution → List Piece
+piecesNamed r = map (pieceBy (nameIn (r .edition) (r .first))) (piecesFor (r .edition) (r .first) (r .second) (r .required))
+
+-- the lines before those of the set
+abbrev pub piecesPart : Bool → Solution → List ℕ
+piecesPart pieces r = cond pieces (piecesLines (map (pieceBy tokenOf) (piecesNamed r))) []
+
+pieces-by : (pieces : Bool) (r : Solution) → piecesPart pieces r ≡ piecesBy rewritten (shownOf pieces r .pieces)
+unfolding piecesBy shownOf
+pieces-by true r = ap piecesLines (piece-forms (r .edition) (r .first) (piecesFor (r .edition) (r .first) (r .second) (r .required)))
+pieces-by false r = refl
+
+pub reply-lines : (pieces : Bool) (r : Solution) (L : List ℕ) (N : List Label) (text : List ℕ) → L ≡ piecesPart pieces r
+    → N ≡ map (nameIn (r .edition) (r .first)) (r .set) → text ≡ solutionText r → L ++ recordLines N text ≡ replyLines (solved pieces r)
 unfolding replyLines linesBy shownOf solutionText
-reply-lines r N text e f =
-    ap₂ setLines (ap (map tokenOf) e ∙ forms-are (r .edition) (r .first) (r .set))
-    (f ∙ kept-by (r .edition) (restrictIn (r .edition) (setOf (r .set)) (r .first)))
+reply-lines pieces r L N text d e f =
+    ap₂ (λ (k l : List ℕ). k ++ l) (d ∙ pieces-by pieces r)
+    (ap₂ setLines (ap (map tokenOf) e ∙ forms-are (r .edition) (r .first) (r .set))
+    (f ∙ kept-by (r .edition) (restrictIn (r .edition) (setOf (r .set)) (r .first))))
 
 -- ---- what is printed, by labels
 
-pub set-printed : (r : Solution) → printedOf (setReply r) ≡ recordLines (map (nameIn (r .edition) (r .first)) (r .set)) (solutionText r)
+pub set-printed : (pieces : Bool) (r : Solution)
+    → printedOf (setReply pieces r) ≡ piecesPart pieces r ++ recordLines (map (nameIn (r .edition) (r .first)) (r .set)) (solutionText r)
 unfolding printedOf
-set-printed r = sym (reply-lines r _ _ refl refl)
+set-printed pieces r = sym (reply-lines pieces r _ _ _ refl refl refl)
 
 pub claim-printed : (n : ℕ) → printedOf (claimReply n) ≡ claimLine n
 unfolding printedOf

@@ -2,7 +2,7 @@
 use Prim.Native.Nat.{ℕ}
 use mathlib.Core.Path.{_≡_, refl, sym, _∙_, ap, ap₂}
 use mathlib.Core.Bool.{Bool, true, false, cond}
-use mathlib.Core.List.{List, [], _∷_, map}
+use mathlib.Core.List.{List, [], _∷_, _++_, map}
 use mathlib.Core.Option.{Option, some, none}
 use lib.Dec.{leb}
 use lib.ListN.{length}
@@ -12,7 +12,7 @@ use Rattle.trees.specs.declared.Edition.{Edition}
 use Rattle.trees.specs.Edition.{folded, keyed, ValidIn}
 use Rattle.trees.specs.Label.{Label, isIn, distinct}
 use Rattle.trees.specs.Text.{treeRoom}
-use Rattle.trees.specs.Token.{Token, spelling}
+use Rattle.trees.specs.Token.{Token, spelling, tokenOf}
 use Rattle.trees.specs.Tree.{Tree, Same}
 use Rattle.trees.specs.Reading.{Reading, good, refused as unread}
 use Rattle.trees.proofs.TokenLaws.{valid-decoded}
@@ -29,6 +29,7 @@ use Rattle.agreement.specs.Answer.{Answer, firstLacks, secondLacks, disagree, l
 use Rattle.agreement.specs.RightAnswer.{RightAnswer}
 use Rattle.agreement.specs.Strict.{SameLeaves}
 use Rattle.agreement.proofs.SameLaws.{same-holds}
+use Rattle.trees.proofs.ListLaws.{in-left, in-right}
 use Rattle.agreement.proofs.SetLaws.{in-head, in-tail}
 use Rattle.agreement.proofs.SidesText.{same-keyed, valid-same}
 use Rattle.agreement.proofs.Promises as agreement
@@ -38,16 +39,21 @@ use Rattle.pairs.specs.Outcome.{Outcome, refused, naming, found, andThen, trio}
 use Rattle.pairs.specs.TwoTrees.{bodyOf, treesOf}
 use Rattle.queries.specs.Query.{Task, withClash, withSet, listOf, answerTo, heldBy, disagreement, requiredOf}
 use Rattle.mast.specs.Largest.{Solution, solution, solutionText, tooShort, fitted, solutionOf, solveList, solve}
+use Rattle.pieces.specs.Pieces.{Piece}
+use Rattle.pieces.proofs.ItemLaws.{AllHeld, pieces-held}
+use Rattle.pieces.proofs.SidesLaws.{pieces-same}
+use Rattle.division.specs.PiecesAt.{piecesFor}
 use Rattle.mast.specs.Compare.{Comparison, missing, clashOf, comparison, compareOther, compareAnswers, compareLists, compare}
 use Rattle.pairs.proofs.StrayLaws.{shared-nowhere}
 use Rattle.pairs.proofs.StepLaws.{then-found, trees-both}
 use Rattle.claims.specs.Judge.{claimDisagreement, judgedBySize, judgedByThree, judgedByList, verdictOn, judge}
-use Rattle.job.specs.Printed.{setReply, claimReply, taskOf, solveTask, printedOf, printed}
+use Rattle.job.specs.Printed.{setReply, claimReply, taskOf, solveTask, printedOf, printed, pieceBy}
 use Rattle.lines.specs.Lines.{recordLines}
+use Rattle.lines.specs.PieceLines.{piecesLines}
 use Rattle.job.specs.JobOutcome.{editionIn, TreeBody, Shared}
 use Rattle.job.specs.Sides.{withTrees, SidesExchanged}
 use Rattle.job.proofs.OutcomeLaws.{job-solve, body-tree}
-use Rattle.job.proofs.ShownLaws.{set-printed, naming-printed}
+use Rattle.job.proofs.ShownLaws.{piecesPart, set-printed, naming-printed}
 
 module _ (e : Edition) (s s′ t t′ : Tree) (p : Same s s′) (q : Same t t′) (v : ValidIn e s) (w : ValidIn e t) where
   alike : (M : List Label) → distinct M ≡ true → answer (keyed e s) (keyed e t) M ≡ answer (keyed e s′) (keyed e t′) M
@@ -67,6 +73,24 @@ module _ (e : Edition) (s s′ t t′ : Tree) (p : Same s s′) (q : Same t t′
   names [] h = refl
   names (x ∷ X) h = ap₂ {C = List Label} _∷_ (name x (h x (in-head x X))) (names X (λ y m. h y (in-tail y x X m)))
 
+  -- and so the labels of pieces
+  pieces-alike : (ps : List Piece) → AllHeld (keyed e s) ps → map (pieceBy (nameIn e s)) ps ≡ map (pieceBy (nameIn e s′)) ps
+  pieces-alike [] h = refl
+  pieces-alike (x ∷ ps) h =
+      ap₂ {C = List Piece} _∷_
+      (ap₂ (λ (k l : List Label). record { required = k; others = l })
+      (names (x .required) (λ y m. h .0 y (in-left y (x .required) (x .others) m)))
+      (names (x .others) (λ y m. h .0 y (in-right y (x .required) (x .others) m)))) (pieces-alike ps (h .1))
+
+  divided-alike : (pieces : Bool) (xs : List Token) (X : List Label) → piecesPart pieces (solution e s t xs X) ≡ piecesPart pieces (solution e s′ t′ xs X)
+  unfolding piecesFor
+  divided-alike false xs X = refl
+  divided-alike true xs X =
+      ap (λ (ps : List Piece). piecesLines (map (pieceBy tokenOf) ps))
+      (pieces-alike (piecesFor e s t xs) (pieces-held (keyed e s) (keyed e t) (keysOf e xs))
+      ∙ ap (map (pieceBy (nameIn e s′)))
+      (pieces-same (keyed e s) (keyed e s′) (keyed e t) (keyed e t′) (keysOf e xs) (same-keyed e p) (same-keyed e q) (v .different) (w .different)))
+
   -- number 8 or 14
   three-alike : (q : Refusal) (zs : List Token) (a b c : Label) → RightAnswer (keyed e s) (keyed e t) (keysOf e zs) (disagree a b c)
       → printedOf (naming q (trio e s zs a b c)) ≡ printedOf (naming q (trio e s′ zs a b c))
@@ -78,39 +102,39 @@ module _ (e : Edition) (s s′ t t′ : Tree) (p : Same s s′) (q : Same t t′
 
   -- ---- without a claim
 
-  set-alike : (X : List Label) → ((x : Label) → isIn x X ≡ true → holds (keyed e s) x ≡ true)
-      → printedOf (setReply (solution e s X)) ≡ printedOf (setReply (solution e s′ X))
+  set-alike : (pieces : Bool) (xs : List Token) (X : List Label) → ((x : Label) → isIn x X ≡ true → holds (keyed e s) x ≡ true)
+      → printedOf (setReply pieces (solution e s t xs X)) ≡ printedOf (setReply pieces (solution e s′ t′ xs X))
   unfolding solutionText
-  set-alike X h =
-      set-printed (solution e s X)
-      ∙ ap₂ recordLines (names X h) (agreement.sides-one-text e s s′ p v (setOf X))
-      ∙ sym (set-printed (solution e s′ X))
+  set-alike pieces xs X h =
+      set-printed pieces (solution e s t xs X)
+      ∙ ap₂ (λ (k l : List ℕ). k ++ l) (divided-alike pieces xs X) (ap₂ recordLines (names X h) (agreement.sides-one-text e s s′ p v (setOf X)))
+      ∙ sym (set-printed pieces (solution e s′ t′ xs X))
 
-  list-alike : (xs : List Token) (room : ℕ) (A : Answer) → RightAnswer (keyed e s) (keyed e t) (keysOf e xs) A
-      → printedOf (andThen (solutionOf e s xs room A) setReply) ≡ printedOf (andThen (solutionOf e s′ xs room A) setReply)
+  list-alike : (pieces : Bool) (xs : List Token) (room : ℕ) (A : Answer) → RightAnswer (keyed e s) (keyed e t) (keysOf e xs) A
+      → printedOf (andThen (solutionOf e s t xs room A) (setReply pieces)) ≡ printedOf (andThen (solutionOf e s′ t′ xs room A) (setReply pieces))
   unfolding solutionOf requiredOf heldBy fitted solutionText
-  list-alike xs room (firstLacks n) o = refl
-  list-alike xs room (secondLacks n) o = refl
-  list-alike xs room (disagree a b c) o = three-alike disagreement xs a b c o
-  list-alike xs room (largest X) o =
-      ap (λ (l : List ℕ). printedOf (andThen (cond (leb (length l) room) (found (solution e s X)) (refused tooShort)) setReply))
+  list-alike pieces xs room (firstLacks n) o = refl
+  list-alike pieces xs room (secondLacks n) o = refl
+  list-alike pieces xs room (disagree a b c) o = three-alike disagreement xs a b c o
+  list-alike pieces xs room (largest X) o =
+      ap (λ (l : List ℕ). printedOf (andThen (cond (leb (length l) room) (found (solution e s t xs X)) (refused tooShort)) (setReply pieces)))
       (agreement.sides-one-text e s s′ p v (setOf X))
       ∙ go (leb (length (keptTextIn e (restrictIn e (setOf X) s′))) room)
     where
-      go : (b : Bool) → printedOf (andThen (cond b (found (solution e s X)) (refused tooShort)) setReply)
-          ≡ printedOf (andThen (cond b (found (solution e s′ X)) (refused tooShort)) setReply)
-      go true = set-alike X (λ x m. o .allowedSet .commonLeaves x m .0)
+      go : (b : Bool) → printedOf (andThen (cond b (found (solution e s t xs X)) (refused tooShort)) (setReply pieces))
+          ≡ printedOf (andThen (cond b (found (solution e s′ t′ xs X)) (refused tooShort)) (setReply pieces))
+      go true = set-alike pieces xs X (λ x m. o .allowedSet .commonLeaves x m .0)
       go false = refl
 
-  solved-alike : (text : List ℕ) (room : ℕ) (z : Reading (List Token)) → readListIn e text ≡ z
-      → printedOf (andThen (andThen (bodyOf K z) (solveList e room (record { first = s; second = t }))) setReply)
-      ≡ printedOf (andThen (andThen (bodyOf K z) (solveList e room (record { first = s′; second = t′ }))) setReply)
+  solved-alike : (pieces : Bool) (text : List ℕ) (room : ℕ) (z : Reading (List Token)) → readListIn e text ≡ z
+      → printedOf (andThen (andThen (bodyOf K z) (solveList e room (record { first = s; second = t }))) (setReply pieces))
+      ≡ printedOf (andThen (andThen (bodyOf K z) (solveList e room (record { first = s′; second = t′ }))) (setReply pieces))
   unfolding bodyOf andThen solveList answerTo
-  solved-alike text room (unread r i) h = refl
-  solved-alike text room (good xs) h =
+  solved-alike pieces text room (unread r i) h = refl
+  solved-alike pieces text room (good xs) h =
       let d = accepted-list e text xs h .different in
-      list-alike xs room (answer (keyed e s) (keyed e t) (keysOf e xs)) (outcome (keysOf e xs) d)
-      ∙ ap (λ (A : Answer). printedOf (andThen (solutionOf e s′ xs room A) setReply)) (alike (keysOf e xs) d)
+      list-alike pieces xs room (answer (keyed e s) (keyed e t) (keysOf e xs)) (outcome (keysOf e xs) d)
+      ∙ ap (λ (A : Answer). printedOf (andThen (solutionOf e s′ t′ xs room A) (setReply pieces))) (alike (keysOf e xs) d)
 
   -- ---- with one
 
@@ -159,7 +183,7 @@ module _ (e : Edition) (s s′ t t′ : Tree) (p : Same s s′) (q : Same t t′
       ∙ ap₂ (λ (A B : Answer). claimed (compareAnswers e s′ xs ys A B)) (alike (keysOf e xs) d) (alike (keysOf e ys) f)
 
 -- what a task comes to, once both trees are read and no leaf is stray
-module _ (q : Task) (s t : Tree) (one : readTreeIn (q .options .edition) (q .first) ≡ good s)
+module _ (pieces : Bool) (q : Task) (s t : Tree) (one : readTreeIn (q .options .edition) (q .first) ≡ good s)
     (two : readTreeIn (q .options .edition) (q .second) ≡ good t)
     (shared : q .options .strict ≡ true → SameLeaves (keyed (q .options .edition) s) (keyed (q .options .edition) t)) where
   abbrev D : Edition
@@ -168,14 +192,14 @@ module _ (q : Task) (s t : Tree) (one : readTreeIn (q .options .edition) (q .fir
   both : treesOf (q .options) (q .first) (q .second) ≡ found (record { first = s; second = t })
   both = trees-both (q .options) (q .first) (q .second) s one t two (shared-nowhere (q .options) s t shared)
 
-  plain-task : solveTask q none
-      ≡ andThen (andThen (bodyOf K (readListIn D (q .required))) (solveList D treeRoom (record { first = s; second = t }))) setReply
+  plain-task : solveTask pieces q none
+      ≡ andThen (andThen (bodyOf K (readListIn D (q .required))) (solveList D treeRoom (record { first = s; second = t }))) (setReply pieces)
   unfolding solveTask solve listOf
   plain-task =
-      ap (λ (x : Outcome Solution). andThen x setReply)
+      ap (λ (x : Outcome Solution). andThen x (setReply pieces))
       (then-found (treesOf (q .options) (q .first) (q .second)) (λ p. andThen (listOf D K (q .required)) (solveList D treeRoom p)) _ both)
 
-  claim-task : (text : List ℕ) → solveTask q (some text)
+  claim-task : (text : List ℕ) → solveTask pieces q (some text)
       ≡ andThen (andThen (andThen (bodyOf K (readListIn D (q .required)))
       (λ xs. andThen (bodyOf C (readListIn D text)) (compareLists D (record { first = s; second = t }) xs))) verdictOn) claimReply
   unfolding solveTask judge compare listOf
@@ -196,21 +220,21 @@ module _ (b : Bodies) (s s′ t t′ : Tree) (p : Same s s′) (q : Same t t′)
   shared-other : Shared other s′ t′
   shared-other k x = sym (same-holds (same-keyed E p) x) ∙ shared k x ∙ same-holds (same-keyed E q) x
 
-  bodies-alike : (c : Option (List ℕ)) → printedOf (solveTask (taskOf b) c) ≡ printedOf (solveTask (taskOf other) c)
+  bodies-alike : (c : Option (List ℕ)) → printedOf (solveTask (b .head .pieces) (taskOf b) c) ≡ printedOf (solveTask (b .head .pieces) (taskOf other) c)
   unfolding firstText secondText listText claimText part lookup entries letterOf
   bodies-alike none =
-      ap printedOf (plain-task (taskOf b) s t (body-tree E (firstText b) s first) (body-tree E (secondText b) t second) shared)
-      ∙ solved-alike E s s′ t t′ p q (first .valid) (second .valid) (listText b) treeRoom (readListIn E (listText b)) refl
+      ap printedOf (plain-task (b .head .pieces) (taskOf b) s t (body-tree E (firstText b) s first) (body-tree E (secondText b) t second) shared)
+      ∙ solved-alike E s s′ t t′ p q (first .valid) (second .valid) (b .head .pieces) (listText b) treeRoom (readListIn E (listText b)) refl
       ∙ sym
       (ap printedOf
-      (plain-task (taskOf other) s′ t′ (valid-read E s′ (valid-same E p (first .valid))) (valid-read E t′ (valid-same E q (second .valid)))
+      (plain-task (b .head .pieces) (taskOf other) s′ t′ (valid-read E s′ (valid-same E p (first .valid))) (valid-read E t′ (valid-same E q (second .valid)))
       shared-other))
   bodies-alike (some text) =
-      ap printedOf (claim-task (taskOf b) s t (body-tree E (firstText b) s first) (body-tree E (secondText b) t second) shared text)
+      ap printedOf (claim-task (b .head .pieces) (taskOf b) s t (body-tree E (firstText b) s first) (body-tree E (secondText b) t second) shared text)
       ∙ judged-alike E s s′ t t′ p q (first .valid) (second .valid) (listText b) text (readListIn E (listText b)) (readListIn E text) refl refl
       ∙ sym
       (ap printedOf
-      (claim-task (taskOf other) s′ t′ (valid-read E s′ (valid-same E p (first .valid))) (valid-read E t′ (valid-same E q (second .valid)))
+      (claim-task (b .head .pieces) (taskOf other) s′ t′ (valid-read E s′ (valid-same E p (first .valid))) (valid-read E t′ (valid-same E q (second .valid)))
       shared-other text))
 
 pub printed-alike : (job other : List ℕ) → SidesExchanged job other → printed job ≡ printed other

@@ -43,11 +43,9 @@ use Rattle.job.proofs.ShownLaws.{Stands}
 use Rattle.job.proofs.TreesLaws.{each-way, each-list}
 
 pub record SolvedBy (q : Task) (room : ℕ) (r : Solution) : Type 0 where
-  pub other : Tree
-  pub required : List Token
   pub read : readTreeIn (r .edition) (q .first) ≡ good (r .first)
-  pub listed : readListIn (r .edition) (q .required) ≡ good required
-  pub is : answer (keyed (r .edition) (r .first)) (keyed (r .edition) other) (keysOf (r .edition) required) ≡ largest (r .set)
+  pub listed : readListIn (r .edition) (q .required) ≡ good (r .required)
+  pub is : answer (keyed (r .edition) (r .first)) (keyed (r .edition) (r .second)) (keysOf (r .edition) (r .required)) ≡ largest (r .set)
   pub short : length (solutionText r) ≤ room
 
 -- three labels of a list, with the first tree's text
@@ -81,15 +79,15 @@ module _ (q : Task) where
         (λ (xs : List Token) (g : readListIn E (q .required) ≡ good xs). answers s t e xs g (answer (keyed E s) (keyed E t) (keysOf E xs)) refl))
       where
         answers : (s t : Tree) → readTreeIn E (q .first) ≡ good s → (xs : List Token) → readListIn E (q .required) ≡ good xs → (w : Answer)
-            → answer (keyed E s) (keyed E t) (keysOf E xs) ≡ w → Out (solutionOf E s xs room w)
+            → answer (keyed E s) (keyed E t) (keysOf E xs) ≡ w → Out (solutionOf E s t xs room w)
         answers s t ea xs ec (firstLacks n) e = tt
         answers s t ea xs ec (secondLacks n) e = tt
         answers s t ea xs ec (disagree a b c) e = (refl, record { other = t; read = ea; listed = ec; is = e })
         answers s t ea xs ec (largest X) e = fits (leb (length (keptTextIn E (restrictIn E (setOf X) s))) room) refl
           where
             fits : (p : Bool) → leb (length (keptTextIn E (restrictIn E (setOf X) s))) room ≡ p
-                → Out (cond p (found (solution E s X)) (refused tooShort))
-            fits true l = record { other = t; required = xs; read = ea; listed = ec; is = e; short = leb-true _ room l }
+                → Out (cond p (found (solution E s t xs X)) (refused tooShort))
+            fits true l = record { read = ea; listed = ec; is = e; short = leb-true _ room l }
             fits false l = tt
 
   -- what a judgement comes from: 8 names labels of the list, 14 of the claim
@@ -160,13 +158,13 @@ module _ (e : Edition) (first : List ℕ) (s : Tree) (read : readTreeIn e first 
 
 -- the set of a solution: at most 80 labels, each shown in the first tree's text
 module _ (q : Task) (room : ℕ) (r : Solution) (b : SolvedBy q room r) where
-  set-proper : Proper (keyed (r .edition) (r .first))
+  pub set-proper : Proper (keyed (r .edition) (r .first))
   set-proper = read-proper (r .edition) (q .first) (r .first) (b .read)
 
-  set-answer : IsAnswer (keyed (r .edition) (r .first)) (keyed (r .edition) (b .other)) (keysOf (r .edition) (b .required)) (r .set)
+  pub set-answer : IsAnswer (keyed (r .edition) (r .first)) (keyed (r .edition) (r .second)) (keysOf (r .edition) (r .required)) (r .set)
   set-answer =
-      set-promise (keyed (r .edition) (r .first)) (keyed (r .edition) (b .other)) (keysOf (r .edition) (b .required)) set-proper
-      (accepted-list (r .edition) (q .required) (b .required) (b .listed) .different) (r .set) .0 (b .is)
+      set-promise (keyed (r .edition) (r .first)) (keyed (r .edition) (r .second)) (keysOf (r .edition) (r .required)) set-proper
+      (accepted-list (r .edition) (q .required) (r .required) (b .listed) .different) (r .set) .0 (b .is)
 
   pub in-tree : (x : Label) → isIn x (r .set) ≡ true → holds (keyed (r .edition) (r .first)) x ≡ true
   in-tree x h = set-answer .allowedSet .commonLeaves x h .0

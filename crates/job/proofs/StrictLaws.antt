@@ -92,4 +92,4 @@ pub strict-same : (b : Bodies) (s t : Tree) → TreeBody (editionIn b) (firstTex
     → solveBodies (some b) ≡ solveBodies (some (withoutLine b))
 unfolding solveBodies firstText secondText listText claimText part
 strict-same b s t p q h =
-    task-strict (taskOf b) s t (body-tree (editionIn b) (firstText b) s p) (body-tree (editionIn b) (secondText b) t q) (claimText b) h
+    task-strict (b .head .pieces) (taskOf b) s t (body-tree (editionIn b) (firstText b) s p) (body-tree (editionIn b) (secondText b) t q) (claimText b) h

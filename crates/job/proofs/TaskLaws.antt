@@ -1,7 +1,7 @@
 -- What bodies come to, row by row, with a claim and without one. Assumes nothing.
 use Prim.Native.Nat.{ℕ}
 use mathlib.Core.Path.{_≡_, refl, sym, _∙_, ap}
-use mathlib.Core.Bool.{true}
+use mathlib.Core.Bool.{Bool, true}
 use mathlib.Core.List.{List}
 use mathlib.Core.Option.{Option, some, none}
 use Rattle.trees.specs.declared.Reason.{Reason}
@@ -46,32 +46,32 @@ use Rattle.job.specs.Printed.{setReply, claimReply, solveTask}
 use Rattle.job.specs.JobOutcome.{refusal}
 use Rattle.job.proofs.RoomLaws.{text-fits}
 
-module _ (q : Task) where
+module _ (pieces : Bool) (q : Task) where
   abbrev E : Edition
   E = q .options .edition
 
   -- trees that are not read, whatever the job claims
-  task-trees : (c : Option (List ℕ)) (a : Refusal) → treesOf (q .options) (q .first) (q .second) ≡ refused a → solveTask q c ≡ refused a
+  task-trees : (c : Option (List ℕ)) (a : Refusal) → treesOf (q .options) (q .first) (q .second) ≡ refused a → solveTask pieces q c ≡ refused a
   unfolding solveTask
-  task-trees none a e = then-refused (solve q treeRoom) setReply a (solve-stopped q treeRoom a e)
+  task-trees none a e = then-refused (solve q treeRoom) (setReply pieces) a (solve-stopped q treeRoom a e)
   task-trees (some claim) a e = then-refused (judge q claim) claimReply a (trees-stopped q claim a e)
 
-  pub task-first : (c : Option (List ℕ)) (r : Reason) (i : ℕ) → readTreeIn E (q .first) ≡ unread r i → solveTask q c ≡ refusal r S i
+  pub task-first : (c : Option (List ℕ)) (r : Reason) (i : ℕ) → readTreeIn E (q .first) ≡ unread r i → solveTask pieces q c ≡ refusal r S i
   task-first c r i e = task-trees c _ (step.trees-first (q .options) (q .first) (q .second) _ (not-read (readTreeIn E (q .first)) S r i e))
 
   pub task-second : (c : Option (List ℕ)) (r : Reason) (i : ℕ) (s : Tree) → readTreeIn E (q .first) ≡ good s
-      → readTreeIn E (q .second) ≡ unread r i → solveTask q c ≡ refusal r T i
+      → readTreeIn E (q .second) ≡ unread r i → solveTask pieces q c ≡ refusal r T i
   task-second c r i s e f =
       task-trees c _ (step.trees-second (q .options) (q .first) (q .second) s e _ (not-read (readTreeIn E (q .second)) T r i f))
 
   module _ (s t : Tree) (e : readTreeIn E (q .first) ≡ good s) (f : readTreeIn E (q .second) ≡ good t) where
     pub task-stray-first : (c : Option (List ℕ)) → q .options .strict ≡ true → (x : Label) → IsStray (keyed E s) (keyed E t) x
-        → solveTask q c ≡ refusal NotShared S (placeIn (folded E s) 0 x)
+        → solveTask pieces q c ≡ refusal NotShared S (placeIn (folded E s) 0 x)
     task-stray-first c h x k = task-trees c _ (step.stray-first (q .options) (q .first) (q .second) s e t f h x k)
 
     pub task-stray-second : (c : Option (List ℕ)) → q .options .strict ≡ true → (x : Label)
         → ((y : Label) → holds (keyed E s) y ≡ true → holds (keyed E t) y ≡ true) → IsStray (keyed E t) (keyed E s) x
-        → solveTask q c ≡ refusal NotShared T (placeIn (folded E t) 0 x)
+        → solveTask pieces q c ≡ refusal NotShared T (placeIn (folded E t) 0 x)
     task-stray-second c h x a k = task-trees c _ (step.stray-second (q .options) (q .first) (q .second) s e t f h x a k)
 
     both : (q .options .strict ≡ true → SameLeaves (keyed E s) (keyed E t))
@@ -80,9 +80,9 @@ module _ (q : Task) where
 
     -- where both trees hold the same leaves the line `strict` changes nothing
     pub task-strict : (c : Option (List ℕ)) → SameLeaves (keyed E s) (keyed E t)
-        → solveTask q c ≡ solveTask (task (plain E) (q .first) (q .second) (q .required)) c
+        → solveTask pieces q c ≡ solveTask pieces (task (plain E) (q .first) (q .second) (q .required)) c
     unfolding solveTask judge compare strayFor
-    task-strict none h = ap (λ (x : Outcome Solution). andThen x setReply) (way.strict-as-plain q treeRoom s t e f h)
+    task-strict none h = ap (λ (x : Outcome Solution). andThen x (setReply pieces)) (way.strict-as-plain q treeRoom s t e f h)
     task-strict (some claim) h =
         ap (λ (x : Outcome Trees).
         andThen (andThen (andThen x (λ p. andThen (listOf E K (q .required)) (λ xs. andThen (listOf E C claim) (compareLists E p xs)))) verdictOn)
@@ -90,15 +90,15 @@ module _ (q : Task) where
         (both (λ _. h) ∙ sym (step.trees-both (plain E) (q .first) (q .second) s e t f refl))
 
     module _ (shared : q .options .strict ≡ true → SameLeaves (keyed E s) (keyed E t)) where
-      pub task-list : (c : Option (List ℕ)) (r : Reason) (i : ℕ) → readListIn E (q .required) ≡ unread r i → solveTask q c ≡ refusal r K i
+      pub task-list : (c : Option (List ℕ)) (r : Reason) (i : ℕ) → readListIn E (q .required) ≡ unread r i → solveTask pieces q c ≡ refusal r K i
       unfolding solveTask
       task-list none r i g =
-          then-refused (solve q treeRoom) setReply _
+          then-refused (solve q treeRoom) (setReply pieces) _
           (solve-unlisted q treeRoom _ (both shared) _ (list-unread E K (q .required) _ (not-read (readListIn E (q .required)) K r i g)))
       task-list (some claim) r i g = then-refused (judge q claim) claimReply _ (claims.third-body q claim s t e f shared r i g)
 
       pub task-claim : (xs : List Token) → readListIn E (q .required) ≡ good xs → (text : List ℕ) (r : Reason) (i : ℕ)
-          → readListIn E text ≡ unread r i → solveTask q (some text) ≡ refusal r C i
+          → readListIn E text ≡ unread r i → solveTask pieces q (some text) ≡ refusal r C i
       unfolding solveTask
       task-claim xs g text r i h = then-refused (judge q text) claimReply _ (claims.claim-body q text s t e f shared r i xs g h)
 
@@ -107,52 +107,52 @@ abbrev pub ReadClaim : Edition → Option (List ℕ) → Type 0
 ReadClaim e none = Prim.Unit {0}
 ReadClaim e (some text) = (ys : List Token) × (readListIn e text ≡ good ys)
 
-module _ (q : Task) (s t : Tree) (xs : List Token) (reads : Reads q s t xs) where
+module _ (pieces : Bool) (q : Task) (s t : Tree) (xs : List Token) (reads : Reads q s t xs) where
   abbrev F : Edition
   F = q .options .edition
 
   plain-as : (A : Answer) → RightAnswer (keyed F s) (keyed F t) (keysOf F xs) A
-      → solveTask q none ≡ andThen (solutionOf F s xs treeRoom A) setReply
+      → solveTask pieces q none ≡ andThen (solutionOf F s t xs treeRoom A) (setReply pieces)
   unfolding solveTask
-  plain-as A o = ap (λ (x : Outcome Solution). andThen x setReply) (mast.outcome-promise q treeRoom s t xs reads A o)
+  plain-as A o = ap (λ (x : Outcome Solution). andThen x (setReply pieces)) (mast.outcome-promise q treeRoom s t xs reads A o)
 
-  claim-as : (claim : List ℕ) (x : Outcome ℕ) → judge q claim ≡ x → solveTask q (some claim) ≡ andThen x claimReply
+  claim-as : (claim : List ℕ) (x : Outcome ℕ) → judge q claim ≡ x → solveTask pieces q (some claim) ≡ andThen x claimReply
   unfolding solveTask
   claim-as claim x e = ap (λ (y : Outcome ℕ). andThen y claimReply) e
 
   -- 6, 7 and 8 of the required list
   pub task-first-lacks : (c : Option (List ℕ)) → ReadClaim F c → (n : ℕ) → IsFirstLacks (keyed F s) (keyed F t) (keysOf F xs) n
-      → solveTask q c ≡ refusal FirstLacks K (placeOfNumber xs n)
+      → solveTask pieces q c ≡ refusal FirstLacks K (placeOfNumber xs n)
   unfolding solutionOf requiredOf heldBy
   task-first-lacks none w n o = plain-as (firstLacks n) o
   task-first-lacks (some claim) w n o =
       claim-as claim _ (claims.six-promise q claim s t xs (w .0) (record { reads = reads; claim-is = w .1 }) n o)
 
   pub task-second-lacks : (c : Option (List ℕ)) → ReadClaim F c → (n : ℕ) → IsSecondLacks (keyed F s) (keyed F t) (keysOf F xs) n
-      → solveTask q c ≡ refusal SecondLacks K (placeOfNumber xs n)
+      → solveTask pieces q c ≡ refusal SecondLacks K (placeOfNumber xs n)
   unfolding solutionOf requiredOf heldBy
   task-second-lacks none w n o = plain-as (secondLacks n) o
   task-second-lacks (some claim) w n o =
       claim-as claim _ (claims.seven-promise q claim s t xs (w .0) (record { reads = reads; claim-is = w .1 }) n o)
 
   pub task-clash : (o : Option (List ℕ)) → ReadClaim F o → (a b c : Label) → Common (keyed F s) (keyed F t) (setOf (keysOf F xs))
-      → IsDisagreement (keyed F s) (keyed F t) (keysOf F xs) a b c → solveTask q o ≡ naming disagreement (trio F s xs a b c)
+      → IsDisagreement (keyed F s) (keyed F t) (keysOf F xs) a b c → solveTask pieces q o ≡ naming disagreement (trio F s xs a b c)
   unfolding solutionOf requiredOf heldBy
   task-clash none w a b c held o = plain-as (disagree a b c) (held, o)
   task-clash (some claim) w a b c held o =
       claim-as claim _ (claims.eight-promise q claim s t xs (w .0) (record { reads = reads; claim-is = w .1 }) a b c held o)
 
   -- the set, where there is no claim
-  pub task-set : (X : List Label) → IsAnswer (keyed F s) (keyed F t) (keysOf F xs) X → solveTask q none ≡ setReply (solution F s X)
+  pub task-set : (X : List Label) → IsAnswer (keyed F s) (keyed F t) (keysOf F xs) X → solveTask pieces q none ≡ setReply pieces (solution F s t xs X)
   unfolding solutionOf requiredOf heldBy
   task-set X o =
       plain-as (largest X) o
-      ∙ ap (λ (x : Outcome Solution). andThen x setReply) (text-fits F s X (newick.accepted-text F (q .first) s (reads .first-is) .1))
+      ∙ ap (λ (x : Outcome Solution). andThen x (setReply pieces)) (text-fits F s t xs X (newick.accepted-text F (q .first) s (reads .first-is) .1))
 
   -- and then the verdict
   module _ (text : List ℕ) (ys : List Token) (read : readListIn F text ≡ good ys) (clear : Clear (keyed F s) (keyed F t) (keysOf F xs)) where
     pub task-verdict : (v : Verdict) → VerdictIs (keyed F s) (keyed F t) (keysOf F xs) (keysOf F ys) v
-        → solveTask q (some text) ≡ andThen (judgementOf F s xs ys v) claimReply
+        → solveTask pieces q (some text) ≡ andThen (judgementOf F s xs ys v) claimReply
     task-verdict v o = claim-as text _ (claims.verdict-promise q text s t xs ys (record { reads = reads; claim-is = read }) clear v o)
 
     pub some-verdict : (v : Verdict) × VerdictIs (keyed F s) (keyed F t) (keysOf F xs) (keysOf F ys) v

@@ -3,7 +3,7 @@
 -- them (C-15).
 use Prim.Native.Nat.{ℕ, _≤_, _<_}
 use mathlib.Core.Path.{_≡_}
-use mathlib.Core.Bool.{true, false}
+use mathlib.Core.Bool.{Bool, true, false}
 use mathlib.Core.List.{List, map}
 use mathlib.Core.Option.{Option, some, none}
 use lib.ListN.{length}
@@ -29,10 +29,12 @@ use Rattle.agreement.specs.Strict.{SameLeaves, IsStray}
 use Rattle.contents.specs.Contents.{Bodies, editionOf, firstText, secondText, listText, claimText, under, jobOf, WellFormed}
 use Rattle.claims.specs.Claim.{HoldsRequired, IsClaim, Verdict, Clear, VerdictIs}
 use Rattle.claims.specs.Judge.{judgementOf}
-use Rattle.pairs.specs.Outcome.{Outcome, refused, naming, andThen, trio}
+use Rattle.pairs.specs.Outcome.{Outcome, refused, naming, found, andThen, trio}
 use Rattle.queries.specs.Query.{disagreement}
 use Rattle.mast.specs.Largest.{solution}
-use Rattle.job.specs.Printed.{jobLimit, Reply, setReply, claimReply}
+use Rattle.division.specs.PiecesAt.{piecesFor}
+use Rattle.pieces.specs.Pieces.{Piece}
+use Rattle.job.specs.Printed.{jobLimit, pieceBy, Reply, solved, passed, setReply, claimReply}
 
 -- "A job is a table of contents, then the bodies"
 pub record Follows (job : List ℕ) (b : Bodies) : Type 0 where
@@ -115,27 +117,36 @@ pub data JobOutcome (job : List ℕ) : Outcome Reply → Type 0 where
   three-disagree : (e : Edition) (s t : Tree) (xs : List Token) (o : Option (List Token)) → Asks job e s t xs o → (a b c : Label)
       → Common (keyed e s) (keyed e t) (setOf (keysOf e xs)) → IsDisagreement (keyed e s) (keyed e t) (keysOf e xs) a b c
       → JobOutcome job (naming disagreement (trio e s xs a b c))
-  -- demand 3, for jobs without a claim: the set; its text is `solutionText`, "the normal text of the common restriction"
-  largest-set : (e : Edition) (s t : Tree) (xs : List Token) → Asks job e s t xs none → (X : List Label)
-      → IsAnswer (keyed e s) (keyed e t) (keysOf e xs) X → JobOutcome job (setReply (solution e s X))
+  -- demand 3, for jobs without a claim: the set; its text is `solutionText`, "the normal text of the common restriction". Its pieces are
+  -- shown if the job has the line (C-17)
+  largest-set : (e : Edition) (s t : Tree) (xs : List Token) → (asks : Asks job e s t xs none) → (X : List Label)
+      → IsAnswer (keyed e s) (keyed e t) (keysOf e xs) X → JobOutcome job (setReply (asks .bodies .head .pieces) (solution e s t xs X))
   -- C-16: the verdict on the claim, "after number 8": 6 or 7 "with letter C", 13, 14, 15, or that it passes
   judged : (e : Edition) (s t : Tree) (xs ys : List Token) → Asks job e s t xs (some ys)
       → Clear (keyed e s) (keyed e t) (keysOf e xs) → (v : Verdict) → VerdictIs (keyed e s) (keyed e t) (keysOf e xs) (keysOf e ys) v
       → JobOutcome job (andThen (judgementOf e s xs ys v) claimReply)
 
 -- Demand 3 for printed labels and a printed text. The job has no claim, and its bodies are read. The labels are those of the answer "as the
--- first tree spells them". The text is that of the first tree's restriction and, up to spelling, that of the second's.
-pub record SetAnswered (job : List ℕ) (names : List Label) (text : List ℕ) : Type 0 where
+-- first tree spells them". The text is that of the first tree's restriction and, up to spelling, that of the second's. `pieces` says whether
+-- the job has that line (C-17).
+pub record SetAnswered (job : List ℕ) (pieces : Bool) (names : List Label) (text : List ℕ) : Type 0 where
   pub e : Edition
   pub s : Tree
   pub t : Tree
   pub xs : List Token
   pub X : List Label
   pub asked : Asks job e s t xs none
+  pub line : asked .bodies .head .pieces ≡ pieces
   pub isAnswer : IsAnswer (keyed e s) (keyed e t) (keysOf e xs) X
   pub spelled : names ≡ map (nameIn e s) X
   pub first-text : text ≡ keptTextIn e (restrictIn e (setOf X) s)
   pub second-text : inEdition e text ≡ inEdition e (keptTextIn e (restrictIn e (setOf X) t))
+
+-- The same for a job with the line `pieces` (C-17). The pieces are those of both trees by the keys of their labels. "Labels are printed as the
+-- first tree spells them" (C-15).
+pub record DividedAnswered (job : List ℕ) (P : List Piece) (names : List Label) (text : List ℕ) : Type 0 where
+  pub set : SetAnswered job true names text
+  pub pieces-are : P ≡ map (pieceBy (nameIn (set .e) (set .s))) (piecesFor (set .e) (set .s) (set .t) (set .xs))
 
 -- Number 8 for three printed labels. The bodies are read, both trees have the required labels, and these are the first three with different
 -- closer pairs, as the first tree spells them.
@@ -198,6 +209,20 @@ pub record Stopped (job : List ℕ) : Type 0 where
   pub second : TreeBody (editionIn bodies) (secondText bodies) t
   pub differ : SameLeaves (keyed (editionIn bodies) s) (keyed (editionIn bodies) t) → ⊥
 
+-- the bodies of the same job without the line `pieces`
+abbrev pub withoutPiecesLine : Bodies → Bodies
+withoutPiecesLine b = under (record { strict = b .head .strict; stated = b .head .stated; pieces = false }) b
+
+-- what a job comes to, without the pieces
+abbrev pub plainReply : Reply → Reply
+plainReply (solved pieces r) = solved false r
+plainReply (passed n) = passed n
+
+abbrev pub plainly : Outcome Reply → Outcome Reply
+plainly (found x) = found (plainReply x)
+plainly (naming q n) = naming q n
+plainly (refused q) = refused q
+
 -- the bodies of the same job without the line `strict`
 abbrev pub withoutLine : Bodies → Bodies
-withoutLine b = under (record { strict = false; stated = b .head .stated }) b
+withoutLine b = under (record { strict = false; stated = b .head .stated; pieces = b .head .pieces }) b

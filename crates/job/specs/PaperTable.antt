@@ -101,4 +101,10 @@ lineRows =
     ∷ prints ("S 6" ∷ "T 6" ∷ "K 1" ∷ "C 1" ∷ "" ∷ []) "(a,b);(a,b);ab" ("refused 13 K 0" ∷ [])
     ∷ prints ("S 10" ∷ "T 10" ∷ "K 0" ∷ "C 5" ∷ "" ∷ []) "((a,b),c);((a,c),b);a,b,c" ("refused 14 C 0 a,b,c" ∷ [])
     ∷ prints ("S 6" ∷ "T 6" ∷ "K 0" ∷ "C 1" ∷ "" ∷ []) "(a,b);(a,b);a" ("refused 15 C 0" ∷ [])
+    -- C-17: no required label, with common leaves and without; a leaf at one place; a leaf whose places differ; the line with C
+    ∷ prints ("pieces" ∷ "S 6" ∷ "T 6" ∷ "K 0" ∷ "" ∷ []) "(a,b);(b,a);" ("pieces 2" ∷ "at  a,b" ∷ "size 2" ∷ "set a,b" ∷ "tree (a,b);" ∷ [])
+    ∷ prints ("pieces" ∷ "S 2" ∷ "T 2" ∷ "K 0" ∷ "" ∷ []) "a;b;" ("pieces 0" ∷ "size 0" ∷ "set " ∷ "tree " ∷ [])
+    ∷ prints ("pieces" ∷ "S 10" ∷ "T 10" ∷ "K 3" ∷ "" ∷ []) "((a,b),c);((b,a),c);c,a" ("pieces 2" ∷ "at a b" ∷ "size 3" ∷ "set a,b,c" ∷ "tree ((a,b),c);" ∷ [])
+    ∷ prints ("pieces" ∷ "S 10" ∷ "T 10" ∷ "K 3" ∷ "" ∷ []) "((a,b),c);((b,c),a);c,a" ("pieces 0" ∷ "size 2" ∷ "set a,c" ∷ "tree (a,c);" ∷ [])
+    ∷ prints ("pieces" ∷ "S 2" ∷ "T 2" ∷ "K 0" ∷ "C 0" ∷ "" ∷ []) "a;a;" ("refused 10 J 0" ∷ [])
     ∷ []

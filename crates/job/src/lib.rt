@@ -6,6 +6,7 @@ use contents::Layout;
 use contents::Span;
 use contents::Table;
 use lines::LineAnswer;
+use mast::DividedResult;
 use mast::LargestAnswer;
 use mast::Named;
 use mast::NamedLabel;
@@ -19,6 +20,7 @@ ghost use lib.ListN.{length, replicate};
 ghost use Prim.Native.Nat.{_+_, _≤_};
 ghost use Rattle.contents.specs.declared.Layout.the-variants as layout;
 ghost use Rattle.contents.specs.Contents.{layoutOf};
+ghost use mathlib.Core.Bool.{false};
 ghost use mathlib.Core.Option.{some, none};
 ghost use Rattle.queries.specs.Query.{task};
 ghost use Rattle.job.specs.declared.JobAnswer as JobAnswer;
@@ -26,6 +28,7 @@ ghost use Rattle.trees.specs.declared.Body.the-variants.{J};
 ghost use Rattle.job.specs.Printed.{printed, solveTask, solveJob, jobLimit};
 ghost use Rattle.job.specs.NamedPlaces.{Near};
 ghost use Rattle.lines.specs.Output.{lineAnswer, lineOutput};
+ghost use Rattle.lines.specs.PieceLines.{linesAt};
 ghost use Rattle.job.specs.Answered.{linesAnswer, baseOf, movedBy, answered, answerTo, jobOutput};
 
 // The most bytes of a job.
@@ -114,8 +117,30 @@ fn named_in(origin: usize, base: usize, named: Named) -> Named
     }
 }
 
-// The answer to three bodies, which begin at these places in the job.
+// Writes the lines of the engine's result, those of its pieces first if they are asked for.
+fn result_lines(
+    pieces: bool,
+    first: &[u8],
+    result: DividedResult,
+    tree: &[u8],
+    out: &mut [u8],
+) -> LineAnswer
+    ensures answer { λ r.
+        ⌜ r ≡ lineAnswer (linesAt pieces (now (first .entry)) (result .pieces) (result .set) (now (tree .entry))) (length (now (out .entry))) ⌝ }
+    ensures output { λ _.
+        ⌜ now (out .exit) ≡ lineOutput (linesAt pieces (now (first .entry)) (result .pieces) (result .set) (now (tree .entry)))
+        (now (out .entry)) ⌝ }
+{
+    let set = result.set;
+    if pieces {
+        return lines::divided_lines(first, result.pieces, set, tree, out);
+    }
+    lines::set_lines(first, set, tree, out)
+}
+
+// The answer to three bodies, which begin at these places in the job, with the pieces if they are asked for.
 fn answer_bodies(
+    pieces: bool,
     options: Options,
     first: &[u8],
     second: &[u8],
@@ -126,20 +151,20 @@ fn answer_bodies(
     requires { ⌜ (at .list + length (now list) ≤ jobLimit) × (at .tree + length (now first) ≤ jobLimit) ⌝ }
     ensures answer { λ r.
         ⌜ r ≡ answered at (length (now (out .entry)))
-        (solveTask (task options (now (first .entry)) (now (second .entry)) (now (list .entry))) none) ⌝ }
+        (solveTask pieces (task options (now (first .entry)) (now (second .entry)) (now (list .entry))) none) ⌝ }
     ensures output { λ _.
         ⌜ now (out .exit) ≡ jobOutput
-        (solveTask (task options (now (first .entry)) (now (second .entry)) (now (list .entry))) none)
+        (solveTask pieces (task options (now (first .entry)) (now (second .entry)) (now (list .entry))) none)
         (now (out .entry)) ⌝ }
 {
     let mut tree = [0u8; TREE_ROOM];
-    let result = mast::largest(options, first, second, list, &mut tree);
+    let result = mast::largest_in_pieces(options, first, second, list, pieces, &mut tree);
     let answer = result.answer;
-    let set = result.set;
     match answer {
-        LargestAnswer::Found(_, bytes) => lines_answer(lines::set_lines(
+        LargestAnswer::Found(_, bytes) => lines_answer(result_lines(
+            pieces,
             first,
-            set,
+            result,
             &tree[..bytes],
             out,
         )),
@@ -165,10 +190,10 @@ fn answer_claim(
     requires { ⌜ at .claim + length (now claim) ≤ jobLimit ⌝ }
     ensures answer { λ r.
         ⌜ r ≡ answered at (length (now (out .entry)))
-        (solveTask (task options (now (first .entry)) (now (second .entry)) (now (list .entry))) (some (now (claim .entry)))) ⌝ }
+        (solveTask false (task options (now (first .entry)) (now (second .entry)) (now (list .entry))) (some (now (claim .entry)))) ⌝ }
     ensures output { λ _.
         ⌜ now (out .exit) ≡ jobOutput
-        (solveTask (task options (now (first .entry)) (now (second .entry)) (now (list .entry))) (some (now (claim .entry))))
+        (solveTask false (task options (now (first .entry)) (now (second .entry)) (now (list .entry))) (some (now (claim .entry))))
         (now (out .entry)) ⌝ }
 {
     let answer = claims::judge(options, first, second, list, claim);
@@ -208,7 +233,7 @@ fn answer_laid(job: &[u8], table: Table, out: &mut [u8]) -> JobAnswer
     let t = contents::bytes_of(job, second);
     let k = contents::bytes_of(job, list);
     match claim {
-        Span::Absent => answer_bodies(options, s, t, k, at, out),
+        Span::Absent => answer_bodies(head.pieces, options, s, t, k, at, out),
         Span::At(_, _) => {
             answer_claim(options, s, t, k, contents::bytes_of(job, claim), at, out)
         }
@@ -230,7 +255,8 @@ pub fn answer_job(job: &[u8], out: &mut [u8]) -> JobAnswer
     answer_laid(job, table, out)
 }
 
-// Writes what is printed for a job into `out`: the three lines of its set, the line of its claim, or that of its refusal.
+// Writes what is printed for a job into `out`: the three lines of its set, after those of its pieces if they are asked for; the line of its
+// claim; or that of its refusal.
 pub fn print_job(job: &[u8], out: &mut [u8]) -> LineAnswer
     ensures answer { λ r. ⌜ r ≡ lineAnswer (printed (now (job .entry))) (length (now (out .entry))) ⌝ }
     ensures output { λ _. ⌜ now (out .exit) ≡ lineOutput (printed (now (job .entry))) (now (out .entry)) ⌝ }

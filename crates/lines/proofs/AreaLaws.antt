@@ -1,6 +1,7 @@
 -- Texts put into an area one after another, and a text handed over. Assumes nothing.
 use Prim.Native.Nat.{ℕ, zero, suc, _+_, _-_, _*_, _≤_, _<_, min}
 use mathlib.Core.Path.{_≡_, refl, sym, _∙_, ap, ap₂, subst}
+use mathlib.Core.Bool.{Bool, true, false, cond}
 use mathlib.Core.List.{List, [], _∷_, _++_, map, append-assoc, append-nil, map-append}
 use native.Mathlib.Nat.{add-zero, zero-add}
 use native.Mathlib.Numerals.{add-one}
@@ -63,6 +64,10 @@ put-as {a} {b} {at} {i} x y e p = subst (λ (z : List ℕ). Put a at z i b) e p
 -- the next place, told another way
 pub put-to : {a b x : List ℕ} {at : ℕ} (i j : ℕ) → i ≡ j → Put a at x i b → Put a at x j b
 put-to {a} {b} {x} {at} i j e p = subst (λ (k : ℕ). Put a at x k b) e p
+
+-- nothing
+pub put-same : (a : List ℕ) (at : ℕ) → Put a at [] at a
+put-same a at = put-to (at + 0) at (add-zero at) (put-none a at)
 
 -- one byte more of x
 pub put-more : (a b x : List ℕ) (at i : ℕ) → i < length x → at + length x ≤ length a → Put a at (take i x) (at + i) b
@@ -186,3 +191,10 @@ put-label text starts sizes n p q =
 pub first-none : (a : List ℕ) (at : ℕ) (text starts sizes : List ℕ) → Put a at (joined (map tokenOf (labelsIn text starts sizes 0))) at a
 unfolding labelsIn joined
 first-none a at text starts sizes = put-to (at + 0) at (add-zero at) (put-none a at)
+
+-- a text if it is asked for
+pub put-unasked : (asked : Bool) (text a : List ℕ) → asked ≡ false → Put a 0 (cond asked text []) 0 a
+put-unasked asked text a e = rw e (put-same a 0)
+
+pub put-if-asked : (asked : Bool) {text a b : List ℕ} {n : ℕ} → asked ≡ true → Put a 0 text n b → Put a 0 (cond asked text []) n b
+put-if-asked asked e p = rw e p

@@ -82,6 +82,11 @@ pub size-short : (n : ℕ) → n ≤ leafLimit → length (decimalOf n) ≤ 2
 unfolding decimalOf
 size-short n h = from-few 2 20 n (omega arith) (omega arith)
 
+-- a total
+pub total-short : (n : ℕ) → n ≤ 159 → length (decimalOf n) ≤ 3
+unfolding decimalOf
+total-short n h = from-few 3 20 n (omega arith) (omega arith)
+
 pub words-short : (q : Refusal) → length (refusedWords q) ≤ wordsRoom
 unfolding refusedWords bytesOf
 words-short q =

@@ -19,8 +19,10 @@ use Rattle.lists.specs.ReadList.{joined}
 use Rattle.contents.specs.Contents.{line}
 use Rattle.decimals.specs.Decimal.{decimalOf}
 use Rattle.decimals.proofs.DecimalLaws.{decimal-short}
+use Rattle.pieces.specs.Pieces.{Piece, total, hung}
 use Rattle.lines.specs.Lines.{itemRoom, recordRoom, refusedWords, refusedLine, namingLine, setLines, recordLines, claimLine, threeLine}
-use Rattle.lines.proofs.LineLaws.{size-short, words-short}
+use Rattle.lines.specs.PieceLines.{atLine, atLines, piecesLines}
+use Rattle.lines.proofs.LineLaws.{size-short, total-short, words-short}
 
 joined-short : (X : List Token) → goodLabels X ≡ true → length (joined X) ≤ itemRoom * length X - 1
 unfolding joined
@@ -74,3 +76,40 @@ three-short q a b c can =
 pub claim-short : (n : ℕ) → length (claimLine n) ≤ recordRoom
 unfolding claimLine bytesOf
 claim-short n = omega (arith, line-size (bytesOf "claim ok ") (decimalOf n), decimal-short n)
+
+-- ---- the lines of pieces
+
+-- each line has at most one required label, and a leaf; tokens are good
+abbrev pub AllShort : List Piece → Type 0
+AllShort [] = Prim.Unit {0}
+AllShort (p ∷ ps) =
+    (length (p .required) ≤ 1) × (1 ≤ length (p .others)) × (goodLabels (p .required) ≡ true) × (goodLabels (p .others) ≡ true) × AllShort ps
+
+at-short : (p : Piece) → length (p .required) ≤ 1 → 1 ≤ length (p .others) → goodLabels (p .required) ≡ true → goodLabels (p .others) ≡ true
+    → length (atLine p) ≤ 38 + 35 * length (p .others)
+unfolding atLine bytesOf
+at-short p one some g h =
+    omega (
+      arith,
+      line-size (bytesOf "at ") (joined (p .required) ++ (32 ∷ joined (p .others))),
+      length-append (joined (p .required)) (32 ∷ joined (p .others)),
+      joined-short (p .required) g,
+      joined-short (p .others) h,
+    )
+
+at-lines-short : (ps : List Piece) → AllShort ps → length (atLines ps) ≤ 38 * length ps + 35 * hung ps
+unfolding atLines hung
+at-lines-short [] a = omega arith
+at-lines-short (p ∷ ps) a =
+    omega (arith, length-append (atLine p) (atLines ps), at-short p (a .0) (a .1) (a .2) (a .3), at-lines-short ps (a .4))
+
+pub pieces-short : (ps : List Piece) → AllShort ps → total ps ≤ 159 → length (piecesLines ps) ≤ 11 + 38 * length ps + 35 * hung ps
+unfolding piecesLines bytesOf
+pieces-short ps a few =
+    omega (
+      arith,
+      length-append (line (bytesOf "pieces " ++ decimalOf (total ps))) (atLines ps),
+      line-size (bytesOf "pieces ") (decimalOf (total ps)),
+      total-short (total ps) few,
+      at-lines-short ps a,
+    )

@@ -1,4 +1,6 @@
 pub mod Areas
+pub mod ItemText
 pub mod Lines
 pub mod Output
 pub mod PaperNumbers
+pub mod PieceLines

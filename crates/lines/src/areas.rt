@@ -1,4 +1,5 @@
 // Lines put together in an area, part by part, and copied to a lent output.
+use crate::ITEMS;
 use crate::LineAnswer;
 use mast::Named;
 use trees::Body;
@@ -8,6 +9,7 @@ use trees::Refusal;
 use trees::ShownLabel;
 use trees::wide;
 ghost use mathlib.Core.Path.{_≡_};
+ghost use mathlib.Core.Bool.{true, false, cond};
 ghost use mathlib.Core.List.{[], _∷_, map};
 ghost use Prim.Native.Nat.{_+_, _-_, _*_, _≤_};
 ghost use lib.ListN.{length};
@@ -16,9 +18,13 @@ ghost use Rattle.trees.specs.Stored.{shownBytes};
 ghost use Rattle.trees.specs.Text.{treeRoom};
 ghost use Rattle.trees.specs.Token.{tokenOf};
 ghost use Rattle.trees.specs.Tree.{leafLimit};
+ghost use Rattle.trees.specs.Words.{bytesOf};
 ghost use Rattle.lists.specs.ReadList.{joined};
 ghost use Rattle.lines.specs.Lines.{refusedWords, recordLines, claimLine, itemRoom, wordsRoom, claimRoom, lineRoom, recordRoom, labelIn, namedLine, labelsIn};
 ghost use Rattle.lines.specs.Output.{lineAnswer, lineOutput};
+ghost use Rattle.lines.specs.ItemText.{headText, itemText, runText};
+ghost use lib.Dec.{eqb};
+ghost use Rattle.lines.specs.PieceLines.{itemsIn, piecesFrom, piecesLines, piecesRoom};
 ghost use Rattle.lines.specs.Areas.{Put, item};
 
 // Puts one byte at `at`, and returns the place of the next.
@@ -112,6 +118,132 @@ fn put_labels(
     next
 }
 
+// Ends the line before, if there is one.
+fn put_break(first: bool, area: &mut [u8], at: usize) -> usize
+    requires { ⌜ at + 1 ≤ length (now area) ⌝ }
+    ensures { λ r. ⌜ Put (now (area .entry)) at (cond first [] (10 ∷ [])) r (now (area .exit)) ⌝ }
+{
+    if first {
+        return at;
+    }
+    put_byte(b'\n', area, at)
+}
+
+// Begins an `at` line with its required label.
+fn put_head(first: bool, x: ShownLabel, area: &mut [u8], at: usize) -> usize
+    requires { ⌜ at + 5 + length (shownBytes x) ≤ length (now area) ⌝ }
+    ensures { λ r. ⌜ Put (now (area .entry)) at (headText first (shownBytes x)) r (now (area .exit)) ⌝ }
+{
+    let a = put_break(first, area, at);
+    let b = put_bytes(b"at ", area, a);
+    let c = put_shown(x, area, b);
+    put_byte(b' ', area, c)
+}
+
+// What is before a leaf: the beginning of a line without a required label, nothing after one, or a comma.
+fn put_before(first: bool, after: bool, area: &mut [u8], at: usize) -> usize
+    requires { ⌜ at + 4 ≤ length (now area) ⌝ }
+    ensures { λ r. ⌜ Put (now (area .entry)) at (cond first (bytesOf "at  ") (cond after [] (44 ∷ []))) r (now (area .exit)) ⌝ }
+{
+    if first {
+        return put_bytes(b"at  ", area, at);
+    }
+    if after {
+        return at;
+    }
+    put_byte(b',', area, at)
+}
+
+// Puts a label of the `at` lines: a required one begins a line. `after`: whether the label before it is required.
+fn put_piece(
+    first: bool,
+    after: bool,
+    head: bool,
+    x: ShownLabel,
+    area: &mut [u8],
+    at: usize,
+) -> usize
+    requires { ⌜ at + 5 + length (shownBytes x) ≤ length (now area) ⌝ }
+    ensures { λ r.
+        ⌜ Put (now (area .entry)) at (itemText first after (record { token = shownBytes x; head = head })) r (now (area .exit)) ⌝ }
+{
+    if head {
+        return put_head(first, x, area, at);
+    }
+    let next = put_before(first, after, area, at);
+    put_shown(x, area, next)
+}
+
+// Puts the first `count` labels of the `at` lines, by places, sizes and marks; the last line has no end yet.
+fn put_items(
+    text: &[u8],
+    start: &[u16; ITEMS],
+    size: &[u8; ITEMS],
+    head: &[bool; ITEMS],
+    count: usize,
+    area: &mut [u8],
+    at: usize,
+) -> usize
+    requires { ⌜ count ≤ 159 ⌝ }
+    requires { ⌜ at + 39 * count ≤ length (now area) ⌝ }
+    ensures { λ r.
+        ⌜ Put (now (area .entry)) at
+        (runText true false (itemsIn (now (text .entry)) (now (start .entry)) (now (size .entry)) (now (head .entry)) count)) r
+        (now (area .exit)) ⌝ }
+    ensures { λ r. ⌜ r ≤ at + 39 * count ⌝ }
+{
+    let mut next = at;
+    let mut after = false;
+    let mut i: usize = 0;
+    while i < count {
+        let x = label_in(
+            text,
+            trees::place_entry(start, i),
+            trees::byte_entry(size, i),
+        );
+        let is_head = head[i];
+        next = put_piece(i == 0, after, is_head, x, area, next);
+        after = is_head;
+        i += 1;
+    }
+    next
+}
+
+// Ends the last of these lines, if there is one.
+fn put_end(count: usize, area: &mut [u8], at: usize) -> usize
+    requires { ⌜ at + 1 ≤ length (now area) ⌝ }
+    ensures { λ r. ⌜ Put (now (area .entry)) at (cond (eqb count 0) [] (10 ∷ [])) r (now (area .exit)) ⌝ }
+{
+    if count == 0 {
+        return at;
+    }
+    put_byte(b'\n', area, at)
+}
+
+// The lines of the pieces: `pieces` with the total, then the `at` lines.
+pub(crate) fn put_pieces(
+    text: &[u8],
+    start: &[u16; ITEMS],
+    size: &[u8; ITEMS],
+    head: &[bool; ITEMS],
+    count: usize,
+    area: &mut [u8],
+) -> usize
+    requires { ⌜ count ≤ 159 ⌝ }
+    requires { ⌜ piecesRoom ≤ length (now area) ⌝ }
+    ensures { λ r.
+        ⌜ Put (now (area .entry)) 0
+        (piecesLines (piecesFrom (itemsIn (now (text .entry)) (now (start .entry)) (now (size .entry)) (now (head .entry)) count))) r
+        (now (area .exit)) ⌝ }
+    ensures { λ r. ⌜ r ≤ piecesRoom ⌝ }
+{
+    let a = put_bytes(b"pieces ", area, 0);
+    let n = put_number(count, area, a);
+    let c = put_byte(b'\n', area, n);
+    let d = put_items(text, start, size, head, count, area, c);
+    put_end(count, area, d)
+}
+
 // Copies a text to the output: all of it, or nothing if the output is too short.
 pub(crate) fn hand_over(text: &[u8], out: &mut [u8]) -> LineAnswer
     ensures answer { λ r. ⌜ r ≡ lineAnswer (now (text .entry)) (length (now (out .entry))) ⌝ }
@@ -175,7 +307,7 @@ pub(crate) fn put_claim(size: usize, area: &mut [u8]) -> usize
     put_byte(b'\n', area, b)
 }
 
-// The three lines of an answer: `size`, `set` and `tree`.
+// The three lines of an answer, `size`, `set` and `tree`, from `at` on.
 pub(crate) fn put_record(
     first: &[u8],
     start: &[u16; 80],
@@ -183,16 +315,17 @@ pub(crate) fn put_record(
     count: usize,
     tree: &[u8],
     area: &mut [u8],
+    at: usize,
 ) -> usize
     requires { ⌜ count ≤ leafLimit ⌝ }
     requires { ⌜ length (now tree) ≤ treeRoom ⌝ }
-    requires { ⌜ recordRoom ≤ length (now area) ⌝ }
+    requires { ⌜ at + recordRoom ≤ length (now area) ⌝ }
     ensures { λ r.
-        ⌜ Put (now (area .entry)) 0
+        ⌜ Put (now (area .entry)) at
         (recordLines (labelsIn (now (first .entry)) (now (start .entry)) (now (size .entry)) count) (now (tree .entry)))
         r (now (area .exit)) ⌝ }
 {
-    let a = put_bytes(b"size ", area, 0);
+    let a = put_bytes(b"size ", area, at);
     let b = put_number(count, area, a);
     let c = put_bytes(b"\nset ", area, b);
     let d = put_labels(first, start, size, count, area, c);

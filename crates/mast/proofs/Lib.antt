@@ -2,6 +2,7 @@ pub mod ClashLaws
 pub mod FinishLaws
 pub mod MissingLaws
 pub mod OutcomeLaws
+pub mod PieceLaws
 pub mod Promises
 pub mod RequiredLaws
 pub mod SettleLaws

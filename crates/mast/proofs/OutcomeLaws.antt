@@ -78,11 +78,11 @@ refused-found : {A G : Type 0} {x : A} {q : Refusal} → refused q ≡ found x �
 refused-found d = let z : _≡_ {A = ℕ} 0 1 = cc in absurd (omega arith)
 
 -- what an outcome tells of the answer
-module _ (e : Edition) (s : Tree) (xs : List Token) (room : ℕ) where
+module _ (e : Edition) (s t : Tree) (xs : List Token) (room : ℕ) where
   abbrev Of : Answer → Outcome Solution
-  Of A = solutionOf e s xs room A
+  Of A = solutionOf e s t xs room A
 
-  set-of : (X : List Label) → Of (largest X) ≡ fitted room (solution e s X)
+  set-of : (X : List Label) → Of (largest X) ≡ fitted room (solution e s t xs X)
   unfolding solutionOf requiredOf heldBy
   set-of X = refl
 
@@ -92,9 +92,9 @@ module _ (e : Edition) (s : Tree) (xs : List Token) (room : ℕ) where
   named-only (firstLacks k) q n d = refused-naming d
   named-only (secondLacks k) q n d = refused-naming d
   named-only (disagree a b c) q n d = (a, b, c, refl, cc, sym (same-trio d))
-  named-only (largest X) q n d = go (fits-or-short room (solution e s X))
+  named-only (largest X) q n d = go (fits-or-short room (solution e s t xs X))
     where
-      go : FitsOrShort room (solution e s X)
+      go : FitsOrShort room (solution e s t xs X)
           → (a : Label) × (b : Label) × (c : Label) × (largest X ≡ disagree a b c) × (q ≡ disagreement) × (n ≡ trio e s xs a b c)
       go (inl h) = found-naming (sym (h .1) ∙ sym (set-of X) ∙ d)
       go (inr h) = refused-naming (sym (h .1) ∙ sym (set-of X) ∙ d)
@@ -108,23 +108,23 @@ module _ (e : Edition) (s : Tree) (xs : List Token) (room : ℕ) where
       let z : k .2 ≡ c = sym (ap (λ (n : Trio). n .labels .three) w) in
       k .3 ∙ (rw (x, y, z) refl)
 
-  pub set-only : (A : Answer) (X : List Label) → Of A ≡ found (solution e s X)
-      → (A ≡ largest X) × (length (solutionText (solution e s X)) ≤ room)
+  pub set-only : (A : Answer) (X : List Label) → Of A ≡ found (solution e s t xs X)
+      → (A ≡ largest X) × (length (solutionText (solution e s t xs X)) ≤ room)
   unfolding solutionOf requiredOf heldBy
   set-only (firstLacks k) X d = refused-found d
   set-only (secondLacks k) X d = refused-found d
   set-only (disagree a b c) X d = found-naming (sym d)
-  set-only (largest Y) X d = go (fits-or-short room (solution e s Y))
+  set-only (largest Y) X d = go (fits-or-short room (solution e s t xs Y))
     where
-      go : FitsOrShort room (solution e s Y)
-          → (largest Y ≡ largest X) × (length (solutionText (solution e s X)) ≤ room)
+      go : FitsOrShort room (solution e s t xs Y)
+          → (largest Y ≡ largest X) × (length (solutionText (solution e s t xs X)) ≤ room)
       go (inl h) =
           let k : Y ≡ X = ap (λ (r : Solution). r .set) (same-found (sym (h .1) ∙ sym (set-of Y) ∙ d)) in
           (ap largest k, rw k at (h .0))
       go (inr h) = refused-found (sym (h .1) ∙ sym (set-of Y) ∙ d)
 
   pub short-only : (A : Answer) → Of A ≡ refused tooShort
-      → (X : List Label) × (A ≡ largest X) × (room < length (solutionText (solution e s X)))
+      → (X : List Label) × (A ≡ largest X) × (room < length (solutionText (solution e s t xs X)))
   unfolding solutionOf requiredOf heldBy
   short-only (firstLacks k) d =
       let w : FirstLacks ≡ TooShort = ap (λ (q : Refusal). q .reason) (same-refusal d) in
@@ -135,10 +135,10 @@ module _ (e : Edition) (s : Tree) (xs : List Token) (room : ℕ) where
       let z : _≡_ {A = ℕ} 0 1 = cc in
       absurd (omega arith)
   short-only (disagree a b c) d = refused-naming (sym d)
-  short-only (largest Y) d = go (fits-or-short room (solution e s Y))
+  short-only (largest Y) d = go (fits-or-short room (solution e s t xs Y))
     where
-      go : FitsOrShort room (solution e s Y)
-          → (X : List Label) × (largest Y ≡ largest X) × (room < length (solutionText (solution e s X)))
+      go : FitsOrShort room (solution e s t xs Y)
+          → (X : List Label) × (largest Y ≡ largest X) × (room < length (solutionText (solution e s t xs X)))
       go (inl h) = refused-found (sym d ∙ set-of Y ∙ h .1)
       go (inr h) = (Y, refl, h .0)
 
@@ -233,13 +233,13 @@ module _ (q : Task) (s t : Tree) (xs : List Token) (reads : Reads q s t xs) wher
       (three-shown (q .required) xs (reads .list-is) a b c d)
 
   module _ (room : ℕ) where
-    solve-answer : solve q room ≡ solutionOf E s xs room ANS
+    solve-answer : solve q room ≡ solutionOf E s t xs room ANS
     unfolding solveList answerTo
     solve-answer = solve-reads q room s t xs reads
 
-    pub outcome-decides : (A : Answer) → RightAnswer (keyed E s) (keyed E t) L A → solve q room ≡ solutionOf E s xs room A
+    pub outcome-decides : (A : Answer) → RightAnswer (keyed E s) (keyed E t) L A → solve q room ≡ solutionOf E s t xs room A
     outcome-decides A h =
-        solve-answer ∙ ap (solutionOf E s xs room) (agreement.answer-promise (keyed E s) (keyed E t) L proper different A .1 h)
+        solve-answer ∙ ap (solutionOf E s t xs room) (agreement.answer-promise (keyed E s) (keyed E t) L proper different A .1 h)
 
     pub eight-exactly : Common (keyed E s) (keyed E t) (setOf L)
         → ((a : Label) × (b : Label) × (c : Label) × Clash (keyed E s) (keyed E t) L a b c)
@@ -248,52 +248,52 @@ module _ (q : Task) (s t : Tree) (xs : List Token) (reads : Reads q s t xs) wher
     eight-exactly held = (
       λ k.
           let e = agreement.eight-promise (keyed E s) (keyed E t) L proper different held .0 k in
-          (e .0, e .1, e .2, solve-answer ∙ ap (solutionOf E s xs room) (e .3)),
+          (e .0, e .1, e .2, solve-answer ∙ ap (solutionOf E s t xs room) (e .3)),
       λ k.
           agreement.eight-promise (keyed E s) (keyed E t) L proper different held .1
-          (k .0, k .1, k .2, clashed-only E s xs room ANS (k .0) (k .1) (k .2) (sym solve-answer ∙ k .3)),
+          (k .0, k .1, k .2, clashed-only E s t xs room ANS (k .0) (k .1) (k .2) (sym solve-answer ∙ k .3)),
     )
 
-    set-fitted : (X : List Label) → IsAnswer (keyed E s) (keyed E t) L X → solve q room ≡ fitted room (solution E s X)
+    set-fitted : (X : List Label) → IsAnswer (keyed E s) (keyed E t) L X → solve q room ≡ fitted room (solution E s t xs X)
     set-fitted X h =
-        solve-answer ∙ ap (solutionOf E s xs room) (agreement.set-promise (keyed E s) (keyed E t) L proper different X .1 h)
-        ∙ set-of E s xs room X
+        solve-answer ∙ ap (solutionOf E s t xs room) (agreement.set-promise (keyed E s) (keyed E t) L proper different X .1 h)
+        ∙ set-of E s t xs room X
 
-    pub set-exactly : (X : List Label) → (solve q room ≡ found (solution E s X)) ↔ SetGiven E s t xs X room
+    pub set-exactly : (X : List Label) → (solve q room ≡ found (solution E s t xs X)) ↔ SetGiven E s t xs X room
     unfolding fitted solutionText
     set-exactly X = (
       λ d.
-          let k = set-only E s xs room ANS X (sym solve-answer ∙ d) in
+          let k = set-only E s t xs room ANS X (sym solve-answer ∙ d) in
           let a = agreement.set-promise (keyed E s) (keyed E t) L proper different X .0 (k .0) in
           record {
             isAnswer = a;
             second-text = one-text-in E s t (setOf X) valid-first valid-second (a .allowedSet .commonLeaves) (a .allowedSet .agreed);
             fit = k .1;
           },
-      λ g. set-fitted X (g .isAnswer) ∙ (rw (le-leb (length (solutionText (solution E s X))) room (g .fit)) refl),
+      λ g. set-fitted X (g .isAnswer) ∙ (rw (le-leb (length (solutionText (solution E s t xs X))) room (g .fit)) refl),
     )
 
     pub nine-exactly : (solve q room ≡ refused tooShort)
-        ↔ ((X : List Label) × IsAnswer (keyed E s) (keyed E t) L X × (room < length (solutionText (solution E s X))))
+        ↔ ((X : List Label) × IsAnswer (keyed E s) (keyed E t) L X × (room < length (solutionText (solution E s t xs X))))
     unfolding fitted
     nine-exactly = (
       λ d.
-          let k = short-only E s xs room ANS (sym solve-answer ∙ d) in
+          let k = short-only E s t xs room ANS (sym solve-answer ∙ d) in
           (k .0, agreement.set-promise (keyed E s) (keyed E t) L proper different (k .0) .0 (k .1), k .2),
-      λ k. set-fitted (k .0) (k .1) ∙ (rw (lt-leb (length (solutionText (solution E s (k .0)))) room (k .2)) refl),
+      λ k. set-fitted (k .0) (k .1) ∙ (rw (lt-leb (length (solutionText (solution E s t xs (k .0)))) room (k .2)) refl),
     )
 
-    pub set-given-shown : (X : List Label) → solve q room ≡ found (solution E s X) → (r : ℕ) → r < largestOf (solve q room) .set .count
+    pub set-given-shown : (X : List Label) → solve q room ≡ found (solution E s t xs X) → (r : ℕ) → r < largestOf (solve q room) .set .count
         → ShownInTree E (q .first) (getD (largestOf (solve q room) .set .start) r 0) (getD (largestOf (solve q room) .set .size) r 0)
         (getD X r [])
     set-given-shown X d r =
         let held = set-exactly X .0 d .isAnswer .allowedSet .commonLeaves in
-        set-is-shown E s X valid-first (λ x h. held x h .0) r (q .first) (accepts-in E (q .first) s (reads .first-is) .0) (solve q room) d
+        set-is-shown E s X valid-first (λ x h. held x h .0) r t xs (q .first) (accepts-in E (q .first) s (reads .first-is) .0) (solve q room) d
 
     pub names-given-shown : (p : Refusal) (n : Trio) → solve q room ≡ naming p n
         → (p ≡ disagreement) × NamesShown E (q .first) (q .required) (namedOf n) (n .labels)
     names-given-shown p n d =
-        let k = named-only E s xs room ANS p n (sym solve-answer ∙ d) in
+        let k = named-only E s t xs room ANS p n (sym solve-answer ∙ d) in
         (k .4, required-shown (k .0) (k .1) (k .2) (k .3) n (k .5))
 
   -- a further list beside the set

@@ -99,7 +99,7 @@ module _ (q : Task) (room : ℕ) (s t : Tree) (xs : List Token) (reads : Reads q
   -- 6 or 7, then 8, then the set: whatever meets 01's sentences on two trees and a list decides the answer.
   pub outcome-promise : (A : Answer)
       → RightAnswer (keyed (q .options .edition) s) (keyed (q .options .edition) t) (keysOf (q .options .edition) xs) A
-      → solve q room ≡ solutionOf (q .options .edition) s xs room A
+      → solve q room ≡ solutionOf (q .options .edition) s t xs room A
   outcome-promise = outcome-decides q s t xs reads room
 
   -- 8 exactly if three required labels have different closer pairs.
@@ -111,17 +111,17 @@ module _ (q : Task) (room : ℕ) (s t : Tree) (xs : List Token) (reads : Reads q
 
   -- A set is returned exactly if it is the largest, the first among equals, and the text of the common restriction fits.
   pub set-promise : (X : List Label)
-      → (solve q room ≡ found (solution (q .options .edition) s X)) ↔ SetGiven (q .options .edition) s t xs X room
+      → (solve q room ≡ found (solution (q .options .edition) s t xs X)) ↔ SetGiven (q .options .edition) s t xs X room
   set-promise = set-exactly q s t xs reads room
 
   -- 9 comes last, and "only for a real lack".
   pub nine-promise : (solve q room ≡ refused tooShort)
       ↔ ((X : List Label) × IsAnswer (keyed (q .options .edition) s) (keyed (q .options .edition) t) (keysOf (q .options .edition) xs) X
-      × (room < length (solutionText (solution (q .options .edition) s X))))
+      × (room < length (solutionText (solution (q .options .edition) s t xs X))))
   nine-promise = nine-exactly q s t xs reads room
 
   -- What a caller receives of a set: entry r of its starts and sizes names a part of the first text, a whole leaf, which is label r of the set.
-  pub set-shown-promise : (X : List Label) → solve q room ≡ found (solution (q .options .edition) s X) → (r : ℕ)
+  pub set-shown-promise : (X : List Label) → solve q room ≡ found (solution (q .options .edition) s t xs X) → (r : ℕ)
       → r < largestOf (solve q room) .set .count
       → ShownInTree (q .options .edition) (q .first) (getD (largestOf (solve q room) .set .start) r 0)
       (getD (largestOf (solve q room) .set .size) r 0) (getD X r [])
@@ -211,11 +211,11 @@ eight-places-promise e xs x h = (list-listed e xs x h, listed-key e xs x h)
 
 -- The same of all that is returned, for any set and any three labels: entry r of a set's starts and sizes names label r; a named label's place
 -- is in its list, its start and size are in the first tree's text. `set-shown-promise` and `names-shown-promise` are this for the answer.
-pub set-labels-promise : (e : Edition) (s : Tree) (X : List Label) → ValidIn e s
-    → ((x : Label) → isIn x X ≡ true → holds (keyed e s) x ≡ true) → (r : ℕ) → r < largestOf (found (solution e s X)) .set .count
-    → ShownInTree e (textOf s) (getD (largestOf (found (solution e s X)) .set .start) r 0)
-    (getD (largestOf (found (solution e s X)) .set .size) r 0) (getD X r [])
-set-labels-promise e s X v held r = set-is-shown e s X v held r (textOf s) refl (found (solution e s X)) refl
+pub set-labels-promise : (e : Edition) (s t : Tree) (xs : List Token) (X : List Label) → ValidIn e s
+    → ((x : Label) → isIn x X ≡ true → holds (keyed e s) x ≡ true) → (r : ℕ) → r < largestOf (found (solution e s t xs X)) .set .count
+    → ShownInTree e (textOf s) (getD (largestOf (found (solution e s t xs X)) .set .start) r 0)
+    (getD (largestOf (found (solution e s t xs X)) .set .size) r 0) (getD X r [])
+set-labels-promise e s t xs X v held r = set-is-shown e s X v held r t xs (textOf s) refl (found (solution e s t xs X)) refl
 
 pub named-labels-promise : (n : Trio) → ValidIn (n .edition) (n .first) → HeldAndListed n (n .labels .one) → HeldAndListed n (n .labels .two)
     → HeldAndListed n (n .labels .three) → NamesShown (n .edition) (textOf (n .first)) (joined (n .list)) (namedOf n) (n .labels)

@@ -2,26 +2,21 @@
 use Prim.Native.Nat.{ℕ}
 use mathlib.Core.Path.{_≡_, refl, sym, _∙_, ap, subst}
 use mathlib.Core.Bool.{Bool, true, false}
-use mathlib.Core.List.{List, map}
+use mathlib.Core.List.{List}
 use native.Mathlib.Omega.{arith}
-use lib.ListN.{length, length-map}
+use lib.ListN.{length}
 use Rattle.trees.specs.declared.Body.the-variants.{K, C}
 use Rattle.trees.specs.declared.Refusal.{Refusal}
 use Rattle.trees.specs.declared.TreeArrays.{TreeArrays}
 use Rattle.trees.specs.declared.Edition.{Edition}
 use Rattle.trees.specs.Edition.{folded}
 use Rattle.trees.specs.Label.{Label}
-use Rattle.trees.specs.Token.{Token, spelling}
-use Rattle.trees.specs.Tree.{Tree, decoded}
-use Rattle.trees.specs.Arrays.{arraysOf}
-use Rattle.trees.proofs.DecodedLaws.{decoded-nodes, decoded-left, decoded-right}
-use Rattle.trees.proofs.TokenLaws.{valid-decoded}
+use Rattle.trees.specs.Token.{Token}
+use Rattle.trees.specs.Tree.{Tree}
 use Rattle.lists.specs.declared.LabelPlaces.{LabelPlaces}
 use Rattle.lists.specs.ReadList.{foldedList, keysOf}
-use Rattle.agreement.specs.Sets.{common}
 use Rattle.agreement.specs.Answer.{Answer, disagree, largest}
 use Rattle.agreement.specs.Places.{placeIn, tokenIn, placeOfLabel}
-use Rattle.table.specs.Choice.{Ranked, Posed}
 use Rattle.pairs.specs.declared.CommonOrder.{CommonOrder}
 use Rattle.mast.specs.declared.clash.FirstClash.{FirstClash}
 use Rattle.mast.specs.declared.settle.Chosen.{Chosen}
@@ -36,39 +31,10 @@ use Rattle.queries.specs.Query.{AllHeld, withClash, withSet, answerTo, heldBy, 
 use Rattle.mast.specs.Compare.{Comparison, missing, clashOf, comparison, compareOther, compareAnswers, compareLists, isThere, placeIf, noName, namedIf, comparedOf}
 use Rattle.pairs.specs.PairRead.{OwnTrees, treesIn}
 use Rattle.queries.specs.ListRead.{OwnLabels}
-use Rattle.queries.specs.RankedList.{Asked, AskedOf}
+use Rattle.queries.specs.RankedList.{AskedOf}
 use Rattle.mast.specs.RankedQuery.{ClashIs}
 use Rattle.mast.specs.Settled.{chosenOf, NamingIs, ChosenIs, SettledIs}
 use Rattle.pairs.proofs.StepLaws.{then-refused, then-found}
-
--- what the table is asked
-
-pub posed : {s t : Tree} {xs : List Token} {tree1 tree2 : TreeArrays} {order : CommonOrder} {rank1 rank2 number : List ℕ}
-    {count : ℕ} → Asked s t xs tree1 tree2 order number count → Ranked (decoded s) (common (decoded s) (decoded t)) rank1
-    → Ranked (decoded t) (common (decoded s) (decoded t)) rank2
-    → Posed (decoded s) (decoded t) (map spelling xs) tree1 tree2 rank1 rank2 (order .count) number count
-unfolding arraysOf
-posed {s = s} {t = t} {xs = xs} a one two = record {
-  one = record {
-    proper = valid-decoded s (a .one .valid);
-    nodes-are = ap (λ q. q .nodes) (a .one .arrays-is) ∙ sym (decoded-nodes s);
-    left-are = ap (λ q. q .left) (a .one .arrays-is) ∙ sym (decoded-left s);
-    right-are = ap (λ q. q .right) (a .one .arrays-is) ∙ sym (decoded-right s);
-    ranked = one;
-  };
-  two = record {
-    proper = valid-decoded t (a .two .valid);
-    nodes-are = ap (λ q. q .nodes) (a .two .arrays-is) ∙ sym (decoded-nodes t);
-    left-are = ap (λ q. q .left) (a .two .arrays-is) ∙ sym (decoded-left t);
-    right-are = ap (λ q. q .right) (a .two .arrays-is) ∙ sym (decoded-right t);
-    ranked = two;
-  };
-  all = a .one .count;
-  different = a .different;
-  required = a .held;
-  marked = a .marked;
-  count-is = a .count-is ∙ sym (length-map xs spelling);
-}
 
 -- three labels with different closer pairs
 pub named-trio : (e : Edition) (s : Tree) (xs : List Token) (a b c : Label) (x y z : NamedLabel)

@@ -74,9 +74,9 @@ module _ (e : Edition) (s : Tree) (X : List Label) (v : ValidIn e s) (held : (x 
       rw (padded-at (placeIn (folded e s) 0) X r h, padded-at (λ (x : Label). length (tokenIn (folded e s) x)) X r h)
       (leaf-is-shown e (getD X r []) s v (held (getD X r []) (at-in X r h)))
 
-  pub set-is-shown : (text : List ℕ) → text ≡ textOf s → (x : Outcome Solution) → x ≡ found (solution e s X)
+  pub set-is-shown : (t : Tree) (xs : List Token) (text : List ℕ) → text ≡ textOf s → (x : Outcome Solution) → x ≡ found (solution e s t xs X)
       → SetShown text (largestOf x .set)
   unfolding largestOf
-  set-is-shown text d x k =
+  set-is-shown t xs text d x k =
       subst (λ (y : Outcome Solution). SetShown text (largestOf y .set)) (sym k)
       (subst (λ (w : List ℕ). SetShown w (setPlaces (folded e s) X)) (sym d) places-shown)

@@ -58,11 +58,11 @@ module _ {e : Edition} {s : Tree} {C : List Label} {tree : TreeArrays} {text ord
   ranked-proper = valid-decoded (folded e s) (valid-folded e s (k .valid))
 
   -- the restricted arrays over the first tree's text have the text of the restriction
-  pub restricted-text : (X : List Label) (kept : List Bool) → Flagged (keyed e s) X kept → (r : TreeArrays)
-      → ((text : List ℕ) (t : Tree) → treeOf tree text ≡ oneTree t → treeOf r text ≡ keptStanding tree text kept)
-      → standingText e (treeOf r text) ≡ some (solutionText (solution e s X))
+  pub restricted-text : (t : Tree) (xs : List Token) (X : List Label) (kept : List Bool) → Flagged (keyed e s) X kept → (r : TreeArrays)
+      → ((text : List ℕ) (u : Tree) → treeOf tree text ≡ oneTree u → treeOf r text ≡ keptStanding tree text kept)
+      → standingText e (treeOf r text) ≡ some (solutionText (solution e s t xs X))
   unfolding solutionText
-  restricted-text X kept f r cut =
+  restricted-text t xs X kept f r cut =
       ap (standingText e) (cut text s (rw (k .arrays-is, k .text-is) (stands s (valid-spelled e s (k .valid))))
       ∙ (rw (k .arrays-is, k .text-is) (own-kept e s (k .valid) kept (setOf X) f)))
       ∙ kept-standing-text e (restrictIn e (setOf X) s)
@@ -156,7 +156,7 @@ module _ (e : Edition) (p : Trees) (xs : List Token) (out : List ℕ) where
   abbrev Answered : Outcome Solution
   Answered = solveList e (length out) p xs
 
-  pub answered-set : (X : List Label) → requiredSet e p xs ≡ found X → Answered ≡ fitted (length out) (solution e (p .first) X)
+  pub answered-set : (X : List Label) → requiredSet e p xs ≡ found X → Answered ≡ fitted (length out) (solution e (p .first) (p .second) xs X)
   unfolding solveList solutionOf requiredSet
   answered-set X h = then-found (requiredSet e p xs) _ X h
 

@@ -25,15 +25,17 @@ use Rattle.pairs.specs.TwoTrees.{Trees, treesOf}
 use Rattle.mast.specs.NamedLabels.{namedOf}
 use Rattle.queries.specs.Query.{Task, listOf, answerTo, requiredOf}
 
--- the answer: the set in label order, by its keys, and the first tree, which spells all that is printed
+-- the answer: the set in label order, by its keys; the two trees, of which the first spells all that is printed, and the required list
 pub record Solution : Type 0 where
   pub edition : Edition
   pub first : Tree
+  pub second : Tree
+  pub required : List Token
   pub set : List Label
 
 -- by its parts
-abbrev pub solution : Edition → Tree → List Label → Solution
-solution e s X = record { edition = e; first = s; set = X }
+abbrev pub solution : Edition → Tree → Tree → List Token → List Label → Solution
+solution e s t xs X = record { edition = e; first = s; second = t; required = xs; set = X }
 
 -- the normal text of its common restriction
 unfoldable pub solutionText : Solution → List ℕ
@@ -50,13 +52,13 @@ unfolding solutionText
 fitted room r = cond (leb (length (solutionText r)) room) (found r) (refused tooShort)
 
 -- "then 6 or 7, then 8, then 9 for the output", from the answer to the required list
-unfoldable pub solutionOf : Edition → Tree → List Token → ℕ → Answer → Outcome Solution
+unfoldable pub solutionOf : Edition → Tree → Tree → List Token → ℕ → Answer → Outcome Solution
 unfolding andThen requiredOf fitted
-solutionOf e s xs room A = andThen (requiredOf e s xs A) (λ X. fitted room (solution e s X))
+solutionOf e s t xs room A = andThen (requiredOf e s xs A) (λ X. fitted room (solution e s t xs X))
 
 unfoldable pub solveList : Edition → ℕ → Trees → List Token → Outcome Solution
 unfolding solutionOf answerTo
-solveList e room p xs = solutionOf e (p .first) xs room (answerTo e p xs)
+solveList e room p xs = solutionOf e (p .first) (p .second) xs room (answerTo e p xs)
 
 -- "Order: .. S, T, K, then 6 or 7, then 8, then 9 for the output."
 unfoldable pub solve : Task → ℕ → Outcome Solution

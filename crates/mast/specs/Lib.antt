@@ -3,6 +3,7 @@ pub mod Largest
 pub mod ListMarks
 pub mod NamedLabels
 pub mod PaperNumbers
+pub mod PiecesWith
 pub mod RankedQuery
 pub mod Reads
 pub mod SetByRank

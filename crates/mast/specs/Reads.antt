@@ -30,5 +30,5 @@ pub record Reads (q : Task) (s t : Tree) (K : List Token) : Type 0 where
 -- tree's restriction.
 pub record SetGiven (e : Edition) (s t : Tree) (xs : List Token) (X : List Label) (room : ℕ) : Type 0 where
   pub isAnswer : IsAnswer (keyed e s) (keyed e t) (keysOf e xs) X
-  pub second-text : inEdition e (solutionText (solution e s X)) ≡ inEdition e (solutionText (solution e t X))
-  pub fit : length (solutionText (solution e s X)) ≤ room
+  pub second-text : inEdition e (solutionText (solution e s t xs X)) ≡ inEdition e (solutionText (solution e t s xs X))
+  pub fit : length (solutionText (solution e s t xs X)) ≤ room

@@ -3,7 +3,8 @@
 // No public function has a `requires`.
 use crate::beside::compare_lists;
 use crate::finish::answer_list;
-use crate::finish::without_set;
+use crate::finish::unanswered;
+use division::PiecePlaces;
 use lists::LabelPlaces;
 use pairs::Options;
 use pairs::Way;
@@ -12,9 +13,11 @@ use queries::read_labels;
 use trees::Body;
 use trees::Refusal;
 ghost use mathlib.Core.Path.{_≡_};
+ghost use mathlib.Core.Bool.{true};
 ghost use lib.ListN.{length};
 ghost use Rattle.queries.specs.Query.{task};
 ghost use Rattle.mast.specs.Largest.{solve, largestOf, outputOf};
+ghost use Rattle.mast.specs.PiecesWith.{PiecesWith, withoutPieces};
 ghost use Rattle.mast.specs.Compare.{compare, comparedOf};
 
 mod beside;
@@ -49,6 +52,13 @@ pub struct LargestResult {
     pub set: LabelPlaces,
 }
 
+// The same with the pieces of the job. A refusal has none.
+pub struct DividedResult {
+    pub answer: LargestAnswer,
+    pub set: LabelPlaces,
+    pub pieces: PiecePlaces,
+}
+
 // A further list compared with the largest set: the size of that set and the number of labels of the list; whether the list lacks a
 // required label, and the place of the first such label in the required list; whether three of its labels have different closer pairs, and
 // the first such three.
@@ -66,6 +76,55 @@ pub enum CompareAnswer {
     Compared(Compared),
     Naming(Refusal, Named),
     Refused(Refusal),
+}
+
+// The answer to three texts, as `largest` gives it, with the pieces of the job if they are asked for: the labels of the `at` lines by their
+// places in the first tree's text.
+pub fn largest_in_pieces(
+    options: Options,
+    first: &[u8],
+    second: &[u8],
+    required: &[u8],
+    asked: bool,
+    out: &mut [u8],
+) -> DividedResult
+    ensures answer { λ r.
+        ⌜ withoutPieces r ≡ largestOf
+        (solve (task options (now (first .entry)) (now (second .entry)) (now (required .entry))) (length (now (out .entry)))) ⌝ }
+    ensures output { λ _. ⌜ now (out .exit)
+        ≡ outputOf
+        (solve (task options (now (first .entry)) (now (second .entry)) (now (required .entry))) (length (now (out .entry))))
+        (now (out .entry)) ⌝ }
+    ensures pieces { λ r. ⌜ (asked ≡ true → PiecesWith
+        (solve (task options (now (first .entry)) (now (second .entry)) (now (required .entry))) (length (now (out .entry))))
+        (r .pieces)) ⌝ }
+{
+    let pair = read_pair(options, first, second);
+    let way = pair.way;
+    if let Way::Stopped(refusal) = way {
+        return unanswered(LargestAnswer::Refused(refusal));
+    }
+    let edition = options.edition;
+    let list = read_labels(edition, required, Body::K);
+    let way2 = list.way;
+    if let Way::Stopped(refusal) = way2 {
+        return unanswered(LargestAnswer::Refused(refusal));
+    }
+    let tree1 = pair.tree1;
+    let tree2 = pair.tree2;
+    let order = pair.order;
+    let places = list.places;
+    answer_list(
+        edition,
+        first,
+        tree1,
+        tree2,
+        order,
+        required,
+        places,
+        asked,
+        out,
+    )
 }
 
 // The largest set of common leaves that contains the required ones and on which the trees agree, the first in label order among equals.
@@ -86,22 +145,10 @@ pub fn largest(
         (solve (task options (now (first .entry)) (now (second .entry)) (now (required .entry))) (length (now (out .entry))))
         (now (out .entry)) ⌝ }
 {
-    let pair = read_pair(options, first, second);
-    let way = pair.way;
-    if let Way::Stopped(refusal) = way {
-        return without_set(LargestAnswer::Refused(refusal));
-    }
-    let edition = options.edition;
-    let list = read_labels(edition, required, Body::K);
-    let way2 = list.way;
-    if let Way::Stopped(refusal) = way2 {
-        return without_set(LargestAnswer::Refused(refusal));
-    }
-    let tree1 = pair.tree1;
-    let tree2 = pair.tree2;
-    let order = pair.order;
-    let places = list.places;
-    answer_list(edition, first, tree1, tree2, order, required, places, out)
+    let divided = largest_in_pieces(options, first, second, required, false, out);
+    let answer = divided.answer;
+    let set = divided.set;
+    LargestResult { answer, set }
 }
 
 // Compares a further list with the largest set: whether it lacks a required label, whether three of its labels have different closer pairs,

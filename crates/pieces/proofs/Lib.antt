@@ -9,6 +9,7 @@ pub mod NumberLaws
 pub mod PartLaws
 pub mod PlaceLaws
 pub mod Promises
+pub mod SidesLaws
 pub mod TotalLaws
 pub mod TrioLaws
 pub mod WithinLaws

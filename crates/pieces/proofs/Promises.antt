@@ -9,7 +9,7 @@ use mathlib.Core.List.{List, [], _∷_, _++_, map}
 use lib.Dec.{eqb}
 use lib.ListN.{length}
 use Rattle.trees.specs.Label.{Label, labelLess, isIn, distinct}
-use Rattle.trees.specs.Tree.{Tree, leaves, leafLimit, normal}
+use Rattle.trees.specs.Tree.{Tree, leaves, leafLimit, normal, Same}
 use Rattle.agreement.specs.Closer.{holds, Agree, Common}
 use Rattle.agreement.specs.Restrict.{restrict}
 use Rattle.agreement.specs.Sets.{increasing, keep, common, setOf}
@@ -26,6 +26,7 @@ use Rattle.pieces.proofs.NumberLaws
 use Rattle.pieces.proofs.JoinLaws
 use Rattle.pieces.proofs.TotalLaws
 use Rattle.pieces.proofs.ItemLaws
+use Rattle.pieces.proofs.SidesLaws.{pieces-same}
 use Rattle.pieces.proofs.Cases
 
 -- "When k required leaves, k at least 1, agree, their common restricted tree has 2k - 1 places, one above each node, the root included."
@@ -131,6 +132,11 @@ no-required-total = TotalLaws.total-whole
 pub lines-room : (s t : Tree) (K : List Label) → distinct (leaves s) ≡ true → distinct K ≡ true → Common s t (setOf K)
     → length (common s t) ≤ leafLimit → 38 * length (pieces s t K) + 35 * hung (pieces s t K) ≤ 3869
 lines-room = TotalLaws.lines-bound
+
+-- "Left and right children mean nothing.": equal trees have the same lines
+pub sides-mean-nothing-pieces : (s s′ t t′ : Tree) (K : List Label) → Same s s′ → Same t t′ → distinct (leaves s) ≡ true
+    → distinct (leaves t) ≡ true → pieces s t K ≡ pieces s′ t′ K
+sides-mean-nothing-pieces = pieces-same
 
 -- 01's printed case, the starred cases, and cases on which a nearby definition is wrong.
 pub cases-promise : map piecesShown rows ≡ map (λ (r : PieceRow). some (r .expected)) rows

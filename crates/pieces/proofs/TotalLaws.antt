@@ -123,10 +123,10 @@ module _ (s t : Tree) (K : List Label) where
   lines-hung [] = omega arith
   lines-hung (q ∷ qs) = lines-hung-line (firstOnly q) (hanging s t K q) (piecesAt s t K qs) (lines-hung qs)
 
-  total-few : (qs : List (List Label)) → total (piecesAt s t K qs) ≤ length (piecesAt s t K qs) + hung (piecesAt s t K qs)
+  total-lines : (qs : List (List Label)) → total (piecesAt s t K qs) ≤ length (piecesAt s t K qs) + hung (piecesAt s t K qs)
   unfolding piecesAt hung total
-  total-few [] = omega arith
-  total-few (q ∷ qs) = total-line (firstOnly q) (hanging s t K q) (piecesAt s t K qs) (first-few q) (total-few qs)
+  total-lines [] = omega arith
+  total-lines (q ∷ qs) = total-line (firstOnly q) (hanging s t K q) (piecesAt s t K qs) (first-few q) (total-lines qs)
 
   -- the required leaves are common ones, and none of them hangs anywhere
   hung-few : (qs : List (List Label)) → Once qs → distinct (leaves s) ≡ true → distinct K ≡ true → Common s t (setOf K)
@@ -171,7 +171,7 @@ counted s t K y k ds dk held = go (restrict (setOf K) s) refl
           );
           leavesOnLines = lines-hung s t K (cladesOf (normal r));
           others = hung-few s t K (cladesOf (normal r)) (places-once (normal r) dn) ds dk held;
-          labels = total-few s t K (cladesOf (normal r));
+          labels = total-lines s t K (cladesOf (normal r));
         }
 
 -- "is at most n + k - 1, with n common leaves in all"
@@ -195,6 +195,14 @@ whole-hung (z ∷ zs) = omega arith
 pub total-whole : (s t : Tree) → total (pieces s t []) ≡ length (common s t)
 unfolding pieces piecesOver
 total-whole s t = rw (restrict-unasked s) (whole-total (common s t))
+
+-- with at most 80 common leaves the lines have at most 159 labels, since no more leaves are required than are common
+pub total-few : (s t : Tree) (K : List Label) → distinct (leaves s) ≡ true → distinct K ≡ true → Common s t (setOf K)
+    → length (common s t) ≤ 80 → total (pieces s t K) ≤ 159
+total-few s t [] ds dk held l = omega (arith, total-whole s t)
+total-few s t (k ∷ K) ds dk held l =
+    let c = counted s t (k ∷ K) k (in-head k K) ds dk held in
+    omega (arith, c .lines, c .others, c .labels)
 
 -- the lines' bytes: at most 38 for what is not a leaf's and 35 for each leaf
 bytes-whole : (s t : Tree) → length (common s t) ≤ 80 → 38 * length (pieces s t []) + 35 * hung (pieces s t []) ≤ 3869

@@ -28,7 +28,7 @@ use Rattle.pieces.specs.Items.{itemsOf, noItem}
 use Rattle.pieces.proofs.CladesLaws.{at-index, index-at, at-same, place-in}
 use Rattle.pieces.proofs.NumberLaws.{required-count, required-tree, required-places, places-numbered, hanging-by-number}
 use Rattle.pieces.proofs.JoinLaws.{unasked-pieces}
-use Rattle.pieces.proofs.TotalLaws.{total-bound, total-whole}
+use Rattle.pieces.proofs.TotalLaws.{total-few}
 use Rattle.pieces.proofs.ItemLaws.{items-count}
 use Rattle.places.specs.Nodes.{TreeRanks, RankNumbers, rankAmong, lineAt, HeadOn, no-leaf, leaf-there, LinesByRank}
 use Rattle.places.specs.Marks.{noMark, lineMarks, marksTo, ListHolds}
@@ -298,13 +298,6 @@ module _ (s t : Tree) (K : List Label) (tree1 tree2 : TreeArrays) (rank1 rank2 :
   pub all-shown : Shows C (marksTo line heads (length C) 159) (itemsOf (pieces s t K))
   all-shown = shown-for K refl
 
--- the room is enough
-
-total-few : (s t : Tree) (K : List Label) → distinct (leaves s) ≡ true → distinct K ≡ true → Common s t (setOf K)
-    → length (common s t) ≤ 80 → length K ≤ 80 → total (pieces s t K) ≤ 159
-total-few s t [] ds dk held l k = omega (arith, total-whole s t)
-total-few s t (y ∷ K) ds dk held l k = omega (arith, total-bound s t (y ∷ K) y (in-head y K) ds dk held)
-
 -- the stored list is that of the pieces
 module _ {s t : Tree} {K : List Label} {tree1 tree2 : TreeArrays} {rank1 rank2 : List ℕ} {m : ℕ} {number : List ℕ} {count : ℕ}
     (posed : Posed s t K tree1 tree2 rank1 rank2 m number count) (agree : Agree s t (setOf K)) (n : ℕ) (n-is : n ≡ min m 80)
@@ -338,7 +331,7 @@ module _ {s t : Tree} {K : List Label} {tree1 tree2 : TreeArrays} {rank1 rank2 :
             arith,
             h .count-is,
             marks,
-            total-few s t K (posed .one .proper .different) (posed .different) (posed .required) (ranks-few posed) (required-few posed),
+            total-few s t K (posed .one .proper .different) (posed .different) (posed .required) (ranks-few posed),
           )
 
       at : (i : ℕ) → i < size

@@ -1,6 +1,6 @@
 // Runs a stored stream of jobs through `job` and writes each answer as `agree` would. A case is the job's length as two bytes,
 // and the job.
-use lines::RECORD_ROOM;
+use lines::LINES_ROOM;
 ghost use Prim.Native.Nat.{_<_};
 
 fn wide(b: u8) -> usize
@@ -11,7 +11,7 @@ fn wide(b: u8) -> usize
 
 // What is printed for one job.
 fn run_job(text: &[u8]) {
-    let mut area = [0u8; RECORD_ROOM];
+    let mut area = [0u8; LINES_ROOM];
     let out: &mut [u8] = &mut area;
     let answer = job::print_job(text, out);
     io::write_all(1, lines::written(out, answer));

@@ -1,11 +1,13 @@
 //! The engine beside the oracle's recurrence, both from texts to answer, in one run. Times are the least of all rounds.
 
-use crate::engine::{asked, claim, largest_with, EDITION_2, FLAGS, STRICT};
+use crate::engine::{asked, claim, job, largest_with, EDITION_2, FLAGS, STRICT};
 use oracle::agree::{common, Answer, Label};
 use oracle::bodies::{answer, joined, read};
-use oracle::families::{all_families, families, short_labels, Family};
+use oracle::families::{all_families, families, long_quoted, short_labels, Family};
 use oracle::fast;
-use oracle::limits::{LEAVES, TREE_TEXT};
+use oracle::hanging::piece_families;
+use oracle::job::with_pieces;
+use oracle::limits::{LEAVES, LINES, TREE_TEXT};
 use oracle::random::Random;
 use std::hint::black_box;
 use std::time::Instant;
@@ -219,6 +221,31 @@ fn claims_table(effort: Effort, sorts: &[(String, Vec<Family>)]) {
     row(&(format!("the greatest ratio: {name}"), *times));
 }
 
+/// What a job takes without the line `pieces` and with it.
+fn piece_times(f: &Family, rounds: usize) -> [f64; 2] {
+    let plain = f.job();
+    let jobs = [with_pieces(&plain), plain];
+    let mut out = vec![0u8; LINES];
+    jobs.iter().for_each(|j| assert_eq!(job(j, &mut out).number, 0, "{}", f.name));
+    let [pieces, plain] = in_turn(rounds, |i| {
+        black_box(job(&jobs[i], &mut out));
+    });
+    [plain, pieces]
+}
+
+/// Whole jobs with the line `pieces` next to the same without it, by the number of required leaves: over short labels and over the longest.
+fn pieces_table(effort: Effort, r: &mut Random) {
+    println!("| pieces, {LEAVES} leaves | required | without, us | with, us | ratio |");
+    println!("|---|---|---|---|---|");
+    for (sort, xs) in [("", short_labels(LEAVES)), (", labels of the most bytes in quotes", long_quoted(LEAVES))] {
+        let families = piece_families(r, &xs);
+        let all: Vec<&Family> = families.iter().collect();
+        for (f, [plain, pieces]) in all.iter().zip(least(effort, &all, piece_times)) {
+            println!("| {}{sort} | {} | {plain:.0} | {pieces:.0} | {:.2} |", f.name, f.bodies.required.len(), pieces / plain);
+        }
+    }
+}
+
 pub fn run(short: bool) {
     let mut r = Random(80);
     let effort = if short { Effort { passes: 1, rounds: 2 } } else { Effort { passes: 10, rounds: 40 } };
@@ -228,4 +255,6 @@ pub fn run(short: bool) {
     stages_table(effort, &sorts);
     println!();
     claims_table(effort, &sorts);
+    println!();
+    pieces_table(effort, &mut r);
 }

@@ -8,11 +8,13 @@ use oracle::drawn::{
     alike_bodies, damaged_quoted, large_bodies, large_cased, large_quoted, long_bodies, small_bodies, small_cased, small_quoted,
 };
 use oracle::edition_jobs::greatest_cased;
-use oracle::families::all_families;
-use oracle::job::{claim_job, job, lines, strict, with_edition, EDITION_LINES};
+use oracle::families::{all_families, short_labels};
+use oracle::hanging::piece_families;
+use oracle::job::{claim_job, job, lines, strict, with_edition, with_pieces, EDITION_LINES};
 use oracle::jobs::damaged;
 use oracle::lengths::greatest;
-use oracle::limits::{LEAVES, LINES, TREE_TEXT};
+use oracle::limits::{LEAVES, LINES, RECORD, TREE_TEXT};
+use oracle::piece_jobs::{drawn_job, greatest_pieces};
 use oracle::random::Random;
 
 const FILL: u8 = 0x5a;
@@ -73,13 +75,17 @@ fn check_all(r: &mut Random, bodies: &[Vec<u8>; 3], greatest: usize) {
         let shown = format!("options {flags}, {shown}");
         check(&wanted, room, &shown, |out| engine::largest_with(flags, texts, out));
     }
-    let mut whole = any_state(r, &job(texts[0], texts[1], texts[2]));
-    if r.below(8) == 0 {
-        whole = damaged(r, &whole);
-    }
-    let room = if r.below(3) == 0 { r.below(2 * greatest) } else { LINES };
-    check_job(&whole, room);
+    let plain = any_state(r, &job(texts[0], texts[1], texts[2]));
+    check_text(r, &plain, 2 * greatest);
+    check_text(r, &with_pieces(&plain), 3 * greatest);
     check_claim(r, texts);
+}
+
+/// A job, sometimes with damage, and with an output that sometimes is too short.
+fn check_text(r: &mut Random, whole: &[u8], greatest: usize) {
+    let whole = if r.below(8) == 0 { damaged(r, whole) } else { whole.to_vec() };
+    let room = if r.below(3) == 0 { r.below(greatest) } else { LINES };
+    check_job(&whole, room);
 }
 
 /// The job strict or not, with any line of an edition or none.
@@ -107,8 +113,10 @@ fn check_claim(r: &mut Random, texts: [&[u8]; 3]) {
         assert_eq!(engine::claim(flags, texts, &claim), wanted, "{}", shown());
     }
     let mut whole = any_state(r, &claim_job(texts[0], texts[1], texts[2], &claim));
-    if r.below(8) == 0 {
-        whole = damaged_claim(r, &whole);
+    match r.below(16) {
+        0 | 1 => whole = damaged_claim(r, &whole),
+        2 => whole = with_pieces(&whole),
+        _ => (),
     }
     let room = if r.below(3) == 0 { r.below(CLAIM_LINE + 2) } else { LINES };
     check_job(&whole, room);
@@ -117,6 +125,27 @@ fn check_claim(r: &mut Random, texts: [&[u8]; 3]) {
 fn check_job(whole: &[u8], room: usize) {
     let wanted = lines(whole).map(|x| (0, [x.as_bytes(), b"\n"].concat()));
     check(&wanted, room, &format!("job {:?}", String::from_utf8_lossy(whole)), |out| engine::job(whole, out));
+}
+
+/// Each job with an output of more bytes than its answer has, of just as many, of one less, of half of them and of none.
+fn check_rooms(jobs: &[Vec<u8>], longest: usize) {
+    for whole in jobs {
+        for room in [LINES + 1, longest, longest - 1, longest / 2, 0] {
+            check_job(whole, room);
+        }
+    }
+}
+
+/// Jobs with the line `pieces` whose required leaves mostly agree, and the families that have the most pieces.
+fn check_pieces(r: &mut Random, count: u64) {
+    for i in 0..count {
+        let whole = drawn_job(r, i % 10 == 0);
+        let room = if r.below(4) == 0 { r.below(lines(&whole).map_or(2, |x| x.len() + 3)) } else { LINES };
+        check_job(&whole, room);
+    }
+    for f in piece_families(r, &short_labels(LEAVES)) {
+        check_all(r, &f.bodies.texts(), TREE_TEXT);
+    }
 }
 
 pub fn run(count: u64, seed: u64) {
@@ -145,21 +174,18 @@ pub fn run(count: u64, seed: u64) {
         };
         check_all(&mut r, &bodies, 400);
     }
-    // the longest answer, in an output that just has room for it, and in shorter ones
-    for whole in [greatest(), strict(&greatest()), greatest_cased()] {
-        for room in [LINES, LINES - 1, 4096, 0] {
-            check_job(&whole, room);
-        }
-    }
-    for whole in EDITION_LINES.map(greatest_claim) {
-        for room in [LINES, CLAIM_LINE, CLAIM_LINE - 1, 0] {
-            check_job(&whole, room);
-        }
-    }
+    check_pieces(&mut r, count);
+    check_rooms(&[greatest(), strict(&greatest()), greatest_cased()], RECORD);
+    check_rooms(&EDITION_LINES.map(greatest_claim), CLAIM_LINE);
+    check_rooms(&EDITION_LINES.map(greatest_pieces), LINES);
     for _ in 0..count / 2000 {
         for f in all_families(&mut r).iter().flat_map(|(_, fs)| fs) {
             check_all(&mut r, &f.bodies.texts(), TREE_TEXT);
         }
     }
-    println!("{count} small cases from seed {seed}, {} large ones and {} times each family: the same", count / 10, count / 2000);
+    println!(
+        "{count} small cases from seed {seed}, {} large ones, {count} jobs with pieces and {} times each family: the same",
+        count / 10,
+        count / 2000
+    );
 }

@@ -102,6 +102,11 @@ pub fn subsets(all: &[Label]) -> impl Iterator<Item = Vec<Label>> + '_ {
     (0..1u32 << all.len()).map(|mask| (0..all.len()).filter(|i| mask >> i & 1 == 1).map(|i| all[i].clone()).collect())
 }
 
+/// Whether the common leaves are few enough to try all subsets.
+pub fn few(s: &Tree, t: &Tree) -> bool {
+    common(s, t).len() <= 10
+}
+
 pub fn by_trying_all(s: &Tree, t: &Tree, required: &[Label]) -> Answer {
     if let Some(lacks) = lacking(s, t, required) {
         return Answer::Lacking(lacks);

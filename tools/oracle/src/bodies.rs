@@ -1,10 +1,11 @@
 //! What two trees and a required list come to, and a claim about them, from their texts: the table's rows from the reading of S on, in
 //! their order.
 
-use crate::agree::{by_trying_all, common, restrict, stray, Answer, Label, Lacks};
+use crate::agree::{few, restrict, stray, Answer, Label, Lacks};
 use crate::claim::{self, Verdict};
 use crate::edition::Edition;
-use crate::fast;
+use crate::fast::checked_answer;
+use crate::pieces::{joined_sets, pieces, Piece};
 use crate::text::{read_parts, read_placed, shown, Fault, Tree};
 use std::collections::HashMap;
 
@@ -112,9 +113,6 @@ pub fn read(options: Options, [s, t, k]: [&[u8]; 3]) -> Result<Read, Refusal> {
     Ok(Read { edition, s, t, k, spelled })
 }
 
-/// So many common leaves are few enough to try all subsets.
-const FEW: usize = 10;
-
 impl Read {
     /// Labels as the first tree spells them.
     fn spelled(&self, xs: &[Label]) -> Vec<Label> {
@@ -132,29 +130,36 @@ impl Read {
         Refusal { labels: self.spelled(&three).into_iter().zip(begins).collect(), ..refused(number, list.letter, 0) }
     }
 
-    fn few(&self) -> bool {
-        common(&self.s, &self.t).len() <= FEW
-    }
-
     /// The largest set, or 6, 7 or 8 of the required list.
     fn largest(&self) -> Result<Vec<Label>, Refusal> {
-        let (s, t, k) = (&self.s, &self.t, &self.k);
-        let quick = fast::answer(s, t, &k.labels);
-        // all subsets where there are few enough; the recurrence must say the same
-        let answer = if self.few() { by_trying_all(s, t, &k.labels) } else { quick.clone() };
-        assert_eq!(answer, quick);
-        match answer {
+        let k = &self.k;
+        match checked_answer(&self.s, &self.t, &k.labels) {
             Answer::Lacking(lacks) => Err(k.lacking(lacks)),
             Answer::Disagree(three) => Err(self.clash(8, k, three)),
             Answer::Set(set) => Ok(set),
         }
     }
 
+    /// The set in label order, spelled as it is printed, and the normal text of its tree.
+    fn shown(&self, set: &[Label]) -> (Vec<Label>, Vec<u8>) {
+        let tree = self.restricted(&self.s, set);
+        assert_eq!(tree, self.restricted(&self.t, set));
+        (self.spelled(set), tree)
+    }
+
+    /// The pieces, spelled as they are printed. The required labels and the pieces' own sets must make up the answer's set.
+    fn pieces(&self, set: &[Label]) -> Vec<Piece> {
+        let (s, t, k) = (&self.s, &self.t, &self.k.labels);
+        let found = pieces(s, t, k);
+        assert_eq!(joined_sets(s, t, k, &found), set);
+        found.iter().map(|piece| piece.relabelled(|x| self.spelled[x].clone())).collect()
+    }
+
     /// The size of a claim that passes, or what comes after number 8.
     fn judged(&self, claim: &Listed) -> Result<usize, Refusal> {
         let (s, t, k, c) = (&self.s, &self.t, &self.k, &claim.labels);
         let quick = claim::quickly(s, t, &k.labels, c);
-        let verdict = if self.few() { claim::by_trying_all(s, t, &k.labels, c) } else { quick.clone() };
+        let verdict = if few(s, t) { claim::by_trying_all(s, t, &k.labels, c) } else { quick.clone() };
         assert_eq!(verdict, quick);
         match verdict {
             Verdict::Lacking(lacks) => Err(claim.lacking(lacks)),
@@ -170,9 +175,14 @@ impl Read {
 pub fn answer(options: Options, texts: [&[u8]; 3]) -> Result<(Vec<Label>, Vec<u8>), Refusal> {
     let read = read(options, texts)?;
     let set = read.largest()?;
-    let tree = read.restricted(&read.s, &set);
-    assert_eq!(tree, read.restricted(&read.t, &set));
-    Ok((read.spelled(&set), tree))
+    Ok(read.shown(&set))
+}
+
+/// The same after the pieces.
+pub fn answer_in_pieces(options: Options, texts: [&[u8]; 3]) -> Result<(Vec<Piece>, (Vec<Label>, Vec<u8>)), Refusal> {
+    let read = read(options, texts)?;
+    let set = read.largest()?;
+    Ok((read.pieces(&set), read.shown(&set)))
 }
 
 /// The size of a claim that passes, or a refusal. The claim is read before anything is said of the required list's labels.

@@ -1,12 +1,8 @@
 //! Rows of the stored jobs with a claim: verdicts, claims that cannot be read, and spellings.
 
 use crate::job::{claim_job, every_state, strict, with_edition, SECOND};
-use crate::jobs::{P, Q, R};
+use crate::jobs::{AB_C, AC_B, OTHER_PAIRS, P, Q, R, TWO_PAIRS};
 
-const TWO_PAIRS: &str = "((a,b),(c,d));";
-const OTHER_PAIRS: &str = "((a,c),(b,d));";
-const AB_C: &str = "((a,b),c);";
-const AC_B: &str = "((a,c),b);";
 /// Trees that share a and b.
 const AB_X: &str = "((a,b),x);";
 const AB_Y: &str = "((y,b),a);";

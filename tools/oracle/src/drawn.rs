@@ -1,6 +1,7 @@
 //! Bodies drawn at random.
 
 use crate::agree::Label;
+use crate::hanging::pieced_over;
 use crate::limits::{LABEL, LEAVES};
 use crate::random::Random;
 use crate::spelling::{confusable, cycled, forms, lettered, recased, Bodies};
@@ -183,6 +184,24 @@ fn sometimes_recased(r: &mut Random, texts: [Vec<u8>; 3]) -> [Vec<u8>; 3] {
         return texts;
     }
     texts.map(|x| recased(r, &x))
+}
+
+/// Small bodies whose trees agree on the required labels, with other leaves between them.
+pub fn small_pieced(r: &mut Random) -> [Vec<u8>; 3] {
+    let pool = if r.below(2) == 0 { labels(12) } else { lettered() };
+    pieced_spelled(r, pool, 10)
+}
+
+/// The same of up to 80 leaves.
+pub fn large_pieced(r: &mut Random) -> [Vec<u8>; 3] {
+    let pool = spaced(r, LEAVES);
+    pieced_spelled(r, pool, LEAVES)
+}
+
+fn pieced_spelled(r: &mut Random, pool: Vec<Label>, most: usize) -> [Vec<u8>; 3] {
+    let bodies = pieced_over(r, pool, most);
+    let forms = forms(r);
+    bodies.spelled(r, forms).texts()
 }
 
 /// A text with a few bytes changed, dropped or added, many of them quotes, blanks and underscores.

@@ -5,7 +5,7 @@ use crate::job::{every_state, job, printed, strict, with_edition, FIRST, SECOND}
 use crate::jobs::{filled, headed, list, spoilt};
 use crate::lengths::{closer, greatest, greatest_bodies, one};
 use crate::letters::{one_capital, pairs, tokens};
-use crate::limits::{JOB, LINES, LIST};
+use crate::limits::{JOB, LIST, RECORD};
 use crate::random::Random;
 use crate::spelling::quoted;
 
@@ -111,7 +111,7 @@ const ROWS: &[(&str, &str, &str)] = &[
 ];
 
 /// Each row in every state of the contents, and with the trees exchanged.
-fn row_jobs() -> Vec<Vec<u8>> {
+pub fn row_jobs() -> Vec<Vec<u8>> {
     let texts = ROWS.iter().map(|&(s, t, k)| [s, t, k].map(str::as_bytes));
     texts.flat_map(|[s, t, k]| [every_state(&job(s, t, k)), vec![with_edition(SECOND, &job(t, s, k))]].concat()).collect()
 }
@@ -186,7 +186,7 @@ fn contents_jobs() -> Vec<Vec<u8>> {
 pub fn greatest_cased() -> Vec<u8> {
     let [s, t, k] = greatest_bodies();
     let made = with_edition(SECOND, &strict(&job(&s, &t.to_ascii_uppercase(), &k.to_ascii_uppercase())));
-    assert_eq!(printed(&made).len(), LINES);
+    assert_eq!(printed(&made).len(), RECORD);
     made
 }
 

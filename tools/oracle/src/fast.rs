@@ -2,7 +2,7 @@
 //! labels are in its best set, its size, and the set as a number whose highest bit is the smallest label, so that the greatest
 //! cell is the first of the largest sets.
 
-use crate::agree::{common, lacking, sorted, Answer, Label};
+use crate::agree::{by_trying_all, common, few, lacking, sorted, Answer, Label};
 use crate::text::Tree;
 use std::collections::HashMap;
 
@@ -148,4 +148,13 @@ pub fn answer(s: &Tree, t: &Tree, required: &[Label]) -> Answer {
         Some(set) => Answer::Set(set),
         None => Answer::Disagree(first_clash(s, t, &sorted(required)).unwrap()),
     }
+}
+
+/// The answer by definition where there are few enough leaves; the recurrence must say the same.
+pub fn checked_answer(s: &Tree, t: &Tree, required: &[Label]) -> Answer {
+    let quick = answer(s, t, required);
+    if few(s, t) {
+        assert_eq!(by_trying_all(s, t, required), quick);
+    }
+    quick
 }

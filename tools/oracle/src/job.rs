@@ -1,8 +1,10 @@
 //! Jobs: contents and the printed lines.
 
-use crate::bodies::{answer, joined, judged, refused, text, Options, Refusal};
+use crate::agree::Label;
+use crate::bodies::{answer, answer_in_pieces, joined, judged, refused, text, Options, Refusal};
 use crate::edition::Edition;
 use crate::limits::{DIGITS, JOB};
+use crate::pieces::Piece;
 
 /// The contents line of a strict job.
 const STRICT: &[u8] = b"strict\n";
@@ -10,6 +12,8 @@ const STRICT: &[u8] = b"strict\n";
 pub const EDITION_LINES: [&str; 3] = ["", FIRST, SECOND];
 pub const FIRST: &str = "E 1\n";
 pub const SECOND: &str = "E 2\n";
+/// The contents line of a job whose pieces are shown.
+const PIECES: &[u8] = b"pieces\n";
 
 /// The letters of the bodies, in their order; a job may be without the last, the claim.
 const LETTERS: [char; 4] = ['S', 'T', 'K', 'C'];
@@ -34,10 +38,24 @@ pub fn strict(job: &[u8]) -> Vec<u8> {
     [STRICT, job].concat()
 }
 
+/// What follows this line, and whether the text begins with it.
+fn after<'a>(line: &[u8], text: &'a [u8]) -> (bool, &'a [u8]) {
+    text.strip_prefix(line).map_or((false, text), |rest| (true, rest))
+}
+
+/// The job with one more line, before what is the rest of it.
+fn with_line(line: &[u8], job: &[u8], rest: &[u8]) -> Vec<u8> {
+    [&job[..job.len() - rest.len()], line, rest].concat()
+}
+
 /// The job with such a line, after `strict` if that is there.
 pub fn with_edition(line: &str, job: &[u8]) -> Vec<u8> {
-    let rest = job.strip_prefix(STRICT).unwrap_or(job);
-    [&job[..job.len() - rest.len()], line.as_bytes(), rest].concat()
+    with_line(line.as_bytes(), job, after(STRICT, job).1)
+}
+
+/// The job with the line `pieces`, after `strict` and that of an edition if these are there.
+pub fn with_pieces(job: &[u8]) -> Vec<u8> {
+    with_line(PIECES, job, edition(after(STRICT, job).1).1)
 }
 
 /// The job with all that may be asked beside its bodies: strict or not, with each line of an edition or none.
@@ -47,10 +65,9 @@ pub fn every_state(job: &[u8]) -> Vec<Vec<u8>> {
 
 /// The edition that the next line picks, and what follows it; the first edition where the next line is another.
 fn edition(text: &[u8]) -> (Edition, &[u8]) {
-    let after = |line: &str| text.strip_prefix(line.as_bytes());
-    match after(SECOND) {
-        Some(rest) => (Edition::Second, rest),
-        None => (Edition::First, after(FIRST).unwrap_or(text)),
+    match after(SECOND.as_bytes(), text) {
+        (true, rest) => (Edition::Second, rest),
+        (false, _) => (Edition::First, after(FIRST.as_bytes(), text).1),
     }
 }
 
@@ -65,14 +82,15 @@ fn length(letter: char, text: &[u8]) -> Option<(usize, &[u8])> {
 /// A job whose contents keep their rules: what is asked, the three bodies, and the claim, if there is one.
 struct Contents<'a> {
     options: Options,
+    pieces: bool,
     bodies: [&'a [u8]; 3],
     claim: Option<&'a [u8]>,
 }
 
 fn contents(job: &[u8]) -> Option<Contents<'_>> {
-    let rest = job.strip_prefix(STRICT).unwrap_or(job);
-    let strict = rest.len() < job.len();
-    let (edition, mut rest) = edition(rest);
+    let (strict, rest) = after(STRICT, job);
+    let (edition, rest) = edition(rest);
+    let (pieces, mut rest) = after(PIECES, rest);
     let mut lengths = Vec::new();
     for letter in LETTERS {
         match length(letter, rest) {
@@ -95,17 +113,34 @@ fn contents(job: &[u8]) -> Option<Contents<'_>> {
         bodies.push(body);
         rest = tail;
     }
-    Some(Contents { options: Options { strict, edition }, bodies: [bodies[0], bodies[1], bodies[2]], claim: bodies.get(3).copied() })
+    let claim = bodies.get(3).copied();
+    if pieces && claim.is_some() {
+        return None;
+    }
+    Some(Contents { options: Options { strict, edition }, pieces, bodies: [bodies[0], bodies[1], bodies[2]], claim })
 }
 
-/// The lines of the set, or of a claim that passes; or a refusal.
+/// The three lines of a set and its tree.
+fn record((set, tree): (Vec<Label>, Vec<u8>)) -> String {
+    format!("size {}\nset {}\ntree {}", set.len(), joined(&set), text(&tree))
+}
+
+/// The line of the total, and a line for each piece. The total counts every label of these.
+fn piece_lines(pieces: &[Piece]) -> String {
+    let total: usize = pieces.iter().map(|piece| piece.labels().len()).sum();
+    let at = |piece: &Piece| format!("at {} {}\n", joined(&piece.head), joined(&piece.leaves));
+    format!("pieces {total}\n{}", pieces.iter().map(at).collect::<String>())
+}
+
+/// The lines of the set, after those of its pieces if they are asked for, or of a claim that passes; or a refusal.
 pub fn lines(job: &[u8]) -> Result<String, Refusal> {
     if job.len() > JOB {
         return Err(refused(11, 'J', 0));
     }
-    let Contents { options, bodies, claim } = contents(job).ok_or(refused(10, 'J', 0))?;
+    let Contents { options, pieces, bodies, claim } = contents(job).ok_or(refused(10, 'J', 0))?;
     let lines = match claim {
-        None => answer(options, bodies).map(|(set, tree)| format!("size {}\nset {}\ntree {}", set.len(), joined(&set), text(&tree))),
+        None if pieces => answer_in_pieces(options, bodies).map(|(all, answer)| piece_lines(&all) + &record(answer)),
+        None => answer(options, bodies).map(record),
         Some(claim) => judged(options, bodies, claim).map(|size| format!("claim ok {size}")),
     };
     let claim_at = job.len() - claim.map_or(0, <[u8]>::len);

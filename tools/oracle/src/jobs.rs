@@ -7,6 +7,7 @@ use crate::edition_jobs::{edition_jobs, otherwise};
 use crate::job::{job, job_of, printed};
 use crate::lengths::length_jobs;
 use crate::limits::{DIGITS, JOB, LEAVES, LIST};
+use crate::piece_jobs::piece_jobs;
 use crate::places::place_jobs;
 use crate::quoted_jobs::quoted_jobs;
 use crate::random::Random;
@@ -16,13 +17,17 @@ use crate::trees::{caterpillar, perturbed, random_tree};
 pub const P: &str = "((((a,b),c),d),e);";
 pub const Q: &str = "((((a,c),b),d),e);";
 pub const R: &str = "((((a,b),c),e),d);";
+pub const TWO_PAIRS: &str = "((a,b),(c,d));";
+pub const OTHER_PAIRS: &str = "((a,c),(b,d));";
+pub const AB_C: &str = "((a,b),c);";
+pub const AC_B: &str = "((a,c),b);";
 
 pub fn bytes(x: &str) -> Vec<u8> {
     x.as_bytes().to_vec()
 }
 
 /// 01's trees to try and the examples of its table.
-fn paper_jobs() -> Vec<Vec<u8>> {
+pub fn paper_jobs() -> Vec<Vec<u8>> {
     let rows = [
         ("((a,b),(c,d));", "((a,c),(b,d));", "a"),
         (P, Q, ""),
@@ -190,6 +195,7 @@ pub fn jobs() -> Vec<Vec<u8>> {
     out.extend(edition_jobs());
     out.extend(again);
     out.extend(claim_jobs());
+    out.extend(piece_jobs());
     out
 }
 

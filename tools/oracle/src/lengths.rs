@@ -6,7 +6,7 @@ use crate::drawn::{long_bodies, one_byte_apart};
 use crate::families::long_quoted;
 use crate::job::{job, printed, strict};
 use crate::jobs::{bytes, filled, list};
-use crate::limits::{JOB, LABEL, LEAVES, LINES, LIST};
+use crate::limits::{JOB, LABEL, LEAVES, LIST, RECORD};
 use crate::random::Random;
 use crate::spelling::{cycled, quoted};
 use crate::text::shown;
@@ -132,7 +132,7 @@ pub fn greatest_bodies() -> [Vec<u8>; 3] {
 pub fn greatest() -> Vec<u8> {
     let [s, t, k] = greatest_bodies();
     let made = job(&s, &t, &k);
-    assert_eq!(printed(&made).len(), LINES);
+    assert_eq!(printed(&made).len(), RECORD);
     made
 }
 

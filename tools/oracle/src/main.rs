@@ -2,7 +2,10 @@
 //! `oracle job-stdin` and `oracle job-stdout` the same for whole jobs; `oracle stack-stdin` those jobs and the ones that ask the most;
 //! `oracle print` reads one job and prints its answer.
 
-use oracle::{cases, claim_jobs, families, job, jobs};
+use oracle::claim_jobs::family_claim_jobs;
+use oracle::families::family_jobs;
+use oracle::piece_jobs::family_piece_jobs;
+use oracle::{cases, job, jobs};
 use std::io::{Read, Write};
 
 fn main() {
@@ -12,7 +15,7 @@ fn main() {
         "text-stdout" => cases::expected(),
         "job-stdin" => jobs::stream(&jobs::jobs()),
         "job-stdout" => jobs::expected(),
-        "stack-stdin" => jobs::stream(&[families::family_jobs(), claim_jobs::family_claim_jobs(), jobs::jobs()].concat()),
+        "stack-stdin" => jobs::stream(&[family_jobs(), family_claim_jobs(), family_piece_jobs(), jobs::jobs()].concat()),
         "print" => {
             let mut job = Vec::new();
             std::io::stdin().read_to_end(&mut job).unwrap();

@@ -84,7 +84,7 @@ const ROWS: &[(&str, &str, &str)] = &[
     ("('a b',x);", "(a_b,'x');", "x,'x'"),
 ];
 
-fn row_jobs() -> Vec<Vec<u8>> {
+pub fn row_jobs() -> Vec<Vec<u8>> {
     let texts = ROWS.iter().map(|&(s, t, k)| [s, t, k].map(str::as_bytes));
     texts.flat_map(|[s, t, k]| [job(s, t, k), strict(&job(s, t, k)), strict(&job(t, s, k))]).collect()
 }

@@ -11,7 +11,7 @@ use crate::text::Tree;
 use crate::trees::{caterpillar, join, leaf, random_tree};
 
 /// Each as a job without the line, with it, and with it and the trees exchanged.
-fn small_jobs() -> Vec<Vec<u8>> {
+pub fn small_jobs() -> Vec<Vec<u8>> {
     let over = "a".repeat(LABEL + 1);
     let rows = [
         // equal leaf sets: the answers and refusals of the job without the line

@@ -3,9 +3,10 @@
 use oracle::claim_jobs::{family_claim_jobs, greatest_claim};
 use oracle::edition_jobs::greatest_cased;
 use oracle::families::{family_jobs, long_labels, long_quoted};
-use oracle::job::{claim_job, every_state, job, strict, with_edition, FIRST, SECOND};
+use oracle::job::{claim_job, every_state, job, strict, with_edition, with_pieces, EDITION_LINES, SECOND};
 use oracle::lengths::greatest;
 use oracle::limits::{JOB, LABEL, LEAVES, LIST, TREE_TEXT};
+use oracle::piece_jobs::{family_piece_jobs, greatest_pieces};
 use oracle::trees::caterpillar;
 use oracle::{cases, jobs};
 
@@ -77,7 +78,10 @@ fn long_jobs() -> Vec<Vec<u8>> {
         out.push(with_tail(stray(), n, b','));
         out.extend(claimed().map(|x| with_tail(x, n, b'a')));
         out.push(claim_of_length(n));
-        out.extend(every_state(b"").iter().flat_map(|lines| [0, 1, 2].map(|body| of_length_after(lines, n, body))));
+        out.push(with_tail(with_pieces(&answered()), n, b'a'));
+        let states = every_state(b"");
+        let lines = states.iter().cloned().chain(states.iter().map(|x| with_pieces(x)));
+        out.extend(lines.flat_map(|lines| [0, 1, 2].map(|body| of_length_after(&lines, n, body))));
     }
     for n in [2 * JOB, 2 * JOB + 1, 65_536, 65_537, 5 * MEGABYTE] {
         out.push(vec![b' '; n]);
@@ -86,6 +90,7 @@ fn long_jobs() -> Vec<Vec<u8>> {
         out.push(with_tail(of_length(JOB, 2), n, b'a'));
         out.push(with_tail(strict_of_length(JOB, 2), n, b'a'));
         out.push(with_tail(with_edition(SECOND, &answered()), n, b'a'));
+        out.push(with_tail(with_pieces(&answered()), n, b'a'));
         out.extend([claimed()[0].clone(), claim_of_length(JOB)].map(|x| with_tail(x, n, b'a')));
     }
     out
@@ -138,13 +143,16 @@ pub fn jobs(examples: &str) -> Vec<Vec<u8>> {
     out.push(greatest());
     out.push(strict(&greatest()));
     out.push(greatest_cased());
-    out.extend(["", FIRST, SECOND].map(greatest_claim));
+    out.extend(EDITION_LINES.map(greatest_claim));
+    out.extend(EDITION_LINES.map(greatest_pieces));
     out.push(all_of(&long_labels(LEAVES)));
+    out.push(with_pieces(&all_of(&long_labels(LEAVES))));
     out.push(stray());
-    out.extend(refusals().iter().flat_map(|x| every_state(x)));
+    out.extend(refusals().iter().flat_map(|x| every_state(x)).flat_map(|x| [with_pieces(&x), x]));
     out.extend(long_jobs());
     out.extend(family_jobs());
     out.extend(family_claim_jobs());
+    out.extend(family_piece_jobs());
     out.extend(jobs::jobs());
     out
 }
@@ -163,6 +171,9 @@ pub fn slow_jobs() -> Vec<Vec<u8>> {
         claimed()[0].clone(),
         claimed()[3].clone(),
         greatest_claim(SECOND),
+        with_pieces(&answered()),
+        with_pieces(&claimed()[0]),
+        greatest_pieces(SECOND),
         claim_of_length(JOB),
         claim_of_length(JOB + 1),
         of_length(JOB, 2),

@@ -41,6 +41,7 @@ fn kind(printed: &[u8]) -> String {
     match words[0] {
         "refused" => format!("{} {}", words[1], words[2]),
         "claim" => "claim ok".to_string(),
+        "pieces" => "pieces".to_string(),
         _ => "answered".to_string(),
     }
 }
@@ -74,7 +75,7 @@ fn main() {
     let agree = Program { path: format!("{folder}/agree"), printed: oracle::job::printed };
     let kinds = [
         "answered", "1 S", "1 T", "1 K", "2 S", "2 T", "2 K", "3 S", "3 T", "3 K", "4 S", "4 T", "4 K", "5 S", "5 T", "5 K", "6 K", "7 K", "8 K",
-        "10 J", "11 J", "12 S", "12 T", "claim ok", "1 C", "2 C", "3 C", "4 C", "5 C", "6 C", "7 C", "13 K", "14 C", "15 C",
+        "10 J", "11 J", "12 S", "12 T", "pieces", "claim ok", "1 C", "2 C", "3 C", "4 C", "5 C", "6 C", "7 C", "13 K", "14 C", "15 C",
     ];
     whole(&agree, &inputs::jobs(examples), &inputs::slow_jobs(), &kinds);
     let normal = Program { path: format!("{folder}/normal"), printed: oracle::cases::normal_printed };

@@ -16,16 +16,16 @@ returns c =
     let q = p .before .before in
     let f = q .before in
     let a = f .before .before .before .args in (
-      λ s C k.
+      λ s t xs C k.
           c .without-set .ensures
-          ∙ set-refused (solution (a .edition) s (chosenFrom (a .chosen .now) 0 C)) (treeOf (q .restrict-tree .result) (a .text .now)) (a .out .now)
-          (restricted-text k _ _ (f .kept-leaves .ensures (keyed (a .edition) s) C (ranked-proper k) (k .count) (k .numbered)) _
+          ∙ set-refused (solution (a .edition) s t xs (chosenFrom (a .chosen .now) 0 C)) (treeOf (q .restrict-tree .result) (a .text .now)) (a .out .now)
+          (restricted-text k t xs _ _ (f .kept-leaves .ensures (keyed (a .edition) s) C (ranked-proper k) (k .count) (k .numbered)) _
           (q .restrict-tree .ensures .0))
           (λ n e. not-written (p .write-tree .result) (c .before .match .keys2) n (p .write-tree .ensures .0 ∙ e)),
-      λ s C k.
+      λ s t xs C k.
           p .write-tree .ensures .1
-          ∙ set-output (solution (a .edition) s (chosenFrom (a .chosen .now) 0 C)) (treeOf (q .restrict-tree .result) (a .text .now)) (a .out .now)
-          (restricted-text k _ _ (f .kept-leaves .ensures (keyed (a .edition) s) C (ranked-proper k) (k .count) (k .numbered)) _
+          ∙ set-output (solution (a .edition) s t xs (chosenFrom (a .chosen .now) 0 C)) (treeOf (q .restrict-tree .result) (a .text .now)) (a .out .now)
+          (restricted-text k t xs _ _ (f .kept-leaves .ensures (keyed (a .edition) s) C (ranked-proper k) (k .count) (k .numbered)) _
           (q .restrict-tree .ensures .0)),
     )
 
@@ -36,19 +36,19 @@ returns-2 c =
     let q = p .before .before in
     let f = q .before in
     let a = f .before .before .before .args in (
-      λ s C k.
+      λ s t xs C k.
           let e = k .arrays-is ∙ sym (arrays-folded (a .edition) s) in
           placed-result _ _ (chosenFrom (a .chosen .now) 0 C) _
           (c .set-places .ensures (folded (a .edition) s) C (valid-folded (a .edition) s (k .valid)) (ap (λ t. t .start) e) (ap (λ t. t .size) e)
           (k .count) (k .numbered))
-          ∙ set-written (solution (a .edition) s (chosenFrom (a .chosen .now) 0 C)) (treeOf (q .restrict-tree .result) (a .text .now)) (a .out .now)
-          (restricted-text k _ _ (f .kept-leaves .ensures (keyed (a .edition) s) C (ranked-proper k) (k .count) (k .numbered)) _
+          ∙ set-written (solution (a .edition) s t xs (chosenFrom (a .chosen .now) 0 C)) (treeOf (q .restrict-tree .result) (a .text .now)) (a .out .now)
+          (restricted-text k t xs _ _ (f .kept-leaves .ensures (keyed (a .edition) s) C (ranked-proper k) (k .count) (k .numbered)) _
           (q .restrict-tree .ensures .0))
           _ (sym (p .write-tree .ensures .0) ∙ w .written .given .1),
-      λ s C k.
+      λ s t xs C k.
           p .write-tree .ensures .1
-          ∙ set-output (solution (a .edition) s (chosenFrom (a .chosen .now) 0 C)) (treeOf (q .restrict-tree .result) (a .text .now)) (a .out .now)
-          (restricted-text k _ _ (f .kept-leaves .ensures (keyed (a .edition) s) C (ranked-proper k) (k .count) (k .numbered)) _
+          ∙ set-output (solution (a .edition) s t xs (chosenFrom (a .chosen .now) 0 C)) (treeOf (q .restrict-tree .result) (a .text .now)) (a .out .now)
+          (restricted-text k t xs _ _ (f .kept-leaves .ensures (keyed (a .edition) s) C (ranked-proper k) (k .count) (k .numbered)) _
           (q .restrict-tree .ensures .0)),
     )
 

@@ -3,7 +3,8 @@ use Rattle.trees.specs.Edition.{folded, keyed}
 use Rattle.trees.proofs.TokenLaws.{valid-decoded}
 use Rattle.lists.specs.ReadList.{keysOf}
 use Rattle.queries.specs.Query.{answerTo}
-use Rattle.mast.proofs.SettleLaws.{posed, eight-named, chosen-set, chosen-eight}
+use Rattle.division.proofs.PosedLaws.{posed}
+use Rattle.mast.proofs.SettleLaws.{eight-named, chosen-set, chosen-eight}
 use borrow.Author.Needs.{needs}
 use Rattle.mast.proofs.settle.choose.Statement.{statement}
 use Rattle.mast.proofs.settle.choose.Tie as tie

@@ -1,0 +1,2 @@
+pub mod PiecesAt
+pub mod PiecesByRank
