@@ -3,6 +3,8 @@
 //
 // At most one byte over the job limit is kept in memory: a longer input is number 11 whatever it holds. If standard output fails, the
 // program ends quietly.
+#![tactic(auto)]
+
 use lines::LINES_ROOM;
 
 fn main() {

@@ -2,6 +2,8 @@
 //
 // No function has a `requires`. A struct of numbers is returned by value: every answer is a few numbers, and a host reads them by name. A
 // packed number would have to be taken apart.
+#![tactic(auto)]
+
 ghost use Rattle.std.specs.Prelude.{◌≡◌, ◌≤◌, leb, length};
 ghost use Rattle.pairs.specs.Outcome.{found};
 ghost use Rattle.queries.specs.Query.{task, plain};
@@ -27,7 +29,7 @@ const EDITION_2: usize = 2;
 // the set for `agree_largest` and `agree_claim`. For numbers 8 and 14 `first`, `second` and `third` are the places of the three labels: in
 // the list, in the claim or, for `agree_job`, in the job.
 #[repr(C)]
-#[derive(Drop)]
+#[derive(Clone, Copy)]
 pub struct AgreeResult {
     pub number: usize,
     pub letter: usize,

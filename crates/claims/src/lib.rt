@@ -1,6 +1,8 @@
 // A claimed set judged: does it contain the required labels, do the trees agree on it, and is it as large as the largest set?
 //
 // No public function has a `requires`.
+#![tactic(auto)]
+
 ghost use Rattle.std.specs.Prelude.{◌≡◌};
 ghost use Rattle.mast.specs.declared.CompareAnswer.TheVariants as compare_answer;
 ghost use Rattle.pairs.specs.Outcome.{found};
@@ -13,7 +15,7 @@ use pairs::Options;
 use trees::{Body, Reason, Refusal};
 
 // The size of a claim that passes. Number 8 with the three required labels that it names, or 14 with three claimed ones. Or another refusal.
-#[derive(Drop)]
+#[derive(Clone, Copy)]
 pub enum ClaimAnswer {
     Passed(usize),
     Naming(Refusal, Named),

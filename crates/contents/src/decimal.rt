@@ -7,7 +7,7 @@ ghost use Rattle.contents.specs.Contents.{number_at, digit_limit};
 const DIGIT_LIMIT: usize = 5;
 
 // A number that was read and the place after it, or that there is none.
-#[derive(Drop)]
+#[derive(Clone, Copy)]
 pub enum Digits {
     Value(usize, usize),
     Broken,

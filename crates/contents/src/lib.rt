@@ -2,6 +2,8 @@
 // the length of each body, the claimed set's only where the job has one, an empty line, then the bodies.
 //
 // No public function has a `requires`. Each line is a step from one place to the next, so a further line is a further step.
+#![tactic(auto)]
+
 ghost use Rattle.std.specs.Prelude.{◌≡◌, drop};
 ghost use Rattle.contents.specs.Contents.{begins, flag_at, stated_at, head_at, word_after, broken_line, line_after, nowhere, place_after, laid_out, layout_of};
 ghost use Rattle.contents.specs.Contents.{bytes, span_in, place_of, edition_of, claim_allowed};
@@ -12,7 +14,7 @@ use trees::{Body, Edition};
 mod decimal;
 
 // What a job states of its edition: no line, `E 1` or `E 2`.
-#[derive(Drop)]
+#[derive(Clone, Copy)]
 pub enum Stated {
     Nothing,
     One,
@@ -20,7 +22,7 @@ pub enum Stated {
 }
 
 // The lines before those of the bodies: whether the job carries `strict`, what it states of its edition, and whether it carries `pieces`.
-#[derive(Drop)]
+#[derive(Clone, Copy)]
 pub struct Head {
     pub strict: bool,
     pub stated: Stated,
@@ -28,14 +30,14 @@ pub struct Head {
 }
 
 // Where a body is in the job, its first byte and its length; or that the job has none.
-#[derive(Drop)]
+#[derive(Clone, Copy)]
 pub enum Span {
     Absent,
     At(usize, usize),
 }
 
 // The lines before those of the bodies, and the bodies.
-#[derive(Drop)]
+#[derive(Clone, Copy)]
 pub struct Table {
     pub head: Head,
     pub first: Span,
@@ -45,56 +47,56 @@ pub struct Table {
 }
 
 // What a job holds; or that the contents break their rules.
-#[derive(Drop)]
+#[derive(Clone, Copy)]
 pub enum Layout {
     Laid(Table),
     Broken,
 }
 
 // The place of the next byte, or that the contents break their rules.
-#[derive(Drop)]
+#[derive(Clone, Copy)]
 pub enum Next {
     At(usize),
     Broken,
 }
 
 // Whether a line is there, and the place of the next byte.
-#[derive(Drop)]
+#[derive(Clone, Copy)]
 pub struct Flag {
     pub on: bool,
     pub next: usize,
 }
 
 // What a job states of its edition, and the place of the next byte.
-#[derive(Drop)]
+#[derive(Clone, Copy)]
 pub struct StatedAt {
     pub stated: Stated,
     pub next: usize,
 }
 
 // The lines before those of the bodies, and the place of the next byte.
-#[derive(Drop)]
+#[derive(Clone, Copy)]
 pub struct HeadAt {
     pub head: Head,
     pub next: usize,
 }
 
 // What a job lists of a body: no line, or its length in bytes.
-#[derive(Drop)]
+#[derive(Clone, Copy)]
 pub enum BodyLength {
     Absent,
     Bytes(usize),
 }
 
 // What is listed of a body, and what comes after its line.
-#[derive(Drop)]
+#[derive(Clone, Copy)]
 pub struct Line {
     pub listed: BodyLength,
     pub next: Next,
 }
 
 // Where a body is, and what comes after it.
-#[derive(Drop)]
+#[derive(Clone, Copy)]
 pub struct Placed {
     pub span: Span,
     pub next: Next,

@@ -1,6 +1,8 @@
 // Decimal digits of a number of the machine, by subtraction: no division and no remainder.
 //
 // No public function has a `requires`.
+#![tactic(auto)]
+
 ghost use Rattle.std.specs.Prelude.{◌≡◌, ◌+◌, ◌-◌, ◌*◌, ◌<◌, length, drop, replicate};
 ghost use Rattle.decimals.specs.Decimal.{decimal_of, digit_room};
 ghost use Rattle.decimals.specs.Numeral.{numeral_bytes, ten_powers};
@@ -9,14 +11,14 @@ ghost use Rattle.decimals.specs.Numeral.{numeral_bytes, ten_powers};
 pub const DIGIT_ROOM: usize = 20;
 
 // Decimal digits: the first `len` bytes count.
-#[derive(Drop)]
+#[derive(Clone, Copy)]
 pub struct Numeral {
     pub bytes: [u8; DIGIT_ROOM],
     pub len: usize,
 }
 
 // How often a power was subtracted from a number, and what is left of it.
-#[derive(Drop)]
+#[derive(Clone, Copy)]
 struct Taken {
     times: u8,
     rest: usize,

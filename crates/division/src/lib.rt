@@ -1,6 +1,8 @@
 // The pieces of a job by places in the first tree's text, over two trees and a required list on which they agree.
 //
 // No public function has a `requires`. Names that end in 1 are of the first tree, in 2 of the second.
+#![tactic(auto)]
+
 ghost use Rattle.std.specs.Prelude.{◌≡◌, List, ◌≤◌};
 ghost use Rattle.trees.specs.Edition.{folded};
 ghost use Rattle.trees.specs.Label.{Label};
@@ -21,7 +23,7 @@ use trees::{Edition, LEAF_LIMIT, NODE_LIMIT, TreeArrays, least, wide};
 
 // Where the labels of all `at` lines are in the first tree's text, one after the other: on each line the required label, if there is one, which
 // `head` marks, then the leaves that hang there. The first `count` entries count.
-#[derive(Drop)]
+#[derive(Clone, Copy)]
 pub struct PiecePlaces {
     pub count: usize,
     pub start: [u16; ITEMS],

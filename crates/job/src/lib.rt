@@ -1,6 +1,8 @@
 // A job: contents and bodies in, printed lines out.
 //
 // No public function has a `requires`.
+#![tactic(auto)]
+
 ghost use Rattle.std.specs.Prelude.{◌≡◌, length, replicate, ◌+◌, ◌≤◌, false};
 ghost use Rattle.contents.specs.declared.Layout.TheVariants as layout;
 ghost use Rattle.contents.specs.Contents.{layout_of};
@@ -28,7 +30,7 @@ const JOB_LIMIT: usize = 16384;
 const JOB_AREA: usize = JOB_LIMIT + 1;
 
 // Where the first tree, the list and the claim begin in a job.
-#[derive(Drop)]
+#[derive(Clone, Copy)]
 pub struct Begin {
     pub tree: usize,
     pub list: usize,
@@ -36,7 +38,7 @@ pub struct Begin {
 }
 
 // The number of bytes written to the output; number 8 or 14 with the three labels that it names, by places in the job; or another refusal.
-#[derive(Drop)]
+#[derive(Clone, Copy)]
 pub enum JobAnswer {
     Written(usize),
     Naming(Refusal, Named),

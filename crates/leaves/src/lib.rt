@@ -2,6 +2,8 @@
 //
 // No public function has a `requires`. Arrays are lent as tree arrays have them; those that stand for no tree are answered by
 // the same definitions.
+#![tactic(auto)]
+
 ghost use Rattle.std.specs.Prelude.{◌≡◌, ◌<◌};
 ghost use Rattle.leaves.specs.Find.{labelled, found_leaf};
 ghost use Rattle.trees.specs.Arrays.{node_limit};

@@ -1,6 +1,8 @@
 // Printed lines, written into a lent output: all of them, or nothing if it is too short.
 //
 // No public function has a `requires`.
+#![tactic(auto)]
+
 ghost use Rattle.std.specs.Prelude.{◌≡◌, cond, [], ◌++◌, ◌+◌, ◌≤◌, length, take};
 ghost use Rattle.trees.specs.Text.{tree_room};
 ghost use Rattle.lines.specs.Areas.{Put};
@@ -39,7 +41,7 @@ const PIECES_ROOM: usize = 8 + DIGIT_ROOM + ITEMS * (ITEM_ROOM + 4) + 1;
 const DIVIDED_ROOM: usize = PIECES_ROOM + RECORD_ROOM;
 
 // The number of bytes written to the output, or number 9 if it is too short for the lines.
-#[derive(Drop)]
+#[derive(Clone, Copy)]
 pub enum LineAnswer {
     Written(usize),
     TooShort(Refusal),

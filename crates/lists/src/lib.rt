@@ -1,6 +1,8 @@
 // The reader of a list of labels, with quotes or without.
 //
 // No public function has a `requires`: a text of any length and any bytes is answered.
+#![tactic(auto)]
+
 ghost use Rattle.std.specs.Prelude.{◌≡◌, ◌+◌, length, set};
 ghost use Rattle.lists.specs.ReadList.{list_limit, list_read, read_list_in};
 ghost use Rattle.trees.specs.Edition.{in_edition};
@@ -17,14 +19,14 @@ use trees::{Body, Edition, Kind, LABEL_LIMIT, Reason, Refusal, SLOTS};
 pub const LIST_LIMIT: usize = 80;
 
 // How many labels were read, or why the text was turned down.
-#[derive(Drop)]
+#[derive(Clone, Copy)]
 pub enum ListAnswer {
     Labels(usize),
     Refused(Refusal),
 }
 
 // Where the labels of a list stand in its text, in list order. Entries are as narrow as a list's limits allow: places are passed by value.
-#[derive(Drop)]
+#[derive(Clone, Copy)]
 pub struct LabelPlaces {
     pub count: usize,
     pub start: [u16; LIST_LIMIT],
@@ -32,7 +34,7 @@ pub struct LabelPlaces {
 }
 
 // The answer with the places beside it; those of a refusal hold no label.
-#[derive(Drop)]
+#[derive(Clone, Copy)]
 pub struct ListRead {
     pub answer: ListAnswer,
     pub places: LabelPlaces,
@@ -41,7 +43,7 @@ pub struct ListRead {
 // Where the reader stands, with `count` labels complete: at the start, where a label must begin,
 // inside a label without quotes whose `len` bytes from `first` on have been read, between the quotes
 // of a label that opened at `first` with `len` bytes so far, or just after a closing quote.
-#[derive(Drop)]
+#[derive(Clone, Copy)]
 enum Stage {
     Start,
     Due {
@@ -63,7 +65,7 @@ enum Stage {
 }
 
 // What a byte leads to: the next stage, or a refusal's reason and place.
-#[derive(Drop)]
+#[derive(Clone, Copy)]
 enum Move {
     Next(Stage),
     Stop(Reason, usize),

@@ -59,7 +59,7 @@ fn place_if(places: LabelPlaces, k: usize) -> usize
 }
 
 // Whether a further list lacks a required label, and where the first such label stands in the required list.
-#[derive(Drop)]
+#[derive(Clone, Copy)]
 struct Lacked {
     lacks: bool,
     missing: usize,

@@ -156,7 +156,7 @@ fn gather(
 }
 
 // Whether three labels of a list have different closer pairs, and the first such three.
-#[derive(Drop)]
+#[derive(Clone, Copy)]
 pub(crate) struct FirstClash {
     pub clashes: bool,
     pub named: Named,

@@ -1,6 +1,8 @@
 // The engine: the largest agreement set of two trees that holds a required list, the first in label order among equals.
 //
 // No public function has a `requires`.
+#![tactic(auto)]
+
 ghost use Rattle.std.specs.Prelude.{◌≡◌, true, length};
 ghost use Rattle.queries.specs.Query.{task};
 ghost use Rattle.mast.specs.Largest.{solve, largest_of, output_of};
@@ -21,7 +23,7 @@ mod finish;
 mod settle;
 
 // A label that a refusal names: its place in its list, and its place and size in the first tree's text.
-#[derive(Drop)]
+#[derive(Clone, Copy)]
 pub struct NamedLabel {
     pub place: usize,
     pub start: usize,
@@ -29,7 +31,7 @@ pub struct NamedLabel {
 }
 
 // Three labels with different closer pairs, in label order.
-#[derive(Drop)]
+#[derive(Clone, Copy)]
 pub struct Named {
     pub first: NamedLabel,
     pub second: NamedLabel,
@@ -37,7 +39,7 @@ pub struct Named {
 }
 
 // The size of the set and the length of its tree's text. Number 8, with the three required labels that it names. Or another refusal.
-#[derive(Drop)]
+#[derive(Clone, Copy)]
 pub enum LargestAnswer {
     Found(usize, usize),
     Naming(Refusal, Named),
@@ -45,14 +47,14 @@ pub enum LargestAnswer {
 }
 
 // The answer, and the places of the set's labels in the first tree's text, in label order. A refusal has no set.
-#[derive(Drop)]
+#[derive(Clone, Copy)]
 pub struct LargestResult {
     pub answer: LargestAnswer,
     pub set: LabelPlaces,
 }
 
 // The same with the pieces of the job. A refusal has none.
-#[derive(Drop)]
+#[derive(Clone, Copy)]
 pub struct DividedResult {
     pub answer: LargestAnswer,
     pub set: LabelPlaces,
@@ -62,7 +64,7 @@ pub struct DividedResult {
 // A further list compared with the largest set: the size of that set and the number of labels of the list; whether the list lacks a
 // required label, and the place of the first such label in the required list; whether three of its labels have different closer pairs, and
 // the first such three.
-#[derive(Drop)]
+#[derive(Clone, Copy)]
 pub struct Compared {
     pub size: usize,
     pub count: usize,
@@ -73,7 +75,7 @@ pub struct Compared {
 }
 
 // The comparison of a further list. Number 8, with the three required labels that it names. Or another refusal.
-#[derive(Drop)]
+#[derive(Clone, Copy)]
 pub enum CompareAnswer {
     Compared(Compared),
     Naming(Refusal, Named),

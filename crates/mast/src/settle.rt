@@ -22,7 +22,7 @@ use table::{RANKS, largest_set};
 use trees::{Body, Edition, LEAF_LIMIT, NODE_LIMIT, Reason, Refusal, TreeArrays};
 
 // What becomes of the required list: the trees agree on it, or a refusal.
-#[derive(Drop)]
+#[derive(Clone, Copy)]
 pub(crate) enum ListFate {
     Agreed,
     Naming(Refusal, Named),
@@ -41,7 +41,7 @@ fn disagreement() -> Refusal
 }
 
 // What becomes of a list of common labels, and how many labels are chosen.
-#[derive(Drop)]
+#[derive(Clone, Copy)]
 struct Chosen {
     fate: ListFate,
     size: usize,
@@ -94,7 +94,7 @@ fn choose(
 
 // The required list settled, with the list's marks and the labels chosen, whose number is `size`. If the trees do not agree on the list, nothing
 // reads these.
-#[derive(Drop)]
+#[derive(Clone, Copy)]
 pub(crate) struct Settled {
     pub fate: ListFate,
     pub size: usize,

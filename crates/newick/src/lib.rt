@@ -1,6 +1,8 @@
 // The reader of tree text.
 //
 // No public function has a `requires`: a text of any length and any bytes is answered.
+#![tactic(auto)]
+
 ghost use Rattle.std.specs.Prelude.{ℕ, ◌+◌, ◌*◌, ◌≤◌, ◌<◌, ◌≡◌, List, length, get_or};
 ghost use Rattle.trees.specs.Bytes.{kind_of, class_table};
 ghost use Rattle.trees.specs.Edition.{in_edition};
@@ -22,14 +24,14 @@ use trees::{
 const OPEN_LIMIT: usize = LEAF_LIMIT - 1;
 
 // How many leaves were read, or why the text was turned down.
-#[derive(Drop)]
+#[derive(Clone, Copy)]
 pub enum TreeAnswer {
     Leaves(usize),
     Refused(Refusal),
 }
 
 // The answer with the tree's arrays beside it; the arrays of a refusal have no node.
-#[derive(Drop)]
+#[derive(Clone, Copy)]
 pub struct TreeRead {
     pub answer: TreeAnswer,
     pub tree: TreeArrays,
@@ -37,7 +39,7 @@ pub struct TreeRead {
 
 // Where the scan stands: a node must begin; inside a bare label, with its first byte and its length so far; after an opening quote, with
 // its place and how many bytes stand since; just after a node; after `;`.
-#[derive(Drop)]
+#[derive(Clone, Copy)]
 enum Mode {
     Due,
     Inside(usize, usize),
@@ -47,7 +49,7 @@ enum Mode {
 }
 
 // The state beside the arrays: how many `(` are open, how many were read, how many nodes are complete.
-#[derive(Drop)]
+#[derive(Clone, Copy)]
 struct Scan {
     mode: Mode,
     depth: usize,
@@ -56,7 +58,7 @@ struct Scan {
 }
 
 // What a byte leads to: the next state, or a refusal's reason and place.
-#[derive(Drop)]
+#[derive(Clone, Copy)]
 enum Move {
     On(Scan),
     Stop(Reason, usize),

@@ -3,6 +3,8 @@
 //
 // No accepted text is longer than `trees::TREE_ROOM` bytes, and no refusal has a place beyond. Each is decided by the bytes before its
 // place, the label that begins there and one more byte. So the first `INPUT_ROOM` bytes decide the answer to an input of any length.
+#![tactic(auto)]
+
 use newick::TreeAnswer;
 use trees::{Body, Edition, Refusal, TOKEN_LIMIT, TREE_ROOM};
 use writer::WriteAnswer;

@@ -2,6 +2,8 @@
 // asked of two trees begins here.
 //
 // No public function has a `requires`. Names that end in 1 are of the first tree, in 2 of the second.
+#![tactic(auto)]
+
 ghost use Rattle.std.specs.Prelude.{◌≡◌, true, List, ℕ, ◌<◌, ◌≤◌, length, get_or, set};
 ghost use Rattle.trees.specs.Label.{Label};
 ghost use Rattle.trees.specs.Tree.{Tree, Proper};
@@ -23,7 +25,7 @@ mod strict;
 const NO_RANK: u8 = 80;
 
 // The options of a call.
-#[derive(Drop)]
+#[derive(Clone, Copy)]
 pub struct Options {
     // A leaf in only one tree stops the job.
     pub strict: bool,
@@ -32,7 +34,7 @@ pub struct Options {
 }
 
 // The common leaves in label order, by their numbers in both trees, and how many they are. A label's index here is its rank.
-#[derive(Drop)]
+#[derive(Clone, Copy)]
 pub struct CommonOrder {
     pub count: usize,
     pub first: [u8; LEAF_LIMIT],
@@ -40,14 +42,14 @@ pub struct CommonOrder {
 }
 
 // Whether two trees can be asked something, or why not.
-#[derive(Drop)]
+#[derive(Clone, Copy)]
 pub enum Way {
     Clear,
     Stopped(Refusal),
 }
 
 // Both trees' arrays, and their common leaves in label order. If the way is stopped, these are of no tree.
-#[derive(Drop)]
+#[derive(Clone, Copy)]
 pub struct Pair {
     pub way: Way,
     pub tree1: TreeArrays,

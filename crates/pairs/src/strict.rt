@@ -15,7 +15,7 @@ use crate::ranks::{NONE, leaf_partner, partners, put_at};
 use trees::{Body, NODE_LIMIT, Reason, Refusal, TreeArrays, wide, wide_place};
 
 // Whether both trees hold the same leaves, as far as that is asked; if not, number 12.
-#[derive(Drop)]
+#[derive(Clone, Copy)]
 pub(crate) enum LeavesShared {
     All,
     Stray(Refusal),

@@ -10,7 +10,7 @@ use crate::upward::is_inner;
 use trees::{LEAF_LIMIT, NODE_LIMIT, TreeArrays};
 
 // By node, the number of its place and the rank of that place's head.
-#[derive(Drop)]
+#[derive(Clone, Copy)]
 pub(crate) struct Down {
     pub number: [u8; NODE_LIMIT],
     pub top: [u8; NODE_LIMIT],

@@ -1,6 +1,8 @@
 // The pieces of a job by the ranks of their labels, from the arrays of both trees. No text is read.
 //
 // No public function has a `requires`.
+#![tactic(auto)]
+
 ghost use Rattle.std.specs.Prelude.{◌≡◌, List, ◌≤◌, length};
 ghost use Rattle.trees.specs.Label.{Label};
 ghost use Rattle.trees.specs.Tree.{Tree};
@@ -27,7 +29,7 @@ pub const ITEMS: usize = 2 * LEAF_LIMIT - 1;
 
 // The pieces as one list of ranks: each line's required label, if there is one, then the leaves of that line in label order.
 // `head` marks the required labels. The first `count` entries count.
-#[derive(Drop)]
+#[derive(Clone, Copy)]
 pub struct PieceList {
     pub count: usize,
     pub rank: [u8; ITEMS],
@@ -53,7 +55,7 @@ fn node_numbers(
 }
 
 // By rank, the number of a label's place in one tree and the rank of that place's head.
-#[derive(Drop)]
+#[derive(Clone, Copy)]
 struct TreeLines {
     line: [u8; RANKS],
     top: [u8; RANKS],

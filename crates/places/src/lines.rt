@@ -18,7 +18,7 @@ pub(crate) const LINES: usize = NO_LINE + 1;
 pub(crate) const NO_LEAF: u8 = 81;
 
 // By rank the label's line, 159 for none, and by line the rank of its head.
-#[derive(Drop)]
+#[derive(Clone, Copy)]
 pub(crate) struct RankLines {
     pub line: [u8; RANKS],
     pub heads: [u8; LINES],

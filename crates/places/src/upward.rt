@@ -9,7 +9,7 @@ use table::RANKS;
 use trees::{LEAF_LIMIT, NODE_LIMIT, TreeArrays};
 
 // By node, the required leaves below it and the least of their ranks, 80 for none.
-#[derive(Drop)]
+#[derive(Clone, Copy)]
 pub(crate) struct Below {
     pub many: [u8; NODE_LIMIT],
     pub least: [u8; NODE_LIMIT],

@@ -2,6 +2,8 @@
 // not common is known and the others are marked by rank.
 //
 // No public function has a `requires`. Names that end in 1 are of the first tree, in 2 of the second.
+#![tactic(auto)]
+
 ghost use Rattle.std.specs.Prelude.{◌≡◌, true, cond, List, map, ℕ, ◌-◌, ◌<◌, ◌≤◌, length};
 ghost use Rattle.trees.specs.declared.Reason.TheVariants.{FirstLacks, SecondLacks};
 ghost use Rattle.trees.specs.Label.{Label};
@@ -27,7 +29,7 @@ use table::RANKS;
 use trees::{Body, Edition, LEAF_LIMIT, NODE_LIMIT, Reason, Refusal, TreeArrays, narrow, wide};
 
 // Where the labels of a list stand in it, or why it was not read; then the places are free.
-#[derive(Drop)]
+#[derive(Clone, Copy)]
 pub struct LabelsRead {
     pub way: Way,
     pub places: LabelPlaces,
@@ -182,7 +184,7 @@ fn lack(
 }
 
 // A list's labels looked up among the common ones: number 6 or 7 for the first that is not common, or each common label's number in the list.
-#[derive(Drop)]
+#[derive(Clone, Copy)]
 pub struct Marks {
     pub way: Way,
     pub number: [u8; RANKS],

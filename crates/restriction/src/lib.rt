@@ -1,6 +1,8 @@
 // Restriction of a tree to a set of its leaves, over tree arrays.
 //
 // No public function has a `requires`.
+#![tactic(auto)]
+
 ghost use Rattle.std.specs.Prelude.{◌≡◌, List, ℕ, ◌<◌, ◌≤◌, min, get_or};
 ghost use Rattle.trees.specs.Tree.{Tree};
 ghost use Rattle.trees.specs.Arrays.{tree_of, no_leaf, one_tree};
@@ -10,7 +12,7 @@ ghost use Rattle.restriction.specs.KeptMachine.{pass_at, moved_to, fate_of, step
 use trees::TreeArrays;
 
 // What becomes of a node: it has this new number, 159 where no leaf is kept below it; or it is a new node with these children.
-#[derive(Drop)]
+#[derive(Clone, Copy)]
 enum NodeFate {
     Known(u8),
     Fresh(u8, u8),

@@ -27,7 +27,7 @@ pub(crate) const NODES: usize = 6 * NODE_LIMIT;
 pub(crate) const COLUMNS: usize = NODES + 1;
 
 // A weight, high * 2^64 + low.
-#[derive(Drop)]
+#[derive(Clone, Copy)]
 pub(crate) struct Weight {
     pub(crate) high: u32,
     pub(crate) low: u64,
@@ -214,7 +214,7 @@ fn fill_inner(
 }
 
 // The children of an inner node, the one that needs more rows first; swapped if that is the right one.
-#[derive(Drop)]
+#[derive(Clone, Copy)]
 struct Children {
     more: usize,
     fewer: usize,

@@ -2,6 +2,8 @@
 // required labels, or that three of these clash. Labels are known by their ranks among the common ones alone.
 //
 // No public function has a `requires`.
+#![tactic(auto)]
+
 ghost use Rattle.std.specs.Prelude.{◌≡◌, ℕ, ◌≤◌, min, true, false, List, replicate, slice_index_or};
 ghost use Rattle.trees.specs.Label.{Label};
 ghost use Rattle.trees.specs.Tree.{Tree};
@@ -45,7 +47,7 @@ fn weigh(
 }
 
 // Whether two trees agree on the required labels, and how many labels are chosen, 0 if they do not.
-#[derive(Drop)]
+#[derive(Clone, Copy)]
 pub struct Largest {
     pub found: bool,
     pub size: usize,

@@ -78,7 +78,7 @@ pub(crate) fn labels(top: Weight) -> usize
 }
 
 // What is left of a sum of powers once a power is looked for in it.
-#[derive(Drop)]
+#[derive(Clone, Copy)]
 struct PowerTaken {
     held: bool,
     rest: Weight,

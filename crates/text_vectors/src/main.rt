@@ -2,6 +2,8 @@
 // a list with their number, as they stand in it, or the refusal; and for a place, any number of the machine, the line of a refusal
 // there. A case is a kind byte, `t` for a tree, `l` for a list and `p` for a place, the length as two bytes, and the text; a place is
 // eight bytes, the highest first. `T` and `L` are a tree and a list under the second edition.
+#![tactic(auto)]
+
 ghost use Rattle.std.specs.Prelude.{◌+◌, ◌≤◌, ◌<◌, length};
 
 use lists::{LabelPlaces, ListAnswer};

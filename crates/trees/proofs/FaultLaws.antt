@@ -11,7 +11,7 @@ use lib.ListN.{length, get_or, take, drop, length-append, length-drop, drop_of_l
 use lib.Seq.{get_or-drop, drop-drop, take_at, drop_at, get_or_at}
 use borrow.Author.Tests.{ltb-true, ltb-false, le-leb}
 use Rattle.trees.specs.declared.Reason.{Reason}
-use Rattle.trees.specs.declared.Reason.TheVariants.{BadByte, EndsTooSoon, LabelTooLong, TooMany, Repeated}
+use Rattle.trees.specs.declared.Reason.TheVariants.{BadByte, EndsTooSoon, LabelTooLong, TooMany, Repeated, ClaimDisagrees, ClaimLacks, ClaimSmall, Contents, Disagree, FirstLacks, JobTooLong, NotShared, SecondLacks, TooShort}
 use Rattle.trees.specs.Bytes.{is_label_byte, is_inner_byte, open_byte, comma_byte, quote_byte}
 use Rattle.trees.specs.Label.{Label, label_limit, is_in, distinct}
 use Rattle.trees.specs.Token.{Token, spelling, all_of, good_label, good_labels}
@@ -464,6 +464,16 @@ module _ (Whole : List ℕ → Type 0) (Crowd : List ℕ → ℕ → Type 0) (te
           (λ (w : ℕ). (k < w → LabelStarts Whole text w → length (label_from text w).inner ≤ label_limit → (label_from text w).closed ≡ true
           → (label_from text k).label ≡ (label_from text w).label → ⊥)) (sym e) (λ l' s' b' f' d'. c5 h k l' s' t b' f' d') l s b f d)
       go (inr h) = h
+  at_least n i c1 c2 c3 c4 c5 FirstLacks j x'' e = elim x'' [ ]
+  at_least n i c1 c2 c3 c4 c5 SecondLacks j x3 e = elim x3 [ ]
+  at_least n i c1 c2 c3 c4 c5 Disagree j x4 e = elim x4 [ ]
+  at_least n i c1 c2 c3 c4 c5 TooShort j x5 e = elim x5 [ ]
+  at_least n i c1 c2 c3 c4 c5 Contents j x6 e = elim x6 [ ]
+  at_least n i c1 c2 c3 c4 c5 JobTooLong j x7 e = elim x7 [ ]
+  at_least n i c1 c2 c3 c4 c5 NotShared j x8 e = elim x8 [ ]
+  at_least n i c1 c2 c3 c4 c5 ClaimLacks j x9 e = elim x9 [ ]
+  at_least n i c1 c2 c3 c4 c5 ClaimDisagrees j x10 e = elim x10 [ ]
+  at_least n i c1 c2 c3 c4 c5 ClaimSmall j x11 e = elim x11 [ ]
 
   pub fault_number : (q : Reason) (j : ℕ) → Fault Whole Crowd text q j → number_of q ≤ 5
   unfolding number_of
@@ -472,6 +482,16 @@ module _ (Whole : List ℕ → Type 0) (Crowd : List ℕ → ℕ → Type 0) (te
   fault_number LabelTooLong j (label_too_long k s l) = omega arith
   fault_number TooMany j (too_many i c) = omega arith
   fault_number Repeated j (repeated j' k l s t b f d) = omega arith
+  fault_number FirstLacks j x' = elim x' [ ]
+  fault_number SecondLacks j x'' = elim x'' [ ]
+  fault_number Disagree j x3 = elim x3 [ ]
+  fault_number TooShort j x4 = elim x4 [ ]
+  fault_number Contents j x5 = elim x5 [ ]
+  fault_number JobTooLong j x6 = elim x6 [ ]
+  fault_number NotShared j x7 = elim x7 [ ]
+  fault_number ClaimLacks j x8 = elim x8 [ ]
+  fault_number ClaimDisagrees j x9 = elim x9 [ ]
+  fault_number ClaimSmall j x10 = elim x10 [ ]
 
   -- no fault stands before place i
   abbrev pub Clean : ℕ → Type 0
@@ -508,6 +528,16 @@ module _ (Whole : List ℕ → Type 0) (Crowd : List ℕ → ℕ → Type 0) (te
       omega (arith, inner_inside text k label_limit l, m LabelTooLong (k + (label_from text k).opening + label_limit) (label_too_long k s l))
   none_left c w m TooMany j (too_many i d) = omega (arith, c i d, m TooMany i (too_many i d))
   none_left c w m Repeated j (repeated i k l s t b f d) = omega (arith, s.inside, m Repeated i (repeated i k l s t b f d))
+  none_left c w m FirstLacks j x' = elim x' [ ]
+  none_left c w m SecondLacks j x'' = elim x'' [ ]
+  none_left c w m Disagree j x3 = elim x3 [ ]
+  none_left c w m TooShort j x4 = elim x4 [ ]
+  none_left c w m Contents j x5 = elim x5 [ ]
+  none_left c w m JobTooLong j x6 = elim x6 [ ]
+  none_left c w m NotShared j x7 = elim x7 [ ]
+  none_left c w m ClaimLacks j x8 = elim x8 [ ]
+  none_left c w m ClaimDisagrees j x9 = elim x9 [ ]
+  none_left c w m ClaimSmall j x10 = elim x10 [ ]
 
 -- p was read and rest is left at place i: the tokens seen are good and their labels different, and no fault stands before i
 pub record Read (Whole : List ℕ → Type 0) (Crowd : List ℕ → ℕ → Type 0) (text p rest : List ℕ) (i : ℕ) (seen : List Token) : Type 0 where
@@ -726,6 +756,16 @@ fault_reason_lem Whole Crowd text EndsTooSoon i (ends_too_soon a d) = refl
 fault_reason_lem Whole Crowd text LabelTooLong i (label_too_long k s l) = refl
 fault_reason_lem Whole Crowd text TooMany i (too_many j c) = refl
 fault_reason_lem Whole Crowd text Repeated i (repeated j k l s t b f d) = refl
+fault_reason_lem Whole Crowd text FirstLacks i x' = elim x' [ ]
+fault_reason_lem Whole Crowd text SecondLacks i x'' = elim x'' [ ]
+fault_reason_lem Whole Crowd text Disagree i x3 = elim x3 [ ]
+fault_reason_lem Whole Crowd text TooShort i x4 = elim x4 [ ]
+fault_reason_lem Whole Crowd text Contents i x5 = elim x5 [ ]
+fault_reason_lem Whole Crowd text JobTooLong i x6 = elim x6 [ ]
+fault_reason_lem Whole Crowd text NotShared i x7 = elim x7 [ ]
+fault_reason_lem Whole Crowd text ClaimLacks i x8 = elim x8 [ ]
+fault_reason_lem Whole Crowd text ClaimDisagrees i x9 = elim x9 [ ]
+fault_reason_lem Whole Crowd text ClaimSmall i x10 = elim x10 [ ]
 
 -- the first fault of a text is one
 pub first_unique : (Whole : List ℕ → Type 0) (Crowd : List ℕ → ℕ → Type 0) (text : List ℕ) (r q : Reason) (i j : ℕ)

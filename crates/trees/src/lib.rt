@@ -1,6 +1,8 @@
 // Labels, byte classes, refusals and tree arrays: the data that every crate above shares.
 //
 // No public function has a `requires`: each answers for all inputs.
+#![tactic(auto)]
+
 ghost use Rattle.std.specs.Prelude.{◌≡◌, true, ◌&&◌, ◌%◌, min, eqb, length, get_or, take};
 ghost use Rattle.trees.specs.Bytes.{class_table, kind_of_code};
 ghost use Rattle.trees.specs.Edition.{fold_byte, in_edition, key};
@@ -38,7 +40,7 @@ const BLANK: u8 = 32;
 const UNDERSCORE: u8 = 95;
 
 // What a byte of a tree text can be. Each of the 256 byte values has one kind.
-#[derive(Drop)]
+#[derive(Clone, Copy)]
 pub enum Kind {
     Label,
     Open,
@@ -51,7 +53,7 @@ pub enum Kind {
 }
 
 // Where one label stands against another in label order.
-#[derive(Drop)]
+#[derive(Clone, Copy)]
 pub enum Order {
     Less,
     Equal,
@@ -59,14 +61,14 @@ pub enum Order {
 }
 
 // The edition by which labels are compared. Under the second, capital and small letters of A to Z are equal.
-#[derive(Drop)]
+#[derive(Clone, Copy)]
 pub enum Edition {
     One,
     Two,
 }
 
 // Why a job is refused; the numbers are in specs/Refusals.antt.
-#[derive(Drop)]
+#[derive(Clone, Copy)]
 pub enum Reason {
     BadByte,
     EndsTooSoon,
@@ -86,7 +88,7 @@ pub enum Reason {
 }
 
 // The body that a refusal speaks of.
-#[derive(Drop)]
+#[derive(Clone, Copy)]
 pub enum Body {
     S,
     T,
@@ -97,7 +99,7 @@ pub enum Body {
 }
 
 // A refusal: its reason, the body and the byte offset in that body.
-#[derive(Drop)]
+#[derive(Clone, Copy)]
 pub struct Refusal {
     pub reason: Reason,
     pub body: Body,
@@ -105,14 +107,14 @@ pub struct Refusal {
 }
 
 // A label kept apart from its text, as decoded: the first `len` bytes count.
-#[derive(Drop)]
+#[derive(Clone, Copy)]
 pub struct StoredLabel {
     pub bytes: [u8; LABEL_LIMIT],
     pub len: usize,
 }
 
 // A label as it is printed, with quotes where it needs them: the first `len` bytes count.
-#[derive(Drop)]
+#[derive(Clone, Copy)]
 pub struct ShownLabel {
     pub bytes: [u8; TOKEN_LIMIT],
     pub len: usize,
@@ -120,7 +122,7 @@ pub struct ShownLabel {
 
 // A tree as arrays: children before parents, the root last, a leaf its own left child.
 // A leaf's label is the `size` bytes of the text from `start`. Entries are as narrow as a tree's limits allow: trees are passed by value.
-#[derive(Drop)]
+#[derive(Clone, Copy)]
 pub struct TreeArrays {
     pub nodes: usize,
     pub left: [u8; NODE_LIMIT],

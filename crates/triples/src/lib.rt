@@ -1,6 +1,8 @@
 // The test of agreement: do two trees have the same closer pairs for each three labels of a list?
 //
 // No public function has a `requires`: texts of any length and any bytes are answered. Labels go by their rank in label order.
+#![tactic(auto)]
+
 ghost use Rattle.std.specs.Prelude.{◌≡◌, true, cond, List, map, ℕ, ◌<◌, ◌≤◌, min, length, get_or};
 ghost use Rattle.trees.specs.Edition.{in_edition};
 ghost use Rattle.trees.specs.Label.{Label, label_less};
@@ -23,7 +25,7 @@ mod search;
 
 // The trees agree on the list; or the places in the list of the first three labels, in label order, that have different
 // closer pairs; or why a text was turned down, the list's as body K.
-#[derive(Drop)]
+#[derive(Clone, Copy)]
 pub enum Agreement {
     Agreed,
     Disagree(usize, usize, usize),
@@ -31,7 +33,7 @@ pub enum Agreement {
 }
 
 // Three labels by three numbers: `first_clash` returns their ranks in label order, and `mast` keeps their places in a list.
-#[derive(Drop)]
+#[derive(Clone, Copy)]
 pub struct Indices {
     pub first: usize,
     pub second: usize,

@@ -1,5 +1,7 @@
 // Runs a stored stream of jobs through `job` and writes each answer as `agree` would. A case is the job's length as two bytes,
 // and the job.
+#![tactic(auto)]
+
 ghost use Rattle.std.specs.Prelude.{◌<◌};
 
 use lines::LINES_ROOM;

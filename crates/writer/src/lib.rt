@@ -1,6 +1,8 @@
 // The writer of tree text: the normal text of a tree that is given as arrays.
 //
 // No public function has a `requires`: arrays that stand for no tree are answered too, and no entry of them is trusted.
+#![tactic(auto)]
+
 ghost use Rattle.std.specs.Prelude.{ℕ, ◌+◌, ◌-◌, ◌<◌, ◌≤◌, min, ◌≡◌, true, cond, length, get_or};
 ghost use Rattle.std.proofs.lemmas.List.Edits.{sets};
 ghost use Rattle.trees.specs.Tree.{leaves};
@@ -17,7 +19,7 @@ use trees::{
 
 // How many bytes were written, or why none was: the output is too short, or the arrays stand for no tree of at most
 // 80 leaves.
-#[derive(Drop)]
+#[derive(Clone, Copy)]
 pub enum WriteAnswer {
     Written(usize),
     Refused(Refusal),
