@@ -1,0 +1,26 @@
+-- `writer::good_nodes` meets its contract. The invariant: every node passed is good. Assumes nothing.
+use Prim.Native.Nat.{◌-◌}
+use mathlib.Core.Path.{refl, sym, ◌∙◌}
+use native.Mathlib.Omega.{arith}
+use Rattle.trees.specs.Arrays.{good_nodes}
+use Rattle.writer.specs.Passes.{arrays_from}
+use Rattle.writer.proofs.StepLaws.{good_fails, good_more}
+use Rattle.writer.proofs.good_nodes.Goals as goal
+
+pub loop-u-init : goal.loop-u-init
+unfolding good_nodes
+loop-u-init c =
+    (omega arith, refl)
+
+pub returns-then-not-good_node : goal.returns-then-not-good_node
+returns-then-not-good_node c =
+    good_fails ((arrays_from c.args.nodes c.args.left.now c.args.right.now c.args.start.now c.args.size.now)) c.args.text.now c.args.nodes c.loop-u.u c.loop-u-test.true
+    (sym c.good_node.ensures ∙ c.if-not-good_node.true)
+
+pub loop-u-preserved : goal.loop-u-preserved
+loop-u-preserved c =
+    (
+      omega arith,
+      good_more ((arrays_from c.args.nodes c.args.left.now c.args.right.now c.args.start.now c.args.size.now)) c.args.text.now c.loop-u.u c.loop-u.invariant.1
+          (sym c.good_node.ensures ∙ c.if-not-good_node.false),
+    )
