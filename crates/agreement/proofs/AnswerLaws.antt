@@ -147,7 +147,7 @@ module _ (s t : Tree) where
   one_found a (b ∷ xs) h =
       first_else (ClashTwo a b xs) (ClashOne a xs) (ClashOne a (b ∷ xs)) (clash_with_two s t a b xs) (clash_with_one s t a xs)
       (two_found a b xs (inc_tail b xs h)) (one_found a xs (inc_tail b xs h)) split
-      (λ x y z m. (m.0, rw m.1 (in_head b xs), in_tail z b xs m.2, rw m.1 (inc_head b xs h z m.2), m.3))
+      (λ x y z m. (m.0, subst (λ (w : Label). is_in w (b ∷ xs) ≡ true) (sym m.1) (in_head b xs), in_tail z b xs m.2, rw m.1 (inc_head b xs h z m.2), m.3))
       (λ x y z m. (m.0, in_tail y b xs m.1, in_tail z b xs m.2, m.3, m.4))
       (λ u v w x y z m k. before_second u v w x y z (m.0 ∙ sym k.0) (rw m.1 (inc_head b xs h y k.1)))
     where
@@ -190,7 +190,7 @@ module _ (s t : Tree) where
 
       one : (x y z : Label) → ClashOne a xs x y z → Clash s t (a ∷ xs) x y z
       one x y z m = record {
-        in_one = rw m.0 (in_head a xs);
+        in_one = subst (λ (w : Label). is_in w (a ∷ xs) ≡ true) (sym m.0) (in_head a xs);
         in_two = in_tail y a xs m.1;
         in_three = in_tail z a xs m.2;
         one_two = rw m.0 (inc_head a xs h y m.1);
