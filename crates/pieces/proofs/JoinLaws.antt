@@ -12,7 +12,7 @@ use Rattle.trees.specs.Tree.{Tree, leaves, normal}
 use Rattle.trees.proofs.Bools.{bool_cases, clash, refute, and_left, and_right, and_intro, or_cases, or_inl, or_inr}
 use Rattle.trees.proofs.LabelLaws.{same_refl, same_eq, eq_same, less_total}
 use Rattle.trees.proofs.ListLaws
-use Rattle.trees.proofs.ListLaws.{in_none, in_one, in_one_eq, in_left, in_right, distinct_none}
+use Rattle.trees.proofs.ListLaws.{in_none, in_one_lem, in_one_eq, in_left, in_right, distinct_none}
 use Rattle.agreement.specs.Closer.{Agree, Common}
 use Rattle.agreement.specs.Restrict.{restrict}
 use Rattle.agreement.specs.Sets.{sorted, keep, common, set_of, First}
@@ -128,7 +128,7 @@ module _ (s t : Tree) (K : List Label) (ds : distinct (leaves s) ≡ true) (dt :
     in_labels x m z =
         ⊎_elim
         (λ (e : same_label x (head_of q) ≡ true).
-        in_left x (first_only q) (hanging s t K q) (rw (only, same_eq x (head_of q) e) (in_one (head_of q))))
+        in_left x (first_only q) (hanging s t K q) (rw (only, same_eq x (head_of q) e) (in_one_lem (head_of q))))
         (λ (h : hangs_at s t K q x ≡ true). in_right x (first_only q) (hanging s t K q) (keep_in (hangs_at s t K q) x (common s t) m h))
         (or_cases (same_label x (head_of q)) (hangs_at s t K q x) z)
 
@@ -204,7 +204,7 @@ module _ (s t : Tree) (K : List Label) (ds : distinct (leaves s) ≡ true) (dt :
       m_n x m z = keep_in in_n x (common s t) (m_common x m) (cond_false (in_z x) (is_in x F) (is_in x M) z ∙ m)
 
       head_f : is_in (head_of q) F ≡ true
-      head_f = f.allowed_set.required (head_of q) (rw only (in_one (head_of q)))
+      head_f = f.allowed_set.required (head_of q) (rw only (in_one_lem (head_of q)))
 
       n_required : (x : Label) → is_in x K ≡ true → is_in x N ≡ true
       n_required x k = go (bool_cases (in_z x))

@@ -1,0 +1,10 @@
+-- `columns::put_node` meets its contract. Assumes nothing.
+use Rattle.table.proofs.ColumnLaws.{node_put}
+use Rattle.table.proofs.columns.put_node.Goals as goal
+
+pub returns : goal.returns
+returns c =
+    let one = c.child-a.ensures in let two = c.child-b.ensures in node_put _ _ _ _ _ _ _ _ _ _ _ _ _ _ _ _ _ c.requires one.value two.value one.upper_bound two.upper_bound c.needed-need.ensures
+    c.first_below-low.ensures c.least-n.ensures c.leaf_place.ensures.value c.put.ensures
+    c.put-2.ensures c.put-3.ensures c.put-4.ensures
+    c.put-5.ensures c.put-6.ensures
