@@ -1,0 +1,18 @@
+-- `ranks::partners` meets its contract. Assumes nothing.
+use Prim.Native.Nat.{ℕ, ◌-◌, ◌≤◌}
+use mathlib.Core.Path.{◌≡◌}
+use mathlib.Core.List.{List}
+use lib.ListN.{length}
+use Rattle.trees.specs.Edition.{in_edition}
+use Rattle.trees.specs.Tree.{Tree, decoded}
+use Rattle.pairs.specs.OwnLeaves.{OwnLeaves}
+use Rattle.pairs.specs.CommonRanks.{Partners}
+use Rattle.pairs.proofs.ranks.partners.Given as goal
+
+abbrev pub invariant-loop-u : goal.invariant-loop-u
+invariant-loop-u l = (l.u ≤ l.tree1.nodes) × (length l.partner ≡ 159) × ((s t : Tree) (left1 : List ℕ) → OwnLeaves s (in_edition l.edition l.first) left1 l.start1 l.size1
+    l.tree1.nodes
+    → OwnLeaves t (in_edition l.edition l.second) l.left2 l.start2 l.size2 l.tree2.nodes → Partners l.u (decoded s) (decoded t) l.partner)
+
+abbrev pub decreases-loop-u : goal.decreases-loop-u
+decreases-loop-u l = l.tree1.nodes - l.u

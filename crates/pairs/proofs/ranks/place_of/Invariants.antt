@@ -1,0 +1,22 @@
+-- `ranks::place_of` meets its contract. Assumes nothing.
+use Prim.Native.Nat.{ℕ, ◌-◌, ◌≤◌}
+use mathlib.Core.Path.{◌≡◌}
+use mathlib.Core.Bool.{true}
+use mathlib.Core.List.{List}
+use lib.ListN.{length}
+use Rattle.trees.specs.Edition.{in_edition}
+use Rattle.trees.specs.Label.{Label}
+use Rattle.trees.specs.Tree.{Tree, decoded}
+use Rattle.trees.specs.Stored.{stored_bytes}
+use Rattle.agreement.specs.Sets.{increasing}
+use Rattle.leaves.specs.Numbered.{Numbered}
+use Rattle.pairs.specs.OwnLeaves.{OwnLeaves}
+use Rattle.pairs.proofs.RankLaws.{Halved}
+use Rattle.pairs.proofs.ranks.place_of.Given as goal
+
+abbrev pub invariant-loop-low : goal.invariant-loop-low
+invariant-loop-low l = (l.low ≤ l.high) × (l.high ≤ l.m) × ((t : Tree) (left : List ℕ) (nodes : ℕ) (C : List Label) → OwnLeaves t (in_edition l.edition l.text) left l.start l.size nodes
+    → increasing C ≡ true → l.m ≡ length C → Numbered (decoded t) C l.order → Halved (stored_bytes l.label) C l.low l.high)
+
+abbrev pub decreases-loop-low : goal.decreases-loop-low
+decreases-loop-low l = l.high - l.low

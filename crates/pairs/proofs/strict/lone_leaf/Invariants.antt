@@ -1,0 +1,14 @@
+-- `strict::lone_leaf` meets its contract. Assumes nothing.
+use Prim.Native.Nat.{◌-◌, ◌≤◌}
+use mathlib.Core.Path.{◌≡◌}
+use Rattle.trees.specs.Tree.{Tree, Proper}
+use Rattle.trees.specs.Arrays.{nodes_of, arrays_of}
+use Rattle.pairs.specs.CommonRanks.{Partners}
+use Rattle.pairs.proofs.StrayLaws.{LoneFrom}
+use Rattle.pairs.proofs.strict.lone_leaf.Given as goal
+
+abbrev pub invariant-loop-u : goal.invariant-loop-u
+invariant-loop-u l = (l.u ≤ l.nodes) × ((s t : Tree) → l.left ≡ (arrays_of s).left → l.nodes ≡ nodes_of s → Proper t → Partners l.nodes s t l.partner → LoneFrom s t l.u)
+
+abbrev pub decreases-loop-u : goal.decreases-loop-u
+decreases-loop-u l = l.nodes - l.u
