@@ -1,0 +1,18 @@
+-- `queries::rank_in` meets its contract. Assumes nothing.
+use Prim.Native.Nat.{ℕ, ◌-◌, ◌<◌, ◌≤◌}
+use mathlib.Core.Path.{◌≡◌}
+use mathlib.Core.List.{List, []}
+use lib.ListN.{length, get_or}
+use Rattle.trees.specs.Edition.{in_edition, key}
+use Rattle.trees.specs.Label.{Label}
+use Rattle.trees.specs.Tree.{Tree, decoded}
+use Rattle.leaves.specs.Numbered.{Numbered}
+use Rattle.pairs.specs.OwnLeaves.{OwnLeaves}
+use Rattle.queries.proofs.rank_in.Given as goal
+
+abbrev pub invariant-loop-r : goal.invariant-loop-r
+invariant-loop-r l = (l.r ≤ l.m) × ((s : Tree) (left : List ℕ) (nodes : ℕ) (C : List Label) → OwnLeaves s (in_edition l.edition l.text1) left l.start1 l.size1 nodes
+    → l.m ≡ length C → Numbered (decoded s) C l.order1 → (q : ℕ) → q < l.r → get_or C q [] ≡ key l.edition l.token → ⊥)
+
+abbrev pub decreases-loop-r : goal.decreases-loop-r
+decreases-loop-r l = l.m - l.r
