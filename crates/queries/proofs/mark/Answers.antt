@@ -35,8 +35,8 @@ loop-k-preserved c = (
       let g = c.args in let h : c.loop-k.k < g.places.count = c.loop-k-test.true in
       let x = ap spelling (ap (in_edition g.edition) c.leaf_label.ensures ∙ sym (fold_part g.edition _ _
       g.list.now)) ∙ list_part l c.loop-k.k h in
-      let r = c.rank_in-r in let low : r.result < length C = omega (arith, r.ensures.0, c.if-r-m.false) in
-      let f = r.ensures.1 s left nodes C o e n in
+      let r = c.rank_in-r in let low : r.result < length C = omega (arith, r.ensures.upper_bound, c.if-r-m.false) in
+      let f = r.ensures.found_rank s left nodes C o e n in
       marks_next c.loop-k.k C (map spelling K) c.loop-k.number r.result _ i l.different (omega (
         arith,
         c.requires.0,
