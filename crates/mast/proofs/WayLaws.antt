@@ -20,7 +20,7 @@ use Rattle.pairs.specs.TwoTrees.{Trees, stray_for, trees_of}
 use Rattle.pairs.proofs.StrayLaws.{shared_nowhere}
 use Rattle.pairs.proofs.StepLaws.{then_refused, then_found, trees_both}
 use Rattle.queries.specs.Query.{Task, task, plain, list_of, held_by, required_of}
-use Rattle.queries.proofs.ListLaws.{list_read}
+use Rattle.queries.proofs.ListLaws.{list_read_lem}
 use Rattle.mast.specs.Largest.{solve_list, solve}
 use Rattle.mast.specs.Compare.{compare_other, compare_answers, compare_lists, compare}
 use Rattle.mast.specs.Reads.{Reads}
@@ -53,7 +53,7 @@ module _ (q : Task) where
       solve_listed xs f = then_found Both _ p e ∙ then_found _ _ xs f
 
     pub solve_reads : (s t : Tree) (xs : List Token) → Reads q s t xs → solve q room ≡ solve_list E room (record { first = s; second = t }) xs
-    solve_reads s t xs r = solve_listed _ (trees_reads q s t xs r) xs (list_read E K q.required xs r.list_is)
+    solve_reads s t xs r = solve_listed _ (trees_reads q s t xs r) xs (list_read_lem E K q.required xs r.list_is)
 
     -- "a larger set is still impossible in both sorts"
     pub strict_as_plain : (s t : Tree) → read_tree_in E q.first ≡ good s → read_tree_in E q.second ≡ good t
@@ -87,7 +87,7 @@ module _ (q : Task) where
     pub compare_reads : (s t : Tree) (xs ys : List Token) → Reads q s t xs → read_list_in E other ≡ good ys
         → compare q other ≡ compare_lists E (record { first = s; second = t }) xs ys
     compare_reads s t xs ys r g =
-        compare_listed _ (trees_reads q s t xs r) xs (list_read E K q.required xs r.list_is) ys (list_read E C other ys g)
+        compare_listed _ (trees_reads q s t xs r) xs (list_read_lem E K q.required xs r.list_is) ys (list_read_lem E C other ys g)
 
 -- if 6, 7 and 8 of the required list are not given
 pub size_first : (e : Edition) (s : Tree) (xs ys : List Token) (A B : Answer) (X : List Label) → A ≡ largest X
