@@ -1,0 +1,12 @@
+-- `lines::areas::put_always` meets its contract: the parts of the line, one after another. Assumes nothing.
+use Rattle.trees.specs.Words.{bytes_of}
+use Rattle.lines.specs.Lines.{labels_in}
+use Rattle.lines.proofs.AreaLaws.{put_then, put_as}
+use Rattle.lines.proofs.LineLaws.{always_parts}
+use Rattle.lines.proofs.areas.put_always.Goals as goal
+
+pub returns : goal.returns
+unfolding bytes_of
+returns c =
+    let a = c.args in put_as _ _ (always_parts (labels_in a.first.now a.start.now a.size.now a.count))
+    (put_then (put_then c.put_bytes-a.ensures c.put_labels-b.ensures.put) c.put_byte.ensures)

@@ -1,0 +1,17 @@
+use Prim.Native.Nat.{ℕ}
+use mathlib.Core.Path.{ap}
+use native.Mathlib.Omega.{arith}
+use lib.ListN.{length}
+use Rattle.trees.specs.Stored.{shown_bytes}
+use Rattle.lines.proofs.AreaLaws.{put_as}
+use Rattle.lines.proofs.areas.put_shown.Goals as goal
+
+pub put_bytes-requires : goal.put_bytes-requires
+unfolding shown_bytes
+put_bytes-requires c =
+    omega (arith, ap (length {A = ℕ}) c.first_bytes.ensures, c.requires)
+
+pub returns : goal.returns
+unfolding shown_bytes
+returns c =
+    put_as _ _ c.first_bytes.ensures c.put_bytes.ensures
