@@ -39,7 +39,7 @@ use Rattle.queries.specs.Query.{Task, with_clash, with_set, answer_to, held_by, 
 use Rattle.mast.specs.Compare.{missing, clash_of, comparison, compare_other, compare_answers, compare_lists, compare}
 use Rattle.pairs.proofs.StrayLaws.{shared_nowhere}
 use Rattle.pairs.proofs.StepLaws.{then_refused, Unread, trees_first, trees_second, trees_both}
-use Rattle.queries.proofs.ListLaws.{list_unread, list_read}
+use Rattle.queries.proofs.ListLaws.{list_unread, list_read_lem}
 use Rattle.mast.proofs.WayLaws.{compare_stopped, compare_unlisted, compare_unclaimed, compare_reads, size_first}
 use Rattle.pairs.proofs.StepLaws as step
 use Rattle.mast.proofs.WayLaws as way
@@ -315,4 +315,4 @@ module _ (q : Task) (claim : List ℕ) where
           → judge q claim ≡ refused (record { reason = r; body = C; place = i })
       claim_refused xs g k =
           stopped _
-          (compare_unclaimed q claim _ both xs (list_read F K q.required xs g) _ (list_unread F C claim _ (not_read (read_list_in F claim) C r i k)))
+          (compare_unclaimed q claim _ both xs (list_read_lem F K q.required xs g) _ (list_unread F C claim _ (not_read (read_list_in F claim) C r i k)))

@@ -25,19 +25,19 @@ use Rattle.mast.proofs.MissingLaws.{Missed, missed_is, one_missing, none_missing
 use Rattle.claims.specs.Claim.{HoldsRequired, IsClaim, Verdict, claim_first_lacks, claim_second_lacks, claim_lacks, claim_disagrees, claim_small, claim_passes, Clear, VerdictIs}
 
 -- what is found, by the number of claimed labels, the largest size, the first required label that is missing and the answer to the claim
-unfoldable pub by_size_lem : ℕ → ℕ → Verdict
-by_size_lem count size = cond (ltb count size) claim_small (claim_passes count)
+unfoldable pub by_size : ℕ → ℕ → Verdict
+by_size count size = cond (ltb count size) claim_small (claim_passes count)
 
 unfoldable pub by_missing : Option ℕ → Verdict → Verdict
 by_missing (some n) v = claim_lacks n
 by_missing none v = v
 
 unfoldable pub verdict_of : ℕ → ℕ → Option ℕ → Answer → Verdict
-unfolding by_size_lem by_missing
+unfolding by_size by_missing
 verdict_of count size missed (first_lacks n) = claim_first_lacks n
 verdict_of count size missed (second_lacks n) = claim_second_lacks n
 verdict_of count size missed (disagree a b c) = by_missing missed (claim_disagrees a b c)
-verdict_of count size missed (largest Z) = by_missing missed (by_size_lem count size)
+verdict_of count size missed (largest Z) = by_missing missed (by_size count size)
 
 -- ---- sets
 
@@ -104,10 +104,10 @@ module _ (s t : Tree) (K Y : List Label) (proper : Proper s) (different : distin
   agreed_answer : Common s t (set_of Y) → Agree s t (set_of Y) → answer s t Y ≡ largest (largest_set s t Y)
   agreed_answer c a = agreement.answered_promise s t Y proper different c (agree_no_clash s t (set_of Y) Y a (λ x h. h))
 
-  by_size : HoldsRequired K Y → Common s t (set_of Y) → Agree s t (set_of Y)
-      → VerdictIs s t K Y (by_size_lem (length Y) (length X))
-  unfolding by_size_lem
-  by_size r c a = go (ltb (length Y) (length X)) refl
+  by_size_lem : HoldsRequired K Y → Common s t (set_of Y) → Agree s t (set_of Y)
+      → VerdictIs s t K Y (by_size (length Y) (length X))
+  unfolding by_size
+  by_size_lem r c a = go (ltb (length Y) (length X)) refl
     where
       go : (b : Bool) → ltb (length Y) (length X) ≡ b → VerdictIs s t K Y (cond b claim_small (claim_passes (length Y)))
       go true e =
@@ -144,7 +144,7 @@ module _ (s t : Tree) (K Y : List Label) (proper : Proper s) (different : distin
           by_missing_lem o.0 (claim_disagrees a b c) (λ r. (o.0, r, o.1))
       go (largest Z) h =
           let o = held Z h in
-          by_missing_lem o.0 (by_size_lem (length Y) (length X)) (λ r. by_size r o.0 o.1)
+          by_missing_lem o.0 (by_size (length Y) (length X)) (λ r. by_size_lem r o.0 o.1)
 
   -- where both trees hold the claimed labels, neither 6 nor 7 is the answer
   lacked : {G : Type 0} → Common s t (set_of Y) → (A : Answer) → answer s t Y ≡ A
@@ -159,12 +159,12 @@ module _ (s t : Tree) (K Y : List Label) (proper : Proper s) (different : distin
   lacked c (largest Z) h f g = g Z refl
 
   verdict_agreed : HoldsRequired K Y → Common s t (set_of Y) → Agree s t (set_of Y)
-      → verdict_of (length Y) (length X) (missing K Y 0) (answer s t Y) ≡ by_size_lem (length Y) (length X)
+      → verdict_of (length Y) (length X) (missing K Y 0) (answer s t Y) ≡ by_size (length Y) (length X)
   unfolding verdict_of by_missing
   verdict_agreed r c a = rw (agreed_answer c a, none_missing K Y r) refl
 
   pub verdict_only : (v : Verdict) → VerdictIs s t K Y v → verdict_of (length Y) (length X) (missing K Y 0) (answer s t Y) ≡ v
-  unfolding verdict_of by_missing by_size_lem
+  unfolding verdict_of by_missing by_size
   verdict_only (claim_first_lacks n) h = rw ((agreement.six_promise s t Y proper different n).1 h) refl
   verdict_only (claim_second_lacks n) h = rw ((agreement.seven_promise s t Y proper different n).1 h) refl
   verdict_only (claim_lacks n) h =
