@@ -58,7 +58,7 @@ use Rattle.job.proofs.Table
 -- common restriction. N ranges over labels that a text can contain (`writable_labels`); other byte strings could be printed alike.
 pub demand_promise : (job : List ℕ) (N : List Label) (text : List ℕ)
     → ((writable_labels N ≡ true) × (printed job ≡ record_lines N text)) ↔ SetAnswered job false N text
-demand_promise = DemandLaws.set_lines
+demand_promise = DemandLaws.set_lines_lem
 
 -- C-17, from the bytes of a job. A job with the line `pieces` that is answered with a set first prints the total and the `at` lines. They are
 -- those of the definition, over the keys of both trees and of the required list, with the labels as the first tree spells them.

@@ -1,0 +1,100 @@
+-- `job::answer_laid` meets its contract: the parts of the job that its contents name, with the claim or without. Assumes nothing.
+use Rattle.job.proofs.AnswerLaws.{first_ends, list_ends, claim_ends, begin_is, bodies_base, job_solved, job_judged, answer_is, output_is}
+use mathlib.Core.Path.{◌∙◌, ap}
+use native.Mathlib.Omega.{arith}
+use Prim.Native.Nat.{ℕ}
+use lib.ListN.{length}
+use Rattle.job.proofs.answer_laid.Goals as goal
+
+pub answer_bodies-requires : goal.answer_bodies-requires
+answer_bodies-requires c =
+    let a = c.args in (
+      omega (
+        arith,
+        list_ends a.job.now a.table c.requires.table_value,
+        c.place_of-2.ensures,
+        ap (length {A = ℕ})
+            c.bytes_of-k.ensures,
+        c.requires.job_len_bound,
+      ),
+      omega (
+        arith,
+        first_ends a.job.now a.table c.requires.table_value,
+        c.place_of.ensures,
+        ap (length {A = ℕ})
+            c.bytes_of-s.ensures,
+        c.requires.job_len_bound,
+      ),
+    )
+
+pub answer_claim-requires-clause-list_bound : goal.answer_claim-requires-clause-list_bound
+answer_claim-requires-clause-list_bound c =
+    let a = c.args in
+    (
+        omega (
+          arith,
+          list_ends a.job.now a.table c.requires.table_value,
+          c.place_of-2.ensures,
+          ap (length {A = ℕ})
+              c.bytes_of-k.ensures,
+          c.requires.job_len_bound,
+        ),
+        omega (
+          arith,
+          first_ends a.job.now a.table c.requires.table_value,
+          c.place_of.ensures,
+          ap (length {A = ℕ})
+              c.bytes_of-s.ensures,
+          c.requires.job_len_bound,
+        ),
+      )
+
+pub answer_claim-requires-clause-claim_bound : goal.answer_claim-requires-clause-claim_bound
+answer_claim-requires-clause-claim_bound c =
+    let a = c.args in
+    omega (
+        arith,
+        claim_ends a.job.now a.table c.requires.table_value,
+        c.place_of-3.ensures,
+        ap (length {A = ℕ})
+            c.bytes_of.ensures,
+        c.requires.job_len_bound,
+      )
+
+pub returns-in-Absent-clause-answer : goal.returns-in-Absent-clause-answer
+returns-in-Absent-clause-answer c =
+    let found = c.answer_bodies.ensures in let a = c.args in let e = job_solved a.job.now a.table c.requires.table_value c.requires.job_len_bound _ c.edition_of.ensures _ _ _
+    c.bytes_of-s.ensures
+    c.bytes_of-t.ensures c.bytes_of-k.ensures c.in-Absent.is in
+    let at = begin_is c.place_of.ensures c.place_of-2.ensures c.place_of-3.ensures
+    ∙ bodies_base a.job.now a.table c.requires.table_value in
+    found.answer ∙ answer_is a.job.now (length a.out.now) at e
+
+pub returns-in-Absent-clause-output : goal.returns-in-Absent-clause-output
+returns-in-Absent-clause-output c =
+    let found = c.answer_bodies.ensures in let a = c.args in let e = job_solved a.job.now a.table c.requires.table_value c.requires.job_len_bound _ c.edition_of.ensures _ _ _
+    c.bytes_of-s.ensures
+    c.bytes_of-t.ensures c.bytes_of-k.ensures c.in-Absent.is in
+    let at = begin_is c.place_of.ensures c.place_of-2.ensures c.place_of-3.ensures
+    ∙ bodies_base a.job.now a.table c.requires.table_value in
+    found.output ∙ output_is a.job.now a.out.now e
+
+pub returns-in-At-clause-answer : goal.returns-in-At-clause-answer
+returns-in-At-clause-answer c =
+    let found = c.answer_claim.ensures in let a = c.args in let e = job_judged a.job.now a.table c.requires.table_value c.requires.job_len_bound _ c.edition_of.ensures _ _ _
+    c.bytes_of-s.ensures
+    c.bytes_of-t.ensures c.bytes_of-k.ensures _ _ c.in-At.is _
+    c.bytes_of.ensures in
+    let at = begin_is c.place_of.ensures c.place_of-2.ensures c.place_of-3.ensures
+    ∙ bodies_base a.job.now a.table c.requires.table_value in
+    found.answer ∙ answer_is a.job.now (length a.out.now) at e
+
+pub returns-in-At-clause-output : goal.returns-in-At-clause-output
+returns-in-At-clause-output c =
+    let found = c.answer_claim.ensures in let a = c.args in let e = job_judged a.job.now a.table c.requires.table_value c.requires.job_len_bound _ c.edition_of.ensures _ _ _
+    c.bytes_of-s.ensures
+    c.bytes_of-t.ensures c.bytes_of-k.ensures _ _ c.in-At.is _
+    c.bytes_of.ensures in
+    let at = begin_is c.place_of.ensures c.place_of-2.ensures c.place_of-3.ensures
+    ∙ bodies_base a.job.now a.table c.requires.table_value in
+    found.output ∙ output_is a.job.now a.out.now e

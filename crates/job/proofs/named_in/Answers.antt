@@ -1,0 +1,8 @@
+-- `job::named_in` meets its contract. Assumes nothing.
+use mathlib.Core.Path.{refl}
+use Rattle.job.specs.Answered.{moved_by}
+use Rattle.job.proofs.named_in.Goals as goal
+
+pub returns : goal.returns
+unfolding moved_by
+returns c = refl
