@@ -42,7 +42,6 @@ use Rattle.pairs.proofs.StepLaws.{then_refused, Unread, trees_first, trees_secon
 use Rattle.queries.proofs.ListLaws.{list_unread, list_read_lem}
 use Rattle.mast.proofs.WayLaws.{compare_stopped, compare_unlisted, compare_unclaimed, compare_reads, size_first}
 use Rattle.pairs.proofs.StepLaws as step
-use Rattle.mast.proofs.WayLaws as way
 use Rattle.claims.specs.Claim.{IsClaim, Verdict, claim_first_lacks, claim_second_lacks, claim_lacks, claim_disagrees, claim_small, claim_passes, Clear, VerdictIs}
 use Rattle.claims.specs.Judge.{ReadsClaim, claim_disagreement, fifteen, judged_by_size, judged_by_three, judged_by_list, verdict_on, judge, judgement_of}
 use Rattle.claims.proofs.VerdictLaws.{by_size, by_missing, verdict_of, verdict_is, verdict_only, passes_clear}

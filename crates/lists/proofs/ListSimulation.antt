@@ -1,6 +1,6 @@
 -- The stage machine gives what `read_list` says: a repeat that is looked for at a label's first byte is the one found at its end,
 -- since from its first byte on nothing is refused before the label ends unless it is overlong or does not close. Assumes nothing.
-use Prim.Native.Nat.{ℕ, ◌+◌, ◌-◌, ◌≤◌, ◌<◌}
+use Prim.Native.Nat.{ℕ, ◌+◌, ◌≤◌, ◌<◌}
 use native.Mathlib.Nat.{zero-add}
 use native.Mathlib.Omega.{arith}
 use mathlib.Core.Path.{◌≡◌, refl, ap, sym, ◌∙◌}

@@ -29,8 +29,8 @@ use Rattle.newick.specs.declared.Mode.TheVariants.{Due, Inside}
 use Rattle.newick.specs.declared.Scan.{Scan}
 use Rattle.newick.specs.ReadTree.{Opened, first, second, Phase, node_due, in_label, in_quotes, after_node, ended, State, Step, next}
 use Rattle.newick.specs.ReadTree.{stop, step, step_after, step_due, step_label, step_inner, step_closing, step_quotes, read_from}
-use Rattle.newick.specs.Machine.{open_limit, Arrays, arrays, Progress, on, halt, scan, leaf_scan, leaf_arrays, repeat_of, due_of}
-use Rattle.newick.specs.Machine.{close_of, comma_of, after_of, leaf_of, after_leaf, label_end, inside_of, inner_of, closing_of, quoted_of, move_of}
+use Rattle.newick.specs.Machine.{open_limit, Arrays, arrays, Progress, on, halt, scan, repeat_of, due_of}
+use Rattle.newick.specs.Machine.{close_of, comma_of, after_of, label_end, inside_of, inner_of, closing_of, quoted_of, move_of}
 use Rattle.newick.proofs.MachineLaws.{move_due, move_inside, move_quoted, move_after, move_done, leaf_known, end_known}
 use Rattle.newick.proofs.OpenNodes.{text_in, nodes_in}
 use Rattle.newick.proofs.Columns.{filled}

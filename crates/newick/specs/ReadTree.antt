@@ -8,7 +8,7 @@ use Rattle.trees.specs.declared.Reason.{Reason}
 use Rattle.trees.specs.declared.Reason.TheVariants.{BadByte, EndsTooSoon, LabelTooLong, TooMany, Repeated}
 use Rattle.trees.specs.declared.Body.{Body}
 use Rattle.trees.specs.declared.Edition.{Edition}
-use Rattle.trees.specs.Bytes.{kind_of, quote_byte}
+use Rattle.trees.specs.Bytes.{kind_of}
 use Rattle.trees.specs.Label.{Label, label_limit}
 use Rattle.trees.specs.Token.{Token, spelling, quoted_token}
 use Rattle.trees.specs.Tree.{Tree, leaf, node, leaves, leaf_limit}

@@ -14,7 +14,7 @@ use Rattle.agreement.proofs.AnswerLaws.{Alike}
 use Rattle.pieces.specs.Pieces.{head_of, place_of, hangs_at, PlacedSet, part_at}
 use Rattle.pieces.proofs.HangsAtLaws.{set_cases, hangs_true}
 use Rattle.pieces.proofs.NearLaws.{head_required, sits}
-use Rattle.pieces.proofs.MoveLaws.{alike_turn, alike_swap, agree_alike, Both, required, elsewhere, move_one, one_out, two_apart}
+use Rattle.pieces.proofs.MoveLaws.{alike_turn, alike_swap, agree_alike, Both, elsewhere, move_one, one_out, two_apart}
 use Rattle.pieces.proofs.MoveLaws.{two_together}
 
 module _ (s t : Tree) (K : List Label) (X : Label → Bool) (ds : distinct (leaves s) ≡ true) (dt : distinct (leaves t) ≡ true)

@@ -11,7 +11,7 @@ use lib.Seq.{get_or-set_same, get_or-set_other}
 use borrow.Author.Tests.{eqb-true, eqb-false, ne_eqb}
 use Rattle.trees.specs.declared.TreeArrays.{TreeArrays}
 use Rattle.trees.specs.Label.{Label, is_in}
-use Rattle.trees.specs.Tree.{Tree, leaf, node}
+use Rattle.trees.specs.Tree.{Tree, leaf}
 use Rattle.trees.specs.Arrays.{nodes_of}
 use Rattle.trees.specs.Postorder.{postorder, subtree, LaidNode, laid_leaf, laid_node}
 use Rattle.trees.proofs.Bools.{bool_cases, refute}

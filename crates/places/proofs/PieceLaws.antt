@@ -33,7 +33,7 @@ use Rattle.pieces.proofs.ItemLaws.{items_count}
 use Rattle.places.specs.Nodes.{TreeRanks, RankNumbers, rank_among, line_at, HeadOn, no_leaf_lem, leaf_there, LinesByRank}
 use Rattle.places.specs.Marks.{no_mark, line_marks, marks_to, ListHolds}
 use Rattle.places.specs.PieceRanks.{PieceRanks}
-use Rattle.places.proofs.RankLaws.{marked_rank, rank_is, rank_own}
+use Rattle.places.proofs.RankLaws.{marked_rank, rank_own}
 use Rattle.places.proofs.TopLaws.{top_head, top_none}
 use Rattle.places.proofs.LineLaws.{line_test, line_cases}
 use Rattle.places.proofs.MarkLaws.{Shows, shows_length, shows_at, HeadFits, fits_none, fits_one, line_shows}

@@ -1,6 +1,6 @@
 -- Rows 1 to 5 of 01's table, "Why a job is turned down", stated for a text as a whole and not for a way to read it. `Whole` is the grammar
 -- of a body, limits and repeats left aside; `Crowd text i` means that row 4 applies at place i.
-use Rattle.std.specs.Prelude.{ℕ, suc, ◌+◌, ◌-◌, ◌<◌, ◌≤◌, ◌≡◌, ◌⊎◌, true, cond, ◌||◌, List, [], ◌∷◌, ◌++◌, eqb, length, get_or, take, drop}
+use Rattle.std.specs.Prelude.{ℕ, suc, ◌+◌, ◌<◌, ◌≤◌, ◌≡◌, ◌⊎◌, true, cond, ◌||◌, List, [], ◌∷◌, ◌++◌, eqb, length, get_or, take, drop}
 use Rattle.trees.specs.declared.Reason.{Reason}
 use Rattle.trees.specs.declared.Reason.TheVariants.{BadByte, EndsTooSoon, LabelTooLong, TooMany, Repeated}
 use Rattle.trees.specs.Bytes.{is_label_byte, open_byte, comma_byte, quote_byte}

@@ -1,6 +1,6 @@
 -- Rooted binary trees with labelled leaves, and when two of them are equal. 01, "Tree text". A tree that was read has tokens for labels;
 -- the tree that it decodes to has decoded labels (C-12).
-use Rattle.std.specs.Prelude.{ℕ, ◌+◌, ◌≤◌, ◌≡◌, true, cond, List, [], ◌∷◌, ◌++◌, length}
+use Rattle.std.specs.Prelude.{ℕ, ◌≤◌, ◌≡◌, true, cond, List, [], ◌∷◌, ◌++◌, length}
 use Rattle.trees.specs.Label.{Label, label_less, distinct}
 use Rattle.trees.specs.Token.{spelling, good_labels}
 

@@ -21,7 +21,7 @@ returns-then-not-is_known-clause-output c =
     let a = c.args in let l = leb-false a.flags 3 (sym c.is_known.ensures ∙ c.if-not-is_known.true) in
     let e = flags_refused a.flags a.first.now a.second.now a.required.now (length a.out.now) l in
     ap (λ
-          (x : Outcome Solution). output_of x a.out.now) (sym e)
+    (x : Outcome Solution). output_of x a.out.now) (sym e)
 
 pub returns-clause-numbers : goal.returns-clause-numbers
 returns-clause-numbers c =
@@ -34,4 +34,4 @@ returns-clause-output c =
     let a = c.args in let e = flags_known a.flags a.first.now a.second.now a.required.now (length a.out.now) _
     c.options_of-options.ensures in
     c.answered.ensures.output ∙ ap (λ
-          (x : Outcome Solution). output_of x a.out.now) (sym e)
+    (x : Outcome Solution). output_of x a.out.now) (sym e)

@@ -1,6 +1,5 @@
 -- `contents::begins_at` meets its contract. The invariant: what is left of the bytes stands from here on exactly if all of them stand
 -- from the place on. Assumes nothing.
-use Prim.Native.Nat.{◌-◌}
 use mathlib.Core.Path.{sym, ◌∙◌}
 use native.Mathlib.Omega.{arith}
 use Rattle.contents.proofs.BeginsLaws.{begins_same, begins_other, begins_past, begins_done}

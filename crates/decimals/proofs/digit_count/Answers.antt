@@ -1,5 +1,5 @@
 -- `digit_count` meets its contract. The invariant: so many digits the number has at least. Assumes nothing.
-use Prim.Native.Nat.{◌-◌, ◌^◌, ◌≤◌}
+use Prim.Native.Nat.{◌^◌, ◌≤◌}
 use native.Mathlib.Omega.{arith}
 use Rattle.decimals.proofs.DecimalLaws.{decimal_short}
 use Rattle.decimals.proofs.PlaceLaws.{one_digit, count_stop, count_go, power_at}

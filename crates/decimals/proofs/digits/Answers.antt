@@ -1,5 +1,4 @@
 -- `digits` meets its contract. The invariant: the digits put down, and those of what is left, are the number's. Assumes nothing.
-use Prim.Native.Nat.{◌-◌}
 use native.Mathlib.Omega.{arith}
 use Rattle.decimals.proofs.DecimalLaws.{decimal_short}
 use Rattle.decimals.proofs.PlaceLaws.{power_at, go_start, go_below, go_next, go_end}

@@ -32,8 +32,8 @@ returns-in-Found-clause-answer c =
     let l = c.largest_in_pieces-result in let f = told_as _ _ blank _ _ blank_room l.ensures.answer l.ensures.output l.ensures.pieces _ c.in-Found.is in
     let h = c.result_lines.ensures in let out = c.args.out.now in
     c.lines_answer.ensures ∙ record_told _ _ h.answer
-          ∙ ap (λ (t : List ℕ). record_answer t (length out)) f.lines
-          ∙ answered_found _ _ _ (solved c.args.pieces f.of) f.is
+    ∙ ap (λ (t : List ℕ). record_answer t (length out)) f.lines
+    ∙ answered_found _ _ _ (solved c.args.pieces f.of) f.is
 
 pub returns-in-Found-clause-output : goal.returns-in-Found-clause-output
 returns-in-Found-clause-output c =

@@ -29,7 +29,7 @@ pub returns-in-Naming-clause-answer : goal.returns-in-Naming-clause-answer
 returns-in-Naming-clause-answer c =
     let f = said_as _ _ _ (sym c.in-Naming.is ∙ c.judge-answer.ensures) in
     names_answered f c.args.at _ _ _
-          c.named_in.ensures c.base_of.ensures
+    c.named_in.ensures c.base_of.ensures
 
 pub returns-in-Naming-clause-output : goal.returns-in-Naming-clause-output
 returns-in-Naming-clause-output c =

@@ -29,37 +29,36 @@ answer_bodies-requires c =
 
 pub answer_claim-requires-clause-list_bound : goal.answer_claim-requires-clause-list_bound
 answer_claim-requires-clause-list_bound c =
-    let a = c.args in
-    (
-        omega (
-          arith,
-          list_ends a.job.now a.table c.requires.table_value,
-          c.place_of-2.ensures,
-          ap (length {A = ℕ})
-              c.bytes_of-k.ensures,
-          c.requires.job_len_bound,
-        ),
-        omega (
-          arith,
-          first_ends a.job.now a.table c.requires.table_value,
-          c.place_of.ensures,
-          ap (length {A = ℕ})
-              c.bytes_of-s.ensures,
-          c.requires.job_len_bound,
-        ),
-      )
+    let a = c.args in (
+      omega (
+        arith,
+        list_ends a.job.now a.table c.requires.table_value,
+        c.place_of-2.ensures,
+        ap (length {A = ℕ})
+            c.bytes_of-k.ensures,
+        c.requires.job_len_bound,
+      ),
+      omega (
+        arith,
+        first_ends a.job.now a.table c.requires.table_value,
+        c.place_of.ensures,
+        ap (length {A = ℕ})
+            c.bytes_of-s.ensures,
+        c.requires.job_len_bound,
+      ),
+    )
 
 pub answer_claim-requires-clause-claim_bound : goal.answer_claim-requires-clause-claim_bound
 answer_claim-requires-clause-claim_bound c =
     let a = c.args in
     omega (
-        arith,
-        claim_ends a.job.now a.table c.requires.table_value,
-        c.place_of-3.ensures,
-        ap (length {A = ℕ})
-            c.bytes_of.ensures,
-        c.requires.job_len_bound,
-      )
+      arith,
+      claim_ends a.job.now a.table c.requires.table_value,
+      c.place_of-3.ensures,
+      ap (length {A = ℕ})
+          c.bytes_of.ensures,
+      c.requires.job_len_bound,
+    )
 
 pub returns-in-Absent-clause-answer : goal.returns-in-Absent-clause-answer
 returns-in-Absent-clause-answer c =

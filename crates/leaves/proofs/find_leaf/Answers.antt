@@ -1,6 +1,5 @@
 -- `leaves::find_leaf` meets its contract: what is left of the search always gives what the whole search gives. Assumes nothing.
 use native.Mathlib.Nat.{sub-zero}
-use Prim.Native.Nat.{◌-◌}
 use mathlib.Core.Path.{refl, sym, ◌∙◌}
 use native.Mathlib.Omega.{arith}
 use Rattle.leaves.specs.Find.{found_leaf}

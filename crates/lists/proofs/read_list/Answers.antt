@@ -1,6 +1,6 @@
 -- `read_list` meets its contract. The loop's invariant: the stage machine goes on to the definition's answer, and every label so far has
 -- its mark. Assumes nothing.
-use Prim.Native.Nat.{ℕ, ◌-◌}
+use Prim.Native.Nat.{ℕ}
 use mathlib.Core.Path.{◌∙◌, ap, sym}
 use Rattle.trees.specs.Edition.{in_edition}
 use Rattle.trees.proofs.FoldLaws.{fold_size, kind_folded}

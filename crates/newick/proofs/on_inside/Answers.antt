@@ -36,4 +36,4 @@ unfolding inside_of
 returns-else-len-lt-LABEL_LIMIT-clause-size_after c = rw c.in-Label.is (rw (le-ltb _ _ c.if-len-lt-LABEL_LIMIT.false))
 
 pub returns-in_default : goal.returns-in_default
-returns-in_default c = record { size_after = c.on_label_end.ensures.size_after ∙ rest _ _ _ _ _ _ _ (opened c.in_default.in_default-own.keys2); slot_marks_2 = c.on_label_end.ensures.slot_marks_2; }
+returns-in_default c = record { size_after = c.on_label_end.ensures.size_after ∙ rest _ _ _ _ _ _ _ (opened c.in_default.in_default-own.keys2); slot_marks_2 = c.on_label_end.ensures.slot_marks_2 }

@@ -45,4 +45,4 @@ unfolding quoted_of closing_of
 returns-else-len-eq0-clause-by_index c = λ k. rw c.in-Quote.is (rw (ne_eqb _ _ c.if-len-eq0.false) (c.on_leaf.ensures.by_index _))
 
 pub returns-in_default : goal.returns-in_default
-returns-in_default c = record { by_index = λ k. rest _ _ _ _ _ _ _ (opened c.in_default.in_default-own.keys4); slot_marks_2 = c.requires.slot_marks; }
+returns-in_default c = record { by_index = λ k. rest _ _ _ _ _ _ _ (opened c.in_default.in_default-own.keys4); slot_marks_2 = c.requires.slot_marks }

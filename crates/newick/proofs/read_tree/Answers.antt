@@ -1,5 +1,5 @@
 -- `read_tree` answers what reading the text gives: the loop's state simulates the reading. Assumes nothing.
-use Prim.Native.Nat.{ℕ, ◌-◌}
+use Prim.Native.Nat.{ℕ}
 use mathlib.Core.List.{List}
 use mathlib.Core.Path.{ap, ◌∙◌, subst, sym}
 use native.Mathlib.Omega.{arith}

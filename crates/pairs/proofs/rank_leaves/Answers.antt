@@ -1,5 +1,5 @@
 -- Ranks: the invariant says that those of the first r common leaves are stored. Assumes nothing.
-use Prim.Native.Nat.{ℕ, ◌-◌}
+use Prim.Native.Nat.{ℕ}
 use mathlib.Core.Path.{◌≡◌, sym, ◌∙◌, ap, subst}
 use mathlib.Core.List.{List}
 use Rattle.table.specs.Choice.{Ranked}

@@ -1,5 +1,5 @@
 -- `queries::mark` meets its contract. Assumes nothing.
-use Prim.Native.Nat.{◌-◌, ◌<◌}
+use Prim.Native.Nat.{◌<◌}
 use mathlib.Core.Path.{◌≡◌, ◌∙◌, ap, subst, sym}
 use mathlib.Core.Bool.{false}
 use mathlib.Core.List.{map}
@@ -18,15 +18,15 @@ loop-k-init c =
 
 pub returns-then-r-m-clause-marked_to : goal.returns-then-r-m-clause-marked_to
 returns-then-r-m-clause-marked_to c = λ s C K o l i e n.
-      let g = c.args in let h : c.loop-k.k < g.places.count = c.loop-k-test.true in
-      let x = ap spelling (ap (in_edition g.edition) c.leaf_label.ensures ∙ sym (fold_part g.edition _ _
-      g.list.now)) ∙ list_part l c.loop-k.k h in
-      record {
-        marks = c.loop-k.invariant.1 s _ _ C K o l i e n;
-        stopped = λ q.
-            let f = c.rank_in-r.ensures.found_rank s _ _ C o e n in
-            subst (λ (y : Label). is_in y C ≡ false) x (f.missing (omega (arith, c.if-r-m.true)));
-      }
+    let g = c.args in let h : c.loop-k.k < g.places.count = c.loop-k-test.true in
+    let x = ap spelling (ap (in_edition g.edition) c.leaf_label.ensures ∙ sym (fold_part g.edition _ _
+    g.list.now)) ∙ list_part l c.loop-k.k h in
+    record {
+      marks = c.loop-k.invariant.1 s _ _ C K o l i e n;
+      stopped = λ q.
+          let f = c.rank_in-r.ensures.found_rank s _ _ C o e n in
+          subst (λ (y : Label). is_in y C ≡ false) x (f.missing (omega (arith, c.if-r-m.true)));
+    }
 
 pub loop-k-preserved : goal.loop-k-preserved
 loop-k-preserved c = (

@@ -1,5 +1,5 @@
 -- `queries::rank_in` meets its contract. Assumes nothing.
-use Prim.Native.Nat.{◌-◌, ◌<◌}
+use Prim.Native.Nat.{◌<◌}
 use mathlib.Core.Path.{◌≡◌, sym, ◌∙◌, ap}
 use mathlib.Core.List.{[]}
 use lib.ListN.{length, get_or}
@@ -16,13 +16,13 @@ pub returns-then-same_label-clause-found_rank : goal.returns-then-same_label-cla
 returns-then-same_label-clause-found_rank c =
     let a = c.args in
     λ s left nodes C o e n.
-          let h : c.loop-r.r < length C = omega (
-            arith,
-            c.loop-r-test.true,
-          ) in
-          rank_here o C a.order1.now n (key a.edition a.token.now) c.loop-r.r h
-          (ap (λ (x : Label). same_label (spelling x) (key a.edition a.token.now)) (fold_part a.edition _ _ a.text1.now ∙ ap
-          (in_edition a.edition) (sym c.leaf_label.ensures)) ∙ sym c.same_label.ensures ∙ c.if-same_label.true)
+    let h : c.loop-r.r < length C = omega (
+      arith,
+      c.loop-r-test.true,
+    ) in
+    rank_here o C a.order1.now n (key a.edition a.token.now) c.loop-r.r h
+    (ap (λ (x : Label). same_label (spelling x) (key a.edition a.token.now)) (fold_part a.edition _ _ a.text1.now ∙ ap
+    (in_edition a.edition) (sym c.leaf_label.ensures)) ∙ sym c.same_label.ensures ∙ c.if-same_label.true)
 
 pub loop-r-preserved : goal.loop-r-preserved
 loop-r-preserved c =
@@ -43,5 +43,5 @@ loop-r-preserved c =
 
 pub returns-clause-found_rank : goal.returns-clause-found_rank
 returns-clause-found_rank c = λ s left nodes C o e n.
-      rank_missing C _ c.loop-r.r (omega (arith, c.loop-r-test.false)) (λ q h. c.loop-r.invariant.1 s left nodes C o e n q
-      (omega (arith, c.loop-r-test.false)))
+    rank_missing C _ c.loop-r.r (omega (arith, c.loop-r-test.false)) (λ q h. c.loop-r.invariant.1 s left nodes C o e n q
+    (omega (arith, c.loop-r-test.false)))

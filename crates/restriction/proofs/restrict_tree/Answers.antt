@@ -1,5 +1,4 @@
 -- `restrict_tree` meets its contract. The loop's invariant: the arrays are those of the pass over the first u nodes. Assumes nothing.
-use Prim.Native.Nat.{◌-◌}
 use mathlib.Core.Path.{◌≡◌, refl, ◌∙◌, ap}
 use native.Mathlib.Omega.{arith}
 use native.Mathlib.Numerals.{add-one}
@@ -68,7 +67,7 @@ returns-clause-leaves c =
     let y = sized_start a.tree l r b z in
     let m = c.nodes_kept in
     result_own (start_of a.tree) a.kept (owned_start (start_of a.tree) refl y) n.result m.result (omega (arith, n.ensures)) s e
-              m.ensures
+    m.ensures
 
 pub returns-clause-fits : goal.returns-clause-fits
 returns-clause-fits c =

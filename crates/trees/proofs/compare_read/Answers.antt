@@ -1,5 +1,4 @@
 -- `compare_read` meets its contract. The loop keeps that the rests from place i on compare as the wholes do. Assumes nothing.
-use Prim.Native.Nat.{◌-◌}
 use native.Mathlib.Omega.{arith}
 use Rattle.trees.proofs.DecodeLaws.{read_both_end, read_first_ends, read_second_ends, read_less, read_greater, read_level}
 use Rattle.trees.proofs.compare_read.Goals as goal

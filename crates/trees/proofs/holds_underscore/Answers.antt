@@ -1,5 +1,4 @@
 -- `holds_underscore` meets its contract. The loop keeps that the rest from place i on holds one exactly if the whole does. Assumes nothing.
-use Prim.Native.Nat.{◌-◌}
 use native.Mathlib.Omega.{arith}
 use Rattle.trees.proofs.DecodeLaws.{under_none, under_found, under_later}
 use Rattle.trees.proofs.holds_underscore.Goals as goal

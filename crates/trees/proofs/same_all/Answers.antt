@@ -1,5 +1,4 @@
 -- `same_all` meets its contract. The loop keeps that the rests from place i on are the same exactly if the wholes are. Assumes nothing.
-use Prim.Native.Nat.{◌-◌}
 use mathlib.Core.Path.{sym, ◌∙◌}
 use native.Mathlib.Omega.{arith}
 use borrow.Author.Tests.{eqb-true, eqb-false}

@@ -1,5 +1,4 @@
 -- `shown` meets its contract. The loop keeps that the first i bytes of the form are written and 0 stands after them. Assumes nothing.
-use Prim.Native.Nat.{◌-◌}
 use mathlib.Core.Path.{◌≡◌, ◌∙◌}
 use native.Mathlib.Omega.{arith}
 use Rattle.trees.specs.Token.{token_limit}

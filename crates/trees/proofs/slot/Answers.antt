@@ -1,5 +1,4 @@
 -- `slot` meets its contract: the loop takes the definition's steps. Assumes nothing.
-use Prim.Native.Nat.{◌-◌}
 use mathlib.Core.Path.{sym, ap, ◌∙◌}
 use native.Mathlib.Omega.{arith}
 use Rattle.trees.specs.Stored.{read_as}

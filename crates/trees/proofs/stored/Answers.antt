@@ -1,5 +1,4 @@
 -- `stored` meets its contract. The loop keeps that the first i bytes are copied and 0 stands after them. Assumes nothing.
-use Prim.Native.Nat.{◌-◌}
 use mathlib.Core.Path.{◌≡◌, sym, ◌∙◌, ap}
 use native.Mathlib.Omega.{arith}
 use Rattle.trees.specs.Label.{label_limit}

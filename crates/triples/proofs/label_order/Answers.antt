@@ -1,5 +1,4 @@
 -- The invariant: each label passed has a label of its rank stored at its rank. Assumes nothing.
-use Prim.Native.Nat.{◌-◌}
 use native.Mathlib.Omega.{arith}
 use lib.ListN.{length-set, length-replicate}
 use Rattle.trees.specs.Edition.{in_edition}

@@ -1,5 +1,5 @@
 -- The invariant: the search from here on finds what the whole search finds. Assumes nothing.
-use Prim.Native.Nat.{ℕ, ◌-◌}
+use Prim.Native.Nat.{ℕ}
 use mathlib.Core.Path.{ap, sym, ◌∙◌}
 use native.Mathlib.Omega.{arith}
 use Rattle.trees.specs.declared.Reason.{Reason}

@@ -1,6 +1,5 @@
 -- The invariant: each label passed has its leaf number. Assumes nothing.
 use mathlib.Core.Path.{ap, sym, ◌≡◌, ◌∙◌}
-use Prim.Native.Nat.{◌-◌}
 use native.Mathlib.Omega.{arith}
 use Rattle.trees.specs.Edition.{in_edition}
 use Rattle.trees.proofs.FoldLaws.{fold_part}

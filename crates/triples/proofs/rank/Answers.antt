@@ -1,6 +1,6 @@
 -- The invariant: so many of the labels passed come before label k. Assumes nothing.
 use mathlib.Core.Path.{ap, ap₂, ◌≡◌, refl, sym, ◌∙◌}
-use Prim.Native.Nat.{◌+◌, ◌-◌}
+use Prim.Native.Nat.{◌+◌}
 use Rattle.triples.proofs.LoopLaws.{count_fits, less_count_next}
 use native.Mathlib.Omega.{arith}
 use Rattle.triples.specs.Loops.{less_count, rank_in}

@@ -1,5 +1,4 @@
 -- `writer::good_nodes` meets its contract. The invariant: every node passed is good. Assumes nothing.
-use Prim.Native.Nat.{◌-◌}
 use mathlib.Core.Path.{refl, sym, ◌∙◌}
 use native.Mathlib.Omega.{arith}
 use Rattle.trees.specs.Arrays.{good_nodes}
@@ -18,9 +17,8 @@ returns-then-not-good_node c =
     (sym c.good_node.ensures ∙ c.if-not-good_node.true)
 
 pub loop-u-preserved : goal.loop-u-preserved
-loop-u-preserved c =
-    (
-      omega arith,
-      good_more ((arrays_from c.args.nodes c.args.left.now c.args.right.now c.args.start.now c.args.size.now)) c.args.text.now c.loop-u.u c.loop-u.invariant.1
-          (sym c.good_node.ensures ∙ c.if-not-good_node.false),
-    )
+loop-u-preserved c = (
+  omega arith,
+  good_more ((arrays_from c.args.nodes c.args.left.now c.args.right.now c.args.start.now c.args.size.now)) c.args.text.now c.loop-u.u c.loop-u.invariant.1
+      (sym c.good_node.ensures ∙ c.if-not-good_node.false),
+)

@@ -24,11 +24,14 @@ returns-then-k-ge-NODE_LIMIT-clause-stored c =
     ap (λ (b : ℕ). sets a.out.now a.at (b ∷ [])) c.mark.ensures ∙ ap (sets a.out.now a.at) (sym e)
 
 pub put_bytes-requires : goal.put_bytes-requires
-put_bytes-requires c = omega (arith, ap length ((let a = (c).args in
-    token_bytes a.text.now a.start.now a.size.now a.k c.stored_leaf.result c.stored_leaf.ensures
-    c.shown-label.result c.shown-label.ensures _ c.first_bytes.ensures
-    ∙ sym (own_label a.text.now a.start.now a.size.now a.first.now a.k (omega (arith, c.if-k-ge-NODE_LIMIT.false))
-    (sym c.byte_entry.ensures ∙ c.if-byte_entry-k.true)))))
+put_bytes-requires c = omega (
+  arith,
+  ap length ((let a = (c).args in
+      token_bytes a.text.now a.start.now a.size.now a.k c.stored_leaf.result c.stored_leaf.ensures
+      c.shown-label.result c.shown-label.ensures _ c.first_bytes.ensures
+      ∙ sym (own_label a.text.now a.start.now a.size.now a.first.now a.k (omega (arith, c.if-k-ge-NODE_LIMIT.false))
+      (sym c.byte_entry.ensures ∙ c.if-byte_entry-k.true)))),
+)
 
 pub returns-then-byte_entry-k-clause-next : goal.returns-then-byte_entry-k-clause-next
 returns-then-byte_entry-k-clause-next c =

@@ -1,5 +1,4 @@
 -- `writer::sum_pass` meets its contract. The invariant: the sums are those of the pass so far. Assumes nothing.
-use Prim.Native.Nat.{◌-◌}
 use mathlib.Core.Path.{refl, ◌∙◌}
 use native.Mathlib.Omega.{arith}
 use lib.ListN.{length-set}

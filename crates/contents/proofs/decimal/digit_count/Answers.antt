@@ -2,7 +2,6 @@
 use Rattle.contents.proofs.RunLaws.{run_go, run_stop, run_end}
 use native.Mathlib.Omega.{arith}
 use mathlib.Core.Path.{sym, ◌∙◌}
-use Prim.Native.Nat.{◌-◌}
 use Rattle.contents.proofs.decimal.digit_count.Goals as goal
 
 pub returns-then-not-is_digit : goal.returns-then-not-is_digit

@@ -3,7 +3,7 @@ use Rattle.contents.proofs.RunLaws.{bound_more, bound_small, bound_none, value_l
 use native.Mathlib.Omega.{arith}
 use mathlib.Core.Path.{sym, ◌∙◌, ap}
 use lib.ListN.{get_or}
-use Prim.Native.Nat.{ℕ, ◌+◌, ◌-◌, ◌*◌, ◌<◌}
+use Prim.Native.Nat.{ℕ, ◌+◌, ◌*◌, ◌<◌}
 use Rattle.contents.proofs.decimal.value_of.Goals as goal
 
 pub loop-i-init : goal.loop-i-init

@@ -23,4 +23,4 @@ pub returns-clause-output : goal.returns-clause-output
 returns-clause-output c =
     let a = c.args in let p = c.put_bytes-end.ensures in
     handed a.text.now a.out.now _ _ p ∙ output_fits a.text.now
-          a.out.now (omega arith)
+    a.out.now (omega arith)

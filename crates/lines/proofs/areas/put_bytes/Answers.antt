@@ -1,7 +1,6 @@
 -- `lines::areas::put_bytes` meets its contract. The invariant: the bytes passed are put. Assumes nothing.
 use Rattle.lines.proofs.AreaLaws.{put_more}
 use native.Mathlib.Omega.{arith}
-use Prim.Native.Nat.{◌-◌}
 use Rattle.lines.proofs.areas.put_bytes.Goals as goal
 
 pub loop-i-preserved : goal.loop-i-preserved

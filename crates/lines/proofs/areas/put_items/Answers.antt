@@ -1,5 +1,5 @@
 -- `lines::areas::put_items` meets its contract. The invariant: the labels passed are put. Assumes nothing.
-use Prim.Native.Nat.{ℕ, ◌-◌}
+use Prim.Native.Nat.{ℕ}
 use mathlib.Core.Path.{sym, ap, ap₂}
 use mathlib.Core.Bool.{Bool, false}
 use native.Mathlib.Omega.{arith}

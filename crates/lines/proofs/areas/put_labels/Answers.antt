@@ -6,7 +6,7 @@ use Rattle.trees.specs.Token.{token_of}
 use mathlib.Core.Path.{ap}
 use native.Mathlib.Omega.{arith}
 use lib.ListN.{length, get_or}
-use Prim.Native.Nat.{ℕ, ◌-◌}
+use Prim.Native.Nat.{ℕ}
 use Rattle.lines.proofs.areas.put_labels.Goals as goal
 
 pub loop-i-init : goal.loop-i-init

@@ -31,21 +31,21 @@ unfolding bytes_of
 returns-clause-put c =
     let a = c.args in
     put_as _ _ (pieces_parts a.text.now a.start.now a.size.now a.head.now a.count)
-          (put_then (put_then (put_then (put_then c.put_bytes-a.ensures c.put_number-n.ensures) c.put_byte-c.ensures) c.put_items-d.ensures.put)
-          c.put_end.ensures)
+    (put_then (put_then (put_then (put_then c.put_bytes-a.ensures c.put_number-n.ensures) c.put_byte-c.ensures) c.put_items-d.ensures.put)
+    c.put_end.ensures)
 
 pub returns-clause-upper_bound : goal.returns-clause-upper_bound
 unfolding bytes_of
 returns-clause-upper_bound c =
     let a = c.args in
     omega (
-        arith,
-        c.put_bytes-a.ensures,
-        c.put_number-n.ensures,
-        c.put_byte-c.ensures,
-        c.put_items-d.ensures.upper_bound,
-        c.put_end.ensures.ends,
-        end_short a.count,
-        decimal_short a.count,
-        c.requires,
-      )
+      arith,
+      c.put_bytes-a.ensures,
+      c.put_number-n.ensures,
+      c.put_byte-c.ensures,
+      c.put_items-d.ensures.upper_bound,
+      c.put_end.ensures.ends,
+      end_short a.count,
+      decimal_short a.count,
+      c.requires,
+    )

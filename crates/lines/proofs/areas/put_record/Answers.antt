@@ -13,13 +13,13 @@ put_bytes-c-requires c =
 
 pub put_labels-d-requires-clause-count_in_bounds : goal.put_labels-d-requires-clause-count_in_bounds
 put_labels-d-requires-clause-count_in_bounds c = omega (
-        arith,
-        c.put_bytes-a.ensures,
-        c.put_number-b.ensures,
-        c.put_bytes-c.ensures,
-        size_short c.args.count c.requires.count_le_leaf_limit,
-        c.requires,
-      )
+  arith,
+  c.put_bytes-a.ensures,
+  c.put_number-b.ensures,
+  c.put_bytes-c.ensures,
+  size_short c.args.count c.requires.count_le_leaf_limit,
+  c.requires,
+)
 
 pub put_bytes-e-requires : goal.put_bytes-e-requires
 put_bytes-e-requires c =

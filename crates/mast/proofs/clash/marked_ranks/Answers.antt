@@ -1,5 +1,4 @@
 -- `clash::marked_ranks` meets its contract. Assumes nothing.
-use Prim.Native.Nat.{◌-◌}
 use native.Mathlib.Omega.{arith}
 use Rattle.mast.proofs.RequiredLaws.{ranks_none, ranks_next}
 use Rattle.mast.proofs.clash.marked_ranks.Goals as goal

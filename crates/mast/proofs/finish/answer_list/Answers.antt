@@ -17,72 +17,72 @@ pub returns-in-Agreed-clause-answer : goal.returns-in-Agreed-clause-answer
 returns-in-Agreed-clause-answer c =
     let a = c.args in
     λ b l.
-          let w = (c.settle-settled.ensures b l).agreed c.in-Agreed.is in
-          c.with_pieces.ensures.result_value ∙ c.solution-result.ensures.answer b.s b.t l.xs _ (set_by_rank b)
-          ∙ ap largest_of (sym (answered_set a.edition (trees_in b) l.xs a.out.now _ w.set))
+    let w = (c.settle-settled.ensures b l).agreed c.in-Agreed.is in
+    c.with_pieces.ensures.result_value ∙ c.solution-result.ensures.answer b.s b.t l.xs _ (set_by_rank b)
+    ∙ ap largest_of (sym (answered_set a.edition (trees_in b) l.xs a.out.now _ w.set))
 
 pub returns-in-Agreed-clause-output : goal.returns-in-Agreed-clause-output
 returns-in-Agreed-clause-output c =
     let a = c.args in
     λ b l.
-            let w = (c.settle-settled.ensures b l).agreed c.in-Agreed.is in
-            c.solution-result.ensures.output b.s b.t l.xs _ (set_by_rank b)
-            ∙ ap (λ (x : Outcome Solution). output_of x a.out.now)
-            (sym (answered_set a.edition (trees_in b) l.xs a.out.now _ w.set))
+    let w = (c.settle-settled.ensures b l).agreed c.in-Agreed.is in
+    c.solution-result.ensures.output b.s b.t l.xs _ (set_by_rank b)
+    ∙ ap (λ (x : Outcome Solution). output_of x a.out.now)
+    (sym (answered_set a.edition (trees_in b) l.xs a.out.now _ w.set))
 
 pub returns-in-Agreed-clause-pieces : goal.returns-in-Agreed-clause-pieces
 returns-in-Agreed-clause-pieces c =
     let a = c.args in
     λ on b l.
-            let w = (c.settle-settled.ensures b l).agreed c.in-Agreed.is in
-            subst (λ (x : Outcome Solution). PiecesWith x c.with_pieces.result.pieces)
-            (sym (answered_set a.edition (trees_in b) l.xs a.out.now _ w.set))
-            (pieces_fitted _ _ _ _ (c.solution-result.ensures.answer b.s b.t l.xs _ (set_by_rank b))
-            (λ n m f. c.with_pieces.ensures.pieces_at on n m f a.edition b.s b.t l.xs _ w.asked w.set)
-            c.with_pieces.ensures.by_index)
+    let w = (c.settle-settled.ensures b l).agreed c.in-Agreed.is in
+    subst (λ (x : Outcome Solution). PiecesWith x c.with_pieces.result.pieces)
+    (sym (answered_set a.edition (trees_in b) l.xs a.out.now _ w.set))
+    (pieces_fitted _ _ _ _ (c.solution-result.ensures.answer b.s b.t l.xs _ (set_by_rank b))
+    (λ n m f. c.with_pieces.ensures.pieces_at on n m f a.edition b.s b.t l.xs _ w.asked w.set)
+    c.with_pieces.ensures.by_index)
 
 pub returns-in-Naming-clause-answer : goal.returns-in-Naming-clause-answer
 returns-in-Naming-clause-answer c =
     let a = c.args in
     λ b l.
-          let w = (c.settle-settled.ensures b l).disagreement _ _ c.in-Naming.is in
-          c.unanswered.ensures.result_value
-          ∙ naming_answer _ a.out.now _ _ _ w.named
-          (answered_naming a.edition (trees_in b) l.xs a.out.now _ _ w.is)
+    let w = (c.settle-settled.ensures b l).disagreement _ _ c.in-Naming.is in
+    c.unanswered.ensures.result_value
+    ∙ naming_answer _ a.out.now _ _ _ w.named
+    (answered_naming a.edition (trees_in b) l.xs a.out.now _ _ w.is)
 
 pub returns-in-Naming-clause-output : goal.returns-in-Naming-clause-output
 returns-in-Naming-clause-output c =
     let a = c.args in
     λ b l.
-            let w = (c.settle-settled.ensures b l).disagreement _ _ c.in-Naming.is in
-            naming_output _ a.out.now _ _ (answered_naming a.edition (trees_in b) l.xs a.out.now _ _ w.is)
+    let w = (c.settle-settled.ensures b l).disagreement _ _ c.in-Naming.is in
+    naming_output _ a.out.now _ _ (answered_naming a.edition (trees_in b) l.xs a.out.now _ _ w.is)
 
 pub returns-in-Naming-clause-pieces : goal.returns-in-Naming-clause-pieces
 returns-in-Naming-clause-pieces c =
     let a = c.args in
     λ on b l.
-            let w = (c.settle-settled.ensures b l).disagreement _ _ c.in-Naming.is in
-            pieces_naming _ _ _ _ (answered_naming a.edition (trees_in b) l.xs a.out.now _ _ w.is) c.unanswered.ensures.count_value
+    let w = (c.settle-settled.ensures b l).disagreement _ _ c.in-Naming.is in
+    pieces_naming _ _ _ _ (answered_naming a.edition (trees_in b) l.xs a.out.now _ _ w.is) c.unanswered.ensures.count_value
 
 pub returns-in-Refused-clause-answer : goal.returns-in-Refused-clause-answer
 returns-in-Refused-clause-answer c =
     let a = c.args in
     λ b l.
-          c.unanswered-in-Refused.ensures.result_value
-          ∙ refused_answer _ a.out.now _
-          (answered_refused a.edition (trees_in b) l.xs a.out.now _ ((c.settle-settled.ensures b l).lack _ c.in-Refused.is))
+    c.unanswered-in-Refused.ensures.result_value
+    ∙ refused_answer _ a.out.now _
+    (answered_refused a.edition (trees_in b) l.xs a.out.now _ ((c.settle-settled.ensures b l).lack _ c.in-Refused.is))
 
 pub returns-in-Refused-clause-output : goal.returns-in-Refused-clause-output
 returns-in-Refused-clause-output c =
     let a = c.args in
     λ b l.
-            refused_output _ a.out.now _
-            (answered_refused a.edition (trees_in b) l.xs a.out.now _ ((c.settle-settled.ensures b l).lack _ c.in-Refused.is))
+    refused_output _ a.out.now _
+    (answered_refused a.edition (trees_in b) l.xs a.out.now _ ((c.settle-settled.ensures b l).lack _ c.in-Refused.is))
 
 pub returns-in-Refused-clause-pieces : goal.returns-in-Refused-clause-pieces
 returns-in-Refused-clause-pieces c =
     let a = c.args in
     λ on b l.
-            pieces_refused _ _ _
-            (answered_refused a.edition (trees_in b) l.xs a.out.now _ ((c.settle-settled.ensures b l).lack _ c.in-Refused.is))
-            c.unanswered-in-Refused.ensures.count_value
+    pieces_refused _ _ _
+    (answered_refused a.edition (trees_in b) l.xs a.out.now _ ((c.settle-settled.ensures b l).lack _ c.in-Refused.is))
+    c.unanswered-in-Refused.ensures.count_value

@@ -1,5 +1,4 @@
 -- `finish::set_places` meets its contract. Assumes nothing.
-use Prim.Native.Nat.{◌-◌}
 use mathlib.Core.Path.{◌∙◌, ap}
 use native.Mathlib.Omega.{arith}
 use Rattle.mast.specs.Largest.{set_places}

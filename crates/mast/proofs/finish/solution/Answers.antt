@@ -12,35 +12,38 @@ use Rattle.mast.proofs.finish.solution.Goals as goal
 pub returns-in_default : goal.returns-in_default
 returns-in_default c =
     let a = c.args in
-    record { answer = λ s t xs C k.
+    record {
+      answer = λ s t xs C k.
           c.without_set.ensures
           ∙ set_refused (solution a.edition s t xs (chosen_from a.chosen.now 0 C)) (tree_of c.restrict_tree.result a.text.now) a.out.now
           (restricted_text k t xs _ _ (c.kept_leaves-kept.ensures (keyed a.edition s) C (ranked_proper k) k.count k.numbered) _
           c.restrict_tree.ensures.tree)
-          (λ n e. not_written c.write_tree-written.result (opened c.in_default.in_default-own.keys2) n (c.write_tree-written.ensures.answer ∙ e)); output = λ s t xs C k.
+          (λ n e. not_written c.write_tree-written.result (opened c.in_default.in_default-own.keys2) n (c.write_tree-written.ensures.answer ∙ e));
+      output = λ s t xs C k.
           c.write_tree-written.ensures.output
           ∙ set_output (solution a.edition s t xs (chosen_from a.chosen.now 0 C)) (tree_of c.restrict_tree.result a.text.now) a.out.now
           (restricted_text k t xs _ _ (c.kept_leaves-kept.ensures (keyed a.edition s) C (ranked_proper k) k.count k.numbered) _
-          c.restrict_tree.ensures.tree); }
+          c.restrict_tree.ensures.tree);
+    }
 
 pub returns-clause-answer : goal.returns-clause-answer
 returns-clause-answer c =
     let a = c.args in
     λ s t xs C k.
-          let e = k.arrays_is ∙ sym (arrays_folded a.edition s) in
-          placed_result _ _ (chosen_from a.chosen.now 0 C) _
-          (c.set_places-set.ensures (folded a.edition s) C (valid_folded a.edition s k.valid) (ap (λ t. t.start) e) (ap (λ t. t.size) e)
-          k.count k.numbered)
-          ∙ set_written (solution a.edition s t xs (chosen_from a.chosen.now 0 C)) (tree_of c.restrict_tree.result a.text.now) a.out.now
-          (restricted_text k t xs _ _ (c.kept_leaves-kept.ensures (keyed a.edition s) C (ranked_proper k) k.count k.numbered) _
-          c.restrict_tree.ensures.tree)
-          _ (sym c.write_tree-written.ensures.answer ∙ c.in-Written.is)
+    let e = k.arrays_is ∙ sym (arrays_folded a.edition s) in
+    placed_result _ _ (chosen_from a.chosen.now 0 C) _
+    (c.set_places-set.ensures (folded a.edition s) C (valid_folded a.edition s k.valid) (ap (λ t. t.start) e) (ap (λ t. t.size) e)
+    k.count k.numbered)
+    ∙ set_written (solution a.edition s t xs (chosen_from a.chosen.now 0 C)) (tree_of c.restrict_tree.result a.text.now) a.out.now
+    (restricted_text k t xs _ _ (c.kept_leaves-kept.ensures (keyed a.edition s) C (ranked_proper k) k.count k.numbered) _
+    c.restrict_tree.ensures.tree)
+    _ (sym c.write_tree-written.ensures.answer ∙ c.in-Written.is)
 
 pub returns-clause-output : goal.returns-clause-output
 returns-clause-output c =
     let a = c.args in
     λ s t xs C k.
-          c.write_tree-written.ensures.output
-          ∙ set_output (solution a.edition s t xs (chosen_from a.chosen.now 0 C)) (tree_of c.restrict_tree.result a.text.now) a.out.now
-          (restricted_text k t xs _ _ (c.kept_leaves-kept.ensures (keyed a.edition s) C (ranked_proper k) k.count k.numbered) _
-          c.restrict_tree.ensures.tree)
+    c.write_tree-written.ensures.output
+    ∙ set_output (solution a.edition s t xs (chosen_from a.chosen.now 0 C)) (tree_of c.restrict_tree.result a.text.now) a.out.now
+    (restricted_text k t xs _ _ (c.kept_leaves-kept.ensures (keyed a.edition s) C (ranked_proper k) k.count k.numbered) _
+    c.restrict_tree.ensures.tree)

@@ -9,14 +9,14 @@ use Rattle.pairs.proofs.ranks.add_common.Goals as goal
 
 pub returns-then-m-most-clause-collected : goal.returns-then-m-most-clause-collected
 returns-then-m-most-clause-collected c = λ s t left nodes o vt b h p k.
-      collected_full (own_proper o) (valid_decoded t vt) (rw (← own_nodes o) h) p k _ b c.if-m-most.true
+    collected_full (own_proper o) (valid_decoded t vt) (rw (← own_nodes o) h) p k _ b c.if-m-most.true
 
 pub returns-then-v-ge-NONE-clause-collected : goal.returns-then-v-ge-NONE-clause-collected
 returns-then-v-ge-NONE-clause-collected c = λ s t left nodes o vt b h p k.
-      collected_none (own_proper o) (valid_decoded t vt) (rw (← own_nodes o) h) p k c.if-v-ge-NONE.true
+    collected_none (own_proper o) (valid_decoded t vt) (rw (← own_nodes o) h) p k c.if-v-ge-NONE.true
 
 pub returns-clause-collected : goal.returns-clause-collected
 returns-clause-collected c = λ s t left nodes o vt b h p k.
-      collected_add (own_proper o) (valid_decoded t vt) (rw (← own_nodes o) h) p k (omega (arith, c.if-v-ge-NONE.false)) _ (stored_at o _) _
-      (c.insert_leaf.ensures s left nodes (common_from (decoded s) (decoded t) (c.args.u + 1)) o
-      (from_inc (decoded s) (decoded t) _ (own_proper o).different) k.count k.first k.size1)
+    collected_add (own_proper o) (valid_decoded t vt) (rw (← own_nodes o) h) p k (omega (arith, c.if-v-ge-NONE.false)) _ (stored_at o _) _
+    (c.insert_leaf.ensures s left nodes (common_from (decoded s) (decoded t) (c.args.u + 1)) o
+    (from_inc (decoded s) (decoded t) _ (own_proper o).different) k.count k.first k.size1)

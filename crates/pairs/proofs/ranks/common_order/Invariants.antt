@@ -1,5 +1,5 @@
 -- `ranks::common_order` meets its contract. Assumes nothing.
-use Prim.Native.Nat.{◌-◌, ◌≤◌}
+use Prim.Native.Nat.{◌≤◌}
 use mathlib.Core.Path.{◌≡◌}
 use Rattle.trees.specs.Edition.{in_edition}
 use Rattle.trees.specs.Tree.{Tree, decoded, Valid}

@@ -9,8 +9,8 @@ use Rattle.pairs.proofs.ranks.order_in.Goals as goal
 
 pub returns-clause-ordered : goal.returns-clause-ordered
 returns-clause-ordered c = λ s t one valid2 bound p.
-          let w = collected_all (decoded s) (decoded t) _ c.second_leaves-second.result _ _ (c.common_order-count.ensures.collected s t one valid2 bound p)
-          (subst (λ (n : ℕ). Partners n (decoded s) (decoded t) c.args.partner.now) (own_nodes one) p)
-          c.second_leaves-second.ensures in
-          ordered_narrow w _ _ c.common_order-count.ensures.upper_bound (own_proper one) (valid_decoded t valid2) c.narrowed.ensures
-          c.narrowed-2.ensures
+    let w = collected_all (decoded s) (decoded t) _ c.second_leaves-second.result _ _ (c.common_order-count.ensures.collected s t one valid2 bound p)
+    (subst (λ (n : ℕ). Partners n (decoded s) (decoded t) c.args.partner.now) (own_nodes one) p)
+    c.second_leaves-second.ensures in
+    ordered_narrow w _ _ c.common_order-count.ensures.upper_bound (own_proper one) (valid_decoded t valid2) c.narrowed.ensures
+    c.narrowed-2.ensures

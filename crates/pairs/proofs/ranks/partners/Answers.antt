@@ -1,5 +1,5 @@
 -- `ranks::partners` meets its contract. Assumes nothing.
-use Prim.Native.Nat.{ℕ, ◌-◌}
+use Prim.Native.Nat.{ℕ}
 use mathlib.Core.Path.{◌≡◌, ◌∙◌, ap, subst, sym}
 use lib.ListN.{length-set}
 use native.Mathlib.Omega.{arith}

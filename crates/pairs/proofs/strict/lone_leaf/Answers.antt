@@ -1,5 +1,4 @@
 -- `strict::lone_leaf` meets its contract. Assumes nothing.
-use Prim.Native.Nat.{◌-◌}
 use mathlib.Core.Path.{sym, ◌∙◌}
 use native.Mathlib.Omega.{arith}
 use Rattle.pairs.proofs.StrayLaws.{lone_start, lone_found, lone_next, lone_none}
@@ -11,13 +10,13 @@ loop-u-init c =
 
 pub returns-then-is_lone-clause-lone : goal.returns-then-is_lone-clause-lone
 returns-then-is_lone-clause-lone c = λ s t left_is nodes_is v p.
-      record {
-        found = λ h.
-            lone_found left_is nodes_is v p _ (c.loop-u.invariant.1 s t left_is nodes_is v p)
-            (omega (arith, c.loop-u-test.true))
-            (sym (rw c.wide.ensures at c.is_lone.ensures) ∙ c.if-is_lone.true);
-        missing = λ h. absurd (omega (arith, nodes_is, c.loop-u-test.true));
-      }
+    record {
+      found = λ h.
+          lone_found left_is nodes_is v p _ (c.loop-u.invariant.1 s t left_is nodes_is v p)
+          (omega (arith, c.loop-u-test.true))
+          (sym (rw c.wide.ensures at c.is_lone.ensures) ∙ c.if-is_lone.true);
+      missing = λ h. absurd (omega (arith, nodes_is, c.loop-u-test.true));
+    }
 
 pub loop-u-preserved : goal.loop-u-preserved
 loop-u-preserved c = (
@@ -30,11 +29,11 @@ loop-u-preserved c = (
 
 pub returns-clause-lone : goal.returns-clause-lone
 returns-clause-lone c = λ s t left_is nodes_is v p.
-      record {
-        found = λ h. absurd (omega (arith, nodes_is, c.loop-u-test.false));
-        missing = λ h. lone_none left_is nodes_is v p c.loop-u.u (c.loop-u.invariant.1 s t left_is nodes_is v p) (omega (
-          arith,
-          nodes_is,
-          h,
-        ));
-      }
+    record {
+      found = λ h. absurd (omega (arith, nodes_is, c.loop-u-test.false));
+      missing = λ h. lone_none left_is nodes_is v p c.loop-u.u (c.loop-u.invariant.1 s t left_is nodes_is v p) (omega (
+        arith,
+        nodes_is,
+        h,
+      ));
+    }

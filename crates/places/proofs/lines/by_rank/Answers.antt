@@ -1,5 +1,4 @@
 -- `lines::by_rank` meets its contract. Assumes nothing.
-use Prim.Native.Nat.{◌-◌}
 use mathlib.Core.Path.{◌≡◌, ◌∙◌}
 use mathlib.Core.Path.{refl}
 use native.Mathlib.Omega.{arith}

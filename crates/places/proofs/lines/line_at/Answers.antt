@@ -20,4 +20,4 @@ unfolding line_at
 returns-clause-value c =
     let a = c.args in
     rw (eq-eqb _ _ c.if-number-ne0.false, eq-eqb a.one a.two (omega (arith, c.if-one-two.false)))
-          (omega (arith, c.least.ensures, c.wide.ensures))
+    (omega (arith, c.least.ensures, c.wide.ensures))

@@ -1,5 +1,4 @@
 -- `listing::list_leaves` meets its contract. Assumes nothing.
-use Prim.Native.Nat.{◌-◌}
 use native.Mathlib.Omega.{arith}
 use Rattle.places.proofs.MarkLaws.{hold_as, leaves_none, leaves_next}
 use Rattle.places.proofs.listing.list_leaves.Goals as goal

@@ -1,5 +1,5 @@
 -- `listing::list_lines` meets its contract. Assumes nothing.
-use Prim.Native.Nat.{ℕ, ◌-◌}
+use Prim.Native.Nat.{ℕ}
 use lib.ListN.{length-replicate}
 use mathlib.Core.Bool.{Bool, false}
 use mathlib.Core.Path.{refl}

@@ -1,5 +1,5 @@
 -- `columns::gathered` meets its contract. Assumes nothing.
-use Rattle.std.proofs.Common.{◌-◌, arith}
+use Rattle.std.proofs.Common.{arith}
 use Rattle.table.proofs.ColumnLaws.{gathered_none, gathered_next}
 use Rattle.table.proofs.columns.gathered.Goals as goal
 

@@ -1,5 +1,5 @@
 -- `fill::fill_inner` meets its contract. Assumes nothing.
-use Rattle.std.proofs.Common.{◌-◌, ◌<◌, arith}
+use Rattle.std.proofs.Common.{◌<◌, arith}
 use Rattle.table.specs.Table.{nodes_at}
 use Rattle.table.proofs.RowLaws.{inner_row_next}
 use Rattle.table.proofs.fill.fill_inner.Goals as goal

@@ -1,5 +1,5 @@
 -- `fill::fill_leaf` meets its contract. Assumes nothing.
-use Rattle.std.proofs.Common.{◌-◌, ◌<◌, sym, arith}
+use Rattle.std.proofs.Common.{◌<◌, sym, arith}
 use Rattle.table.specs.Table.{column_at}
 use Rattle.table.proofs.RowLaws.{span_before, span_row_next}
 use Rattle.table.proofs.fill.fill_leaf.Goals as goal

@@ -1,5 +1,5 @@
 -- `weights::put_weights` meets its contract. Assumes nothing.
-use Rattle.std.proofs.Common.{◌-◌, ◌<◌, ◌∙◌, arith}
+use Rattle.std.proofs.Common.{◌<◌, ◌∙◌, arith}
 use Rattle.table.proofs.WeighingLaws.{power_79, power_half, weights_none, weights_next}
 use Rattle.table.proofs.weights.put_weights.Goals as goal
 

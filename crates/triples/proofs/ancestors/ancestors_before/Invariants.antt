@@ -1,5 +1,5 @@
 -- The invariant: each node passed, from u down, has its ancestor with u, and lower ones search on from w. Assumes nothing.
-use Prim.Native.Nat.{ℕ, ◌≤◌, ◌<◌, ◌-◌, ◌%◌}
+use Prim.Native.Nat.{ℕ, ◌≤◌, ◌<◌, ◌%◌}
 use mathlib.Core.Path.{◌≡◌}
 use lib.ListN.{length, get_or}
 use Rattle.triples.specs.Loops.{span_from}

@@ -1,7 +1,7 @@
 -- The invariant: each rank passed has its number, by the side of u that its leaf is on. Assumes nothing.
 use Rattle.triples.proofs.SpanLaws.{on_side_is}
 use Rattle.triples.specs.Loops.{lca_number}
-use Prim.Native.Nat.{ℕ, ◌<◌, ◌-◌, ◌%◌}
+use Prim.Native.Nat.{ℕ, ◌<◌, ◌%◌}
 use mathlib.Core.Path.{◌≡◌, ◌∙◌, ap₂}
 use native.Mathlib.Omega.{arith}
 use lib.ListN.{get_or, length-set}

@@ -1,5 +1,4 @@
 -- The invariant: the search from here on finds what the search of all later ranks finds. Assumes nothing.
-use Prim.Native.Nat.{◌-◌}
 use mathlib.Core.Path.{refl, sym, ◌∙◌}
 use native.Mathlib.Omega.{arith}
 use lib.Dec.{ltb}

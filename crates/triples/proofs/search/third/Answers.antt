@@ -1,5 +1,5 @@
 -- The invariant: the search from here on finds what the search of all later ranks finds. Assumes nothing.
-use Prim.Native.Nat.{ℕ, ◌-◌}
+use Prim.Native.Nat.{ℕ}
 use mathlib.Core.Path.{refl, sym, ◌∙◌, ap₂}
 use native.Mathlib.Omega.{arith}
 use lib.ListN.{get_or}
