@@ -7,11 +7,11 @@
 
 use lines::LINES_ROOM;
 
-fn main() {
+fn main(rt: HostRuntime) {
     let mut input = job::job_area();
-    let n = io::read_full(0, &mut input);
+    let n = streams::read_full(&mut rt.stdin(), &mut input);
     let mut area = [0u8; LINES_ROOM];
     let out: &mut [u8] = &mut area;
     let answer = job::print_job(&input[..n], out);
-    io::write_all(1, lines::written(out, answer));
+    streams::write_all(&mut rt.stdout(), lines::written(out, answer));
 }

@@ -6,24 +6,28 @@
 #![tactic(auto)]
 
 use newick::TreeAnswer;
+use std::io::Write;
 use trees::{Body, Edition, Refusal, TOKEN_LIMIT, TREE_ROOM};
 use writer::WriteAnswer;
 
 const INPUT_ROOM: usize = TREE_ROOM + TOKEN_LIMIT + 1;
 
-fn print_refusal(refusal: Refusal) {
-    let mut area = io::buffer();
+// More than any refusal's line takes.
+const REFUSAL_ROOM: usize = 4096;
+
+fn print_refusal<W: Write>(output: &mut W, refusal: Refusal) {
+    let mut area = [0u8; REFUSAL_ROOM];
     let out: &mut [u8] = &mut area;
     let answer = lines::refusal_line(refusal, out);
-    io::write_all(1, lines::written(out, answer));
+    streams::write_all(output, lines::written(out, answer));
 }
 
 // The line for a text. The writer has room for every tree that was read, so it always writes.
-fn print_line(text: &[u8]) {
+fn print_line<W: Write>(output: &mut W, text: &[u8]) {
     let read = newick::read_tree(Edition::One, text, Body::S);
     let answer = read.answer;
     if let TreeAnswer::Refused(refusal) = answer {
-        print_refusal(refusal);
+        print_refusal(output, refusal);
         return;
     }
     let tree = read.tree;
@@ -31,13 +35,13 @@ fn print_line(text: &[u8]) {
     let out: &mut [u8] = &mut area;
     let written = writer::write_tree(Edition::One, tree, text, out);
     if let WriteAnswer::Written(n) = written {
-        io::write_all(1, trees::part(out, 0, n));
-        io::write_all(1, b"\n");
+        streams::write_all(output, trees::part(out, 0, n));
+        streams::write_all(output, b"\n");
     }
 }
 
-fn main() {
+fn main(rt: HostRuntime) {
     let mut input = [0u8; INPUT_ROOM];
-    let n = io::read_full(0, &mut input);
-    print_line(&input[..n]);
+    let n = streams::read_full(&mut rt.stdin(), &mut input);
+    print_line(&mut rt.stdout(), &input[..n]);
 }

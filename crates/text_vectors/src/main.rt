@@ -8,21 +8,28 @@ ghost use Rattle.std.specs.Prelude.{◌+◌, ◌≤◌, ◌<◌, length};
 
 use lists::{LabelPlaces, ListAnswer};
 use newick::TreeAnswer;
+use std::io::{Read, Write};
 use trees::{Body, Edition, Reason, Refusal, TREE_ROOM};
 use writer::WriteAnswer;
 
-fn print_refusal(refusal: Refusal) {
-    let mut area = io::buffer();
+// More than any refusal's line takes.
+const REFUSAL_ROOM: usize = 4096;
+
+// No text of a case is longer than the greatest number of two bytes.
+const CASE_ROOM: usize = 65536;
+
+fn print_refusal<W: Write>(output: &mut W, refusal: Refusal) {
+    let mut area = [0u8; REFUSAL_ROOM];
     let out: &mut [u8] = &mut area;
     let answer = lines::refusal_line(refusal, out);
-    io::write_all(1, lines::written(out, answer));
+    streams::write_all(output, lines::written(out, answer));
 }
 
-fn print_tree(edition: Edition, text: &[u8]) {
+fn print_tree<W: Write>(output: &mut W, edition: Edition, text: &[u8]) {
     let read = newick::read_tree(edition, text, Body::S);
     let answer = read.answer;
     if let TreeAnswer::Refused(refusal) = answer {
-        print_refusal(refusal);
+        print_refusal(output, refusal);
         return;
     }
     let tree = read.tree;
@@ -30,51 +37,63 @@ fn print_tree(edition: Edition, text: &[u8]) {
     let out: &mut [u8] = &mut area;
     let written = writer::write_tree(edition, tree, text, out);
     if let WriteAnswer::Written(n) = written {
-        io::write_all(1, trees::part(out, 0, n));
-        io::write_all(1, b"\n");
+        streams::write_all(output, trees::part(out, 0, n));
+        streams::write_all(output, b"\n");
     }
 }
 
 // Label i of a list, with a comma before it unless it is the first.
-fn print_label(text: &[u8], start: &[u16; 80], size: &[u8; 80], i: usize) {
+fn print_label<W: Write>(
+    output: &mut W,
+    text: &[u8],
+    start: &[u16; 80],
+    size: &[u8; 80],
+    i: usize,
+) {
     if 80 <= i {
         return;
     }
     if 0 < i {
-        io::write_all(1, b",");
+        streams::write_all(output, b",");
     }
-    io::write_all(1, trees::leaf_label(text, start, size, i));
+    streams::write_all(output, trees::leaf_label(text, start, size, i));
 }
 
-fn print_labels(text: &[u8], start: &[u16; 80], size: &[u8; 80], count: usize) {
+fn print_labels<W: Write>(
+    output: &mut W,
+    text: &[u8],
+    start: &[u16; 80],
+    size: &[u8; 80],
+    count: usize,
+) {
     let mut i: usize = 0;
     while i < count {
-        print_label(text, start, size, i);
+        print_label(output, text, start, size, i);
         i += 1;
     }
 }
 
-fn print_number(n: usize) {
+fn print_number<W: Write>(output: &mut W, n: usize) {
     let numeral = decimals::digits(n);
     let bytes = numeral.bytes;
-    io::write_all(1, trees::first_bytes(&bytes, numeral.len));
+    streams::write_all(output, trees::first_bytes(&bytes, numeral.len));
 }
 
-fn print_list(edition: Edition, text: &[u8]) {
+fn print_list<W: Write>(output: &mut W, edition: Edition, text: &[u8]) {
     let read = lists::read_list(edition, text, Body::K);
     let answer = read.answer;
     if let ListAnswer::Refused(refusal) = answer {
-        print_refusal(refusal);
+        print_refusal(output, refusal);
         return;
     }
     let places = read.places;
     let start = places.start;
     let size = places.size;
-    io::write_all(1, b"list ");
-    print_number(places.count);
-    io::write_all(1, b" ");
-    print_labels(text, &start, &size, places.count);
-    io::write_all(1, b"\n");
+    streams::write_all(output, b"list ");
+    print_number(output, places.count);
+    streams::write_all(output, b" ");
+    print_labels(output, text, &start, &size, places.count);
+    streams::write_all(output, b"\n");
 }
 
 fn wide(b: u8) -> usize
@@ -99,50 +118,55 @@ fn four(text: &[u8], at: usize) -> usize
     two(text, at) * 65536 + two(text, at + 2)
 }
 
-fn print_place(text: &[u8]) {
+fn print_place<W: Write>(output: &mut W, text: &[u8]) {
     if text.len() < 8 {
         return;
     }
-    print_refusal(Refusal {
-        reason: Reason::BadByte,
-        body: Body::S,
-        place: four(text, 0) * 4294967296 + four(text, 4),
-    });
+    print_refusal(
+        output,
+        Refusal {
+            reason: Reason::BadByte,
+            body: Body::S,
+            place: four(text, 0) * 4294967296 + four(text, 4),
+        },
+    );
 }
 
-fn print_case(kind: u8, text: &[u8]) {
+fn print_case<W: Write>(output: &mut W, kind: u8, text: &[u8]) {
     if kind == b't' {
-        print_tree(Edition::One, text);
+        print_tree(output, Edition::One, text);
     } else if kind == b'T' {
-        print_tree(Edition::Two, text);
+        print_tree(output, Edition::Two, text);
     } else if kind == b'l' {
-        print_list(Edition::One, text);
+        print_list(output, Edition::One, text);
     } else if kind == b'L' {
-        print_list(Edition::Two, text);
+        print_list(output, Edition::Two, text);
     } else {
-        print_place(text);
+        print_place(output, text);
     }
 }
 
 // The next case of the stream; false if there is none.
-fn run_case() -> bool {
+fn run_case<R: Read, W: Write>(input: &mut R, output: &mut W) -> bool {
     let mut head = [0u8; 3];
-    let got = io::read_full(0, &mut head);
+    let got = streams::read_full(input, &mut head);
     if got < 3 {
         return false;
     }
     let size = two(&head, 1);
-    let mut area = io::large_buffer();
+    let mut area = [0u8; CASE_ROOM];
     let body: &mut [u8] = &mut area;
-    let n = io::read_full(0, &mut body[..size]);
-    print_case(head[0], trees::part(body, 0, n));
+    let n = streams::read_full(input, &mut body[..size]);
+    print_case(output, head[0], trees::part(body, 0, n));
     true
 }
 
-fn main() {
+fn main(rt: HostRuntime) {
+    let mut input = rt.stdin();
+    let mut output = rt.stdout();
     let mut left: usize = 100000;
     while 0 < left {
-        if !run_case() {
+        if !run_case(&mut input, &mut output) {
             return;
         }
         left -= 1;

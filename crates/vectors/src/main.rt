@@ -5,6 +5,10 @@
 ghost use Rattle.std.specs.Prelude.{◌<◌};
 
 use lines::LINES_ROOM;
+use std::io::{Read, Write};
+
+// No job of a case is longer than the greatest number of two bytes.
+const CASE_ROOM: usize = 65536;
 
 fn wide(b: u8) -> usize
     ensures { result < 256 }
@@ -13,32 +17,34 @@ fn wide(b: u8) -> usize
 }
 
 // What is printed for one job.
-fn run_job(text: &[u8]) {
+fn run_job<W: Write>(output: &mut W, text: &[u8]) {
     let mut area = [0u8; LINES_ROOM];
     let out: &mut [u8] = &mut area;
     let answer = job::print_job(text, out);
-    io::write_all(1, lines::written(out, answer));
+    streams::write_all(output, lines::written(out, answer));
 }
 
 // The next case of the stream; false if there is none.
-fn run_case() -> bool {
+fn run_case<R: Read, W: Write>(input: &mut R, output: &mut W) -> bool {
     let mut head = [0u8; 2];
-    let got = io::read_full(0, &mut head);
+    let got = streams::read_full(input, &mut head);
     if got < 2 {
         return false;
     }
     let size = wide(head[0]) * 256 + wide(head[1]);
-    let mut area = io::large_buffer();
+    let mut area = [0u8; CASE_ROOM];
     let body: &mut [u8] = &mut area;
-    let n = io::read_full(0, &mut body[..size]);
-    run_job(trees::part(body, 0, n));
+    let n = streams::read_full(input, &mut body[..size]);
+    run_job(output, trees::part(body, 0, n));
     true
 }
 
-fn main() {
+fn main(rt: HostRuntime) {
+    let mut input = rt.stdin();
+    let mut output = rt.stdout();
     let mut left: usize = 100000;
     while 0 < left {
-        if !run_case() {
+        if !run_case(&mut input, &mut output) {
             return;
         }
         left -= 1;
