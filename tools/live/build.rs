@@ -1,4 +1,4 @@
-// The archive that `rt staticlib cabi` writes, or the one that AGREE_LIB names.
+// The archive that tools/archive makes, or the one that AGREE_LIB names.
 fn main() {
     let here = std::env::var("CARGO_MANIFEST_DIR").unwrap();
     let archive = std::env::var("AGREE_LIB").unwrap_or(format!("{here}/../../target/staticlib/libcabi.a"));
