@@ -1,7 +1,7 @@
 /* agree.h: for hosts written in C. The largest set of leaves on which two rooted binary trees agree, and the check of such a set that another
  * program found.
  *
- * Link with the archive that `rt staticlib cabi` writes, target/staticlib/libcabi.a:
+ * Link with the archive that `tools/archive` makes, target/staticlib/libcabi.a:
  *
  *     gcc -Iinclude host.c target/staticlib/libcabi.a
  *
