@@ -26,6 +26,9 @@ loop-done-preserved g c =
     let within = c.loop-done.invariant.1 in
     let new = put_mid from room c.loop-done.buf c.read_some-n.new.buf in
     let part = slice_range-put_mid from room n c.loop-done.buf c.read_some-n.new.buf within c.read_some-n.ensures.bound in
-    let joined = take_split from n c.loop-done.buf new (take-put_mid_below _ _ _ _ _ (le_refl _) within) in
-    (search rules, search rules, subst (Consumes _ _) (ap (λ l. take from c.loop-done.buf ++ l) (sym part) ∙ joined)
-        (Consumes-trans _ _ _ _ _ c.loop-done.invariant.2 c.read_some-n.ensures.bytes))
+    let joined = take_split from n c.loop-done.buf new (take-put_mid_below _ _ _ _ _ (le_refl _) within) in (
+      search rules,
+      search rules,
+      subst (Consumes _ _) (ap (λ l. take from c.loop-done.buf ++ l) (sym part) ∙ joined)
+          (Consumes-trans _ _ _ _ _ c.loop-done.invariant.2 c.read_some-n.ensures.bytes),
+    )
