@@ -40,7 +40,7 @@ use Rattle.lines.specs.Lines.{refused_words, refused_line, set_lines, record_lin
 use Rattle.lines.specs.PieceLines.{pieces_lines}
 use Rattle.job.specs.Printed.{disagreement_line, claim_disagreement_line, divided_record, solve_job, printed_of, printed, piece_by}
 use Rattle.job.specs.JobOutcome.{Asks, SetAnswered, DividedAnswered, DisagreementAnswered, ClaimAnswered, ClaimDisagreementAnswered, JobOutcome}
-use Rattle.job.specs.JobOutcome.{too_long, no_contents, first_fault, second_fault, list_fault, claim_fault, stray_first, stray_second, first_lacks_lem, second_lacks_lem, three_disagree, largest_set_lem, judged}
+use Rattle.job.specs.JobOutcome.{too_long, no_contents, first_fault, second_fault, list_fault, claim_fault, stray_first, stray_second, first_lacking, second_lacking, three_disagree, largest_set, judged}
 use Rattle.job.proofs.OutcomeLaws.{outcome_exactly, claim_some}
 use Rattle.job.proofs.ReadBack.{kept_line, lines_back, refusal_no_three, three_back, claim_back}
 use Rattle.job.proofs.RoomLaws.{kept_short}
@@ -72,10 +72,10 @@ module _ {job : List ℕ} {pieces : Bool} {N : List Label} {text : List ℕ} (a 
       (λ (x : Label) (h : is_in x a.X ≡ true). spelled_good a.e a.s x a.asked.first.valid))
 
   set_line : occurrences 10 text ≡ 0
-  set_line = rw a.first_text_lem (kept_line a.e (set_of a.X) a.s a.asked.first.valid)
+  set_line = rw a.text_in_first (kept_line a.e (set_of a.X) a.s a.asked.first.valid)
 
   pub set_short : length text ≤ tree_room
-  set_short = rw a.first_text_lem (kept_short a.e (set_of a.X) a.s a.asked.first.valid)
+  set_short = rw a.text_in_first (kept_short a.e (set_of a.X) a.s a.asked.first.valid)
 
 -- three labels as the first tree spells them
 three_writable : (e : Edition) (s : Tree) → ValidIn e s → (a b c : Label)
@@ -162,8 +162,8 @@ module _ (job : List ℕ) where
   meant x (claim_fault b held s t p q h xs l text d r i f) = tt
   meant x (stray_first b held l s t p q y o) = tt
   meant x (stray_second b held l s t p q y a o) = tt
-  meant x (first_lacks_lem e s t xs c asks n o) = tt
-  meant x (second_lacks_lem e s t xs c asks n o) = tt
+  meant x (first_lacking e s t xs c asks n o) = tt
+  meant x (second_lacking e s t xs c asks n o) = tt
   meant x (three_disagree e s t xs z asks a b c held o) =
       inl (
         refl,
@@ -184,7 +184,7 @@ module _ (job : List ℕ) where
           three_is = refl;
         },
       )
-  meant x (largest_set_lem e s t xs asks X o) =
+  meant x (largest_set e s t xs asks X o) =
       record {
         e = e;
         s = s;
@@ -195,8 +195,8 @@ module _ (job : List ℕ) where
         line = refl;
         is_answer = o;
         spelled = refl;
-        first_text_lem = refl;
-        second_text_lem =
+        text_in_first = refl;
+        text_in_second =
             one_text_in e s t (set_of X) asks.first.valid asks.second.valid o.allowed_set.common_leaves o.allowed_set.agreed;
       }
   meant x (judged e s t xs ys asks clear v o) = verdict_meant e s t xs ys asks clear v o
@@ -258,10 +258,10 @@ pub answered_lines : (job : List ℕ) (pieces : Bool) (N : List Label) (text : L
 unfolding printed solution_text
 answered_lines job pieces N text a =
     let r : Solution = solution a.e a.s a.t a.xs a.X in
-    ap printed_of ((outcome_exactly job _).1 (largest_set_lem a.e a.s a.t a.xs a.asked a.X a.is_answer)
+    ap printed_of ((outcome_exactly job _).1 (largest_set a.e a.s a.t a.xs a.asked a.X a.is_answer)
     ∙ ap (λ (b : Bool). set_reply b r) a.line)
     ∙ set_printed pieces r
-    ∙ ap₂ (λ (M : List Label) (l : List ℕ). pieces_part pieces r ++ record_lines M l) (sym a.spelled) (sym a.first_text_lem)
+    ∙ ap₂ (λ (M : List Label) (l : List ℕ). pieces_part pieces r ++ record_lines M l) (sym a.spelled) (sym a.text_in_first)
 
 module _ (job : List ℕ) (N : List Label) (text : List ℕ) (can : writable_labels N ≡ true) where
   set_from : (x : Outcome Reply) → Meant job x → printed_of x ≡ record_lines N text → SetAnswered job false N text

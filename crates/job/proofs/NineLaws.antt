@@ -19,7 +19,7 @@ use Rattle.job.specs.Printed.{Reply, claim_reply, solve_job, reply_lines, printe
 use Rattle.lines.specs.Output.{line_answer}
 use Rattle.job.specs.Answered.{lines_answer, record_answer, answered, answer_to, begin_in}
 use Rattle.job.specs.JobOutcome.{JobOutcome}
-use Rattle.job.specs.JobOutcome.{too_long, no_contents, first_fault, second_fault, list_fault, claim_fault, stray_first, stray_second, first_lacks_lem, second_lacks_lem, three_disagree, largest_set_lem, judged}
+use Rattle.job.specs.JobOutcome.{too_long, no_contents, first_fault, second_fault, list_fault, claim_fault, stray_first, stray_second, first_lacking, second_lacking, three_disagree, largest_set, judged}
 use Rattle.job.proofs.OutcomeLaws.{outcome_exactly}
 use Rattle.job.proofs.RecordLaws.{record_refused}
 use Rattle.job.proofs.RoomLaws.{fault_low, NotNine}
@@ -43,10 +43,10 @@ outcome_never_nine job x (list_fault b held s t p q h r i f) = λ k. omega (arit
 outcome_never_nine job x (claim_fault b held s t p q h xs l text d r i f) = λ k. omega (arith, fault_low f.here)
 outcome_never_nine job x (stray_first b held l s t p q y o) = λ k. omega arith
 outcome_never_nine job x (stray_second b held l s t p q y a o) = λ k. omega arith
-outcome_never_nine job x (first_lacks_lem e s t xs c asks n o) = λ k. omega arith
-outcome_never_nine job x (second_lacks_lem e s t xs c asks n o) = λ k. omega arith
+outcome_never_nine job x (first_lacking e s t xs c asks n o) = λ k. omega arith
+outcome_never_nine job x (second_lacking e s t xs c asks n o) = λ k. omega arith
 outcome_never_nine job x (three_disagree e s t xs z asks a b c held o) = tt
-outcome_never_nine job x (largest_set_lem e s t xs asks X o) = tt
+outcome_never_nine job x (largest_set e s t xs asks X o) = tt
 outcome_never_nine job x (judged e s t xs ys asks clear v o) = verdict_never_nine e s xs ys v
 
 job_never_nine : (job : List ℕ) → NotNine (solve_job job)

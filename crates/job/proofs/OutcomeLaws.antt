@@ -44,7 +44,7 @@ use Rattle.mast.specs.Reads.{Reads}
 use Rattle.pairs.proofs.StrayLaws.{nowhere_shared, stray_strict}
 use Rattle.job.specs.Printed.{job_limit, task_of, Reply, set_reply, claim_reply, solve_task, solve_bodies, solve_job, printed_of, printed}
 use Rattle.job.specs.JobOutcome.{Follows, Holds, edition_in, TreeBody, Shared, ClaimRead, Asks, refusal, JobOutcome}
-use Rattle.job.specs.JobOutcome.{too_long, no_contents, first_fault, second_fault, list_fault, claim_fault, stray_first, stray_second, first_lacks_lem, second_lacks_lem, three_disagree, largest_set_lem, judged}
+use Rattle.job.specs.JobOutcome.{too_long, no_contents, first_fault, second_fault, list_fault, claim_fault, stray_first, stray_second, first_lacking, second_lacking, three_disagree, largest_set, judged}
 use Rattle.job.proofs.TaskLaws.{ReadClaim, task_first, task_second, task_stray_first, task_stray_second, task_list, task_claim, task_first_lacks, task_second_lacks, task_clash, task_set, task_verdict, some_verdict}
 
 -- ---- bodies that are read
@@ -130,10 +130,10 @@ module _ (job : List ℕ) (b : Bodies) (held : Holds job b) where
           answers : (A : Answer) → answer (keyed E s) (keyed E t) (keys_of E xs) ≡ A → Out
           answers (first_lacks n) k =
               of _ (task_first_lacks b.head.pieces (task_of b) s t xs reads (claim_text b) (read_claim E (claim_text b) c w) n (told (first_lacks n) k))
-              (first_lacks_lem E s t xs c (asks c w) n (told (first_lacks n) k))
+              (first_lacking E s t xs c (asks c w) n (told (first_lacks n) k))
           answers (second_lacks n) k =
               of _ (task_second_lacks b.head.pieces (task_of b) s t xs reads (claim_text b) (read_claim E (claim_text b) c w) n (told (second_lacks n) k))
-              (second_lacks_lem E s t xs c (asks c w) n (told (second_lacks n) k))
+              (second_lacking E s t xs c (asks c w) n (told (second_lacks n) k))
           answers (disagree p q r) k =
               let o = told (disagree p q r) k in
               of _ (task_clash b.head.pieces (task_of b) s t xs reads (claim_text b) (read_claim E (claim_text b) c w) p q r o.0 o.1)
@@ -145,7 +145,7 @@ module _ (job : List ℕ) (b : Bodies) (held : Holds job b) where
             let w : ClaimRead E (claim_text b) none = subst (λ (y : Option (List ℕ)). ClaimRead E y none) (sym d) tt in
             answers none w
             (λ (X : List Label) (o : IsAnswer (keyed E s) (keyed E t) (keys_of E xs) X).
-            of _ (ap (solve_task b.head.pieces (task_of b)) d ∙ task_set b.head.pieces (task_of b) s t xs reads X o) (largest_set_lem E s t xs (asks none w) X o))
+            of _ (ap (solve_task b.head.pieces (task_of b)) d ∙ task_set b.head.pieces (task_of b) s t xs reads X o) (largest_set E s t xs (asks none w) X o))
             (answer (keyed E s) (keyed E t) (keys_of E xs)) refl
         claimed (some text) d = go (read_list_in E text) refl
           where
@@ -277,16 +277,16 @@ one job x (stray_first b held e s t p q y k) =
 one job x (stray_second b held e s t p q y a k) =
     job_solve job b held
     ∙ task_stray_second b.head.pieces (task_of b) s t (body_tree (edition_in b) (first_text b) s p) (body_tree (edition_in b) (second_text b) t q) (claim_text b) e y a k
-one job x (first_lacks_lem e s t xs c asks n o) =
+one job x (first_lacking e s t xs c asks n o) =
     decided job e s t xs c asks _ (task_first_lacks asks.bodies.head.pieces (asked job e s t xs c asks) s t xs (asked_reads job e s t xs c asks) (claim_text asks.bodies)
     (asked_claim job e s t xs c asks) n o)
-one job x (second_lacks_lem e s t xs c asks n o) =
+one job x (second_lacking e s t xs c asks n o) =
     decided job e s t xs c asks _ (task_second_lacks asks.bodies.head.pieces (asked job e s t xs c asks) s t xs (asked_reads job e s t xs c asks) (claim_text asks.bodies)
     (asked_claim job e s t xs c asks) n o)
 one job x (three_disagree e s t xs z asks a b c held o) =
     decided job e s t xs z asks _ (task_clash asks.bodies.head.pieces (asked job e s t xs z asks) s t xs (asked_reads job e s t xs z asks) (claim_text asks.bodies)
     (asked_claim job e s t xs z asks) a b c held o)
-one job x (largest_set_lem e s t xs asks X o) =
+one job x (largest_set e s t xs asks X o) =
     decided job e s t xs none asks _ (ap (solve_task asks.bodies.head.pieces (asked job e s t xs none asks)) (claim_none e (claim_text asks.bodies) asks.claim)
     ∙ task_set asks.bodies.head.pieces (asked job e s t xs none asks) s t xs (asked_reads job e s t xs none asks) X o)
 one job x (judged e s t xs ys asks clear v o) =

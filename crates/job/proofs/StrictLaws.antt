@@ -21,7 +21,7 @@ use Rattle.contents.specs.Contents.{Bodies, part, first_text, second_text, list_
 use Rattle.pairs.specs.Outcome.{Outcome, refused, and_then}
 use Rattle.job.specs.Printed.{Reply, claim_reply, task_of, solve_bodies, solve_job}
 use Rattle.job.specs.JobOutcome.{TreeBody, JobOutcome, Stopped, without_line, edition_in}
-use Rattle.job.specs.JobOutcome.{too_long, no_contents, first_fault, second_fault, list_fault, claim_fault, stray_first, stray_second, first_lacks_lem, second_lacks_lem, three_disagree, largest_set_lem, judged}
+use Rattle.job.specs.JobOutcome.{too_long, no_contents, first_fault, second_fault, list_fault, claim_fault, stray_first, stray_second, first_lacking, second_lacking, three_disagree, largest_set, judged}
 use Rattle.job.proofs.OutcomeLaws.{outcome_exactly, body_tree}
 use Rattle.job.proofs.RoomLaws.{fault_low}
 use Rattle.job.proofs.TaskLaws.{task_strict}
@@ -66,10 +66,10 @@ module _ (job : List ℕ) where
         second = d;
         differ = λ h. stray_differ (keyed (edition_in b) t) (keyed (edition_in b) s) y o (λ z. sym (h z));
       }
-  stopped x (first_lacks_lem d s t xs c asks m o) q e n = absurd (omega (arith, told q x _ refl e))
-  stopped x (second_lacks_lem d s t xs c asks m o) q e n = absurd (omega (arith, told q x _ refl e))
+  stopped x (first_lacking d s t xs c asks m o) q e n = absurd (omega (arith, told q x _ refl e))
+  stopped x (second_lacking d s t xs c asks m o) q e n = absurd (omega (arith, told q x _ refl e))
   stopped x (three_disagree d s t xs g asks a b c held o) q e n = let z : ◌≡◌ {A = ℕ} 0 1 = cc in absurd (omega arith)
-  stopped x (largest_set_lem d s t xs asks X o) q e n = let z : ◌≡◌ {A = ℕ} 0 1 = cc in absurd (omega arith)
+  stopped x (largest_set d s t xs asks X o) q e n = let z : ◌≡◌ {A = ℕ} 0 1 = cc in absurd (omega arith)
   stopped x (judged d s t xs ys asks clear v o) q e n = absurd (verdict_no_twelve d s xs ys v q e n)
 
   stops : Stopped job → (q : Refusal) × (solve_job job ≡ refused q) × (number_of q.reason ≡ 12)

@@ -105,9 +105,9 @@ pub data JobOutcome (job : List ℕ) : Outcome Reply → Type 0 where
       → IsStray (keyed (edition_in b) t) (keyed (edition_in b) s) x
       → JobOutcome job (refusal NotShared T (place_in (folded (edition_in b) t) 0 x))
   -- 6 and 7: at the label's "first byte in K"
-  first_lacks_lem : (e : Edition) (s t : Tree) (xs : List Token) (c : Option (List Token)) → Asks job e s t xs c → (n : ℕ)
+  first_lacking : (e : Edition) (s t : Tree) (xs : List Token) (c : Option (List Token)) → Asks job e s t xs c → (n : ℕ)
       → IsFirstLacks (keyed e s) (keyed e t) (keys_of e xs) n → JobOutcome job (refusal FirstLacks K (place_of_number xs n))
-  second_lacks_lem : (e : Edition) (s t : Tree) (xs : List Token) (c : Option (List Token)) → Asks job e s t xs c → (n : ℕ)
+  second_lacking : (e : Edition) (s t : Tree) (xs : List Token) (c : Option (List Token)) → Asks job e s t xs c → (n : ℕ)
       → IsSecondLacks (keyed e s) (keyed e t) (keys_of e xs) n → JobOutcome job (refusal SecondLacks K (place_of_number xs n))
   -- 8: "three required leaves have different closer pairs"
   three_disagree : (e : Edition) (s t : Tree) (xs : List Token) (o : Option (List Token)) → Asks job e s t xs o → (a b c : Label)
@@ -115,7 +115,7 @@ pub data JobOutcome (job : List ℕ) : Outcome Reply → Type 0 where
       → JobOutcome job (naming disagreement (trio e s xs a b c))
   -- demand 3, for jobs without a claim: the set; its text is `solution_text`, "the normal text of the common restriction". Its pieces are
   -- shown if the job has the line (C-17)
-  largest_set_lem : (e : Edition) (s t : Tree) (xs : List Token) → (asks : Asks job e s t xs none) → (X : List Label)
+  largest_set : (e : Edition) (s t : Tree) (xs : List Token) → (asks : Asks job e s t xs none) → (X : List Label)
       → IsAnswer (keyed e s) (keyed e t) (keys_of e xs) X → JobOutcome job (set_reply asks.bodies.head.pieces (solution e s t xs X))
   -- C-16: the verdict on the claim, "after number 8": 6 or 7 "with letter C", 13, 14, 15, or that it passes
   judged : (e : Edition) (s t : Tree) (xs ys : List Token) → Asks job e s t xs (some ys)
@@ -135,8 +135,8 @@ pub record SetAnswered (job : List ℕ) (pieces : Bool) (names : List Label) (te
   pub line : asked.bodies.head.pieces ≡ pieces
   pub is_answer : IsAnswer (keyed e s) (keyed e t) (keys_of e xs) X
   pub spelled : names ≡ map (name_in e s) X
-  pub first_text_lem : text ≡ kept_text_in e (restrict_in e (set_of X) s)
-  pub second_text_lem : in_edition e text ≡ in_edition e (kept_text_in e (restrict_in e (set_of X) t))
+  pub text_in_first : text ≡ kept_text_in e (restrict_in e (set_of X) s)
+  pub text_in_second : in_edition e text ≡ in_edition e (kept_text_in e (restrict_in e (set_of X) t))
 
 -- The same for a job with the line `pieces` (C-17). The pieces are those of both trees by the keys of their labels. "Labels are printed as the
 -- first tree spells them" (C-15).

@@ -193,8 +193,8 @@ module _ (s t : Tree) (K : List Token) (tree1 tree2 : TreeArrays) (order : Commo
       named = clash_answer (decoded s) (decoded t) L ds h.asked.different h.asked.held r first_three
 
       -- the leaf of each in the first tree
-      leaf_of_lem : (x : Label) → is_in x L ≡ true → LeafIs (decoded s) (get_or leaf1 (rank_of (sorted L) x) 0) x
-      leaf_of_lem x k =
+      leaf_of : (x : Label) → is_in x L ≡ true → LeafIs (decoded s) (get_or leaf1 (rank_of (sorted L) x) 0) x
+      leaf_of x k =
           let i = number_of (sorted L) x (in_sorted x L ∙ k) in
           let rank : rank_of (sorted L) x ≡ i.at = ap (rank_of (sorted L)) (sym i.is) ∙ rank_at (sorted L) i.at sorted_distinct i.below in
           let l = (ranked s tree1 order.first leaf1 h.asked.one at1).numbered i.at i.below in
@@ -205,7 +205,7 @@ module _ (s t : Tree) (K : List Token) (tree1 tree2 : TreeArrays) (order : Commo
           ≡ record { place = place_of_label K 0 x; start = place_in s 0 x; size = length (token_in s x) })
       named_of x i e k =
           let p = placed_at x k in
-          let l = leaf_of_lem x k in
+          let l = leaf_of x k in
           let v = h.asked.one.valid in
           let a = h.asked.one.arrays_is in
           rw e (

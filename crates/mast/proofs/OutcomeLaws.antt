@@ -267,7 +267,7 @@ module _ (q : Task) (s t : Tree) (xs : List Token) (reads : Reads q s t xs) wher
           let a = (agreement.set_promise (keyed E s) (keyed E t) L proper different X).0 k.0 in
           record {
             is_answer = a;
-            second_text_lem = one_text_in E s t (set_of X) valid_first valid_second a.allowed_set.common_leaves a.allowed_set.agreed;
+            second_text = one_text_in E s t (set_of X) valid_first valid_second a.allowed_set.common_leaves a.allowed_set.agreed;
             fit = k.1;
           },
       λ g. set_fitted X g.is_answer ∙ (rw (le-leb (length (solution_text (solution E s t xs X))) room g.fit) refl),

@@ -137,7 +137,7 @@ module _ {e : Edition} {first : List ℕ} {tree1 tree2 : TreeArrays} {order : Co
       record {
         valid = b.valid1;
         arrays_is = b.first_arrays ∙ arrays_folded e b.s;
-        text_is = b.first_text_lem;
+        text_is = b.first_text;
         count = b.ordered.count;
         numbered = b.ordered.first;
       }

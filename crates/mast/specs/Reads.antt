@@ -26,5 +26,5 @@ pub record Reads (q : Task) (s t : Tree) (K : List Token) : Type 0 where
 -- tree's restriction.
 pub record SetGiven (e : Edition) (s t : Tree) (xs : List Token) (X : List Label) (room : ℕ) : Type 0 where
   pub is_answer : IsAnswer (keyed e s) (keyed e t) (keys_of e xs) X
-  pub second_text_lem : in_edition e (solution_text (solution e s t xs X)) ≡ in_edition e (solution_text (solution e t s xs X))
+  pub second_text : in_edition e (solution_text (solution e s t xs X)) ≡ in_edition e (solution_text (solution e t s xs X))
   pub fit : length (solution_text (solution e s t xs X)) ≤ room

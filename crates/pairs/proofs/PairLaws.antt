@@ -129,7 +129,7 @@ module _ (o : Options) (first second : List ℕ) where
             s = one.of;
             t = two.of;
             valid1 = a.1;
-            first_text_lem = a.0;
+            first_text = a.0;
             one = tree_leaves one;
             valid2 = (tree_leaves two).valid;
             first_arrays = folded_arrays one;

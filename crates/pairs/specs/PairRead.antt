@@ -24,7 +24,7 @@ pub record OwnTrees (e : Edition) (first : List ℕ) (tree1 tree2 : TreeArrays) 
   pub s : Tree
   pub t : Tree
   pub valid1 : ValidIn e s
-  pub first_text_lem : first ≡ text_of s
+  pub first_text : first ≡ text_of s
   pub one : OwnLeaves (folded e s) (in_edition e first) tree1.left tree1.start tree1.size tree1.nodes
   pub valid2 : Valid (folded e t)
   pub first_arrays : tree1 ≡ arrays_of (folded e s)

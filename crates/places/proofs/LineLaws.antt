@@ -20,7 +20,7 @@ use Rattle.trees.proofs.ListLaws.{at_in}
 use Rattle.trees.proofs.PostorderLaws.{node_leaf, leaf_once, leaf_at}
 use Rattle.leaves.specs.Numbered.{LeafIs}
 use Rattle.agreement.specs.Closer.{holds}
-use Rattle.places.specs.Nodes.{TreeRanks, is_inner, rank_among, LeafNumbers, ValuesByRank, RankNumbers, line_at, HeadOn, no_leaf_lem, leaf_there, LinesByRank}
+use Rattle.places.specs.Nodes.{TreeRanks, is_inner, rank_among, LeafNumbers, ValuesByRank, RankNumbers, line_at, HeadOn, no_leaf, leaf_there, LinesByRank}
 use Rattle.places.proofs.RankLaws.{once, rank_is, leaf_rank}
 use Rattle.places.proofs.UpwardLaws.{inner_yes, inner_no, filled, laid_at}
 
@@ -86,10 +86,10 @@ ranks_step g u a b r x values out out' h ea eb er ex size e ranks =
     rw (e, er, ex) (ranks_more g u a b values out h ea eb size ranks)
 
 -- the leaf with a common label
-leaf_of_lem : {t : Tree} {C K : List Label} {tree : TreeArrays} {rank : List ℕ} {m : ℕ} {ks : List ℕ} → TreeRanks t C K tree rank m ks
+leaf_of : {t : Tree} {C K : List Label} {tree : TreeArrays} {rank : List ℕ} {m : ℕ} {ks : List ℕ} → TreeRanks t C K tree rank m ks
     → (r : ℕ) → r < length C → (u : ℕ) × LeafIs t u (get_or C r [])
 unfolding holds
-leaf_of_lem {t} {C} g r h =
+leaf_of {t} {C} g r h =
     let a = leaf_at t (get_or C r []) (g.held (get_or C r []) (at_in C r h)) in
     (a.at, record { below = a.below; is = a.is })
 
@@ -97,8 +97,8 @@ pub rank_numbers : {t : Tree} {C K : List Label} {tree : TreeArrays} {rank : Lis
     → TreeRanks t C K tree rank m ks → LeafNumbers t C K number top → ValuesByRank t C (nodes_of t) number line
     → ValuesByRank t C (nodes_of t) top tops → RankNumbers t C K line tops
 rank_numbers {C = C} number top line tops g numbers by bt = record {
-  line_is = λ r h. let l = leaf_of_lem g r h in by r l.0 h l.1.below l.1 ∙ numbers.number_is l.0 (get_or C r []) l.1;
-  top_is = λ r h. let l = leaf_of_lem g r h in bt r l.0 h l.1.below l.1 ∙ numbers.top_is l.0 (get_or C r []) l.1;
+  line_is = λ r h. let l = leaf_of g r h in by r l.0 h l.1.below l.1 ∙ numbers.number_is l.0 (get_or C r []) l.1;
+  top_is = λ r h. let l = leaf_of g r h in bt r l.0 h l.1.below l.1 ∙ numbers.top_is l.0 (get_or C r []) l.1;
 }
 
 -- lines by rank
@@ -107,13 +107,13 @@ module _ (number one two tops : List ℕ) where
   pub lines_none : (line : List ℕ) (heads : List ℕ) → heads ≡ replicate {A = ℕ} 160 81 → LinesByRank 0 number one two tops line heads
   lines_none line heads e = record {
     each = λ r h. absurd (omega arith);
-    head_on = λ j h. no_leaf_lem (ap (λ (l : List ℕ). get_or l j 0) e ∙ filled 160 j 81 h) (λ r l. absurd (omega arith));
+    head_on = λ j h. no_leaf (ap (λ (l : List ℕ). get_or l j 0) e ∙ filled 160 j 81 h) (λ r l. absurd (omega arith));
   }
 
   module _ (r j : ℕ) (line heads : List ℕ) (h : r < 80) (small : j ≤ 159) (sl : length line ≡ 81) (sh : length heads ≡ 160)
       (is : j ≡ line_at (get_or number r 0) (get_or one r 0) (get_or two r 0)) (lines : LinesByRank r number one two tops line heads) where
     kept : (i n : ℕ) → (i ≡ j → ⊥) → HeadOn r line tops i n → HeadOn (r + 1) (set line r j) tops i n
-    kept i n d (no_leaf_lem e f) = no_leaf_lem e (λ q l k. go q l k (bool_cases (eqb q r)))
+    kept i n d (no_leaf e f) = no_leaf e (λ q l k. go q l k (bool_cases (eqb q r)))
       where
         go : (q : ℕ) → q < r + 1 → get_or (set line r j) q 0 ≡ i → (eqb q r ≡ true) ⊎ (eqb q r ≡ false) → ⊥
         go q l k (inl c) =

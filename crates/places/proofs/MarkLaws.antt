@@ -14,7 +14,7 @@ use Rattle.agreement.specs.Sets.{keep}
 use Rattle.agreement.proofs.KeepLaws.{keep_append}
 use Rattle.pieces.specs.Pieces.{Piece, listed}
 use Rattle.pieces.specs.Items.{Item, no_item, items_with, items_of}
-use Rattle.places.specs.Nodes.{HeadOn, no_leaf_lem, leaf_there}
+use Rattle.places.specs.Nodes.{HeadOn, no_leaf, leaf_there}
 use Rattle.places.specs.Marks.{Mark, no_mark, leaf_marks, head_marks, line_marks, marks_to, ListHolds}
 
 -- one entry more
@@ -237,7 +237,7 @@ module _ (C : List Label) (line tops : List ℕ) (few : length C ≤ 80) (j : �
       → ((r : ℕ) → r < length C → get_or line r 0 ≡ j → HeadFits C (get_or tops r 0) req)
       → Shows C (line_marks line (length C) j h) (items_of (listed req (keep X C) []))
   unfolding line_marks
-  line_shows h req (no_leaf_lem e f) fits =
+  line_shows h req (no_leaf e f) fits =
       rw (e, empty_line req (keep X C) (shows_nothing (no_marks line j (length C) f) all_leaves)) shows_none
   line_shows h req (leaf_there r l k e) fits =
       let fit : HeadFits C h req = rw e (fits r l k) in

@@ -30,7 +30,7 @@ use Rattle.pieces.proofs.NumberLaws.{required_count, required_tree, required_pla
 use Rattle.pieces.proofs.JoinLaws.{unasked_pieces}
 use Rattle.pieces.proofs.TotalLaws.{total_few}
 use Rattle.pieces.proofs.ItemLaws.{items_count}
-use Rattle.places.specs.Nodes.{TreeRanks, RankNumbers, rank_among, line_at, HeadOn, no_leaf_lem, leaf_there, LinesByRank}
+use Rattle.places.specs.Nodes.{TreeRanks, RankNumbers, rank_among, line_at, HeadOn, no_leaf, leaf_there, LinesByRank}
 use Rattle.places.specs.Marks.{no_mark, line_marks, marks_to, ListHolds}
 use Rattle.places.specs.PieceRanks.{PieceRanks}
 use Rattle.places.proofs.RankLaws.{marked_rank, rank_own}
@@ -158,7 +158,7 @@ module _ (s t : Tree) (K : List Label) (tree1 tree2 : TreeArrays) (rank1 rank2 :
   rest_empty : (L : ℕ) → ((r : ℕ) → r < length C → line_in K s (get_or C r []) N < L) → L ≤ 159 → (j : ℕ) → L ≤ j → j < 159
       → (h : ℕ) → HeadOn (length C) line tops j h → line_marks line (length C) j h ≡ []
   unfolding line_marks
-  rest_empty L f l j a b h (no_leaf_lem e g) = rw e refl
+  rest_empty L f l j a b h (no_leaf e g) = rw e refl
   rest_empty L f l j a b h (leaf_there r k e d) =
       absurd (go (line_cases (get_or number r 0) (line_in K s (get_or C r []) N) (line_in K t (get_or C r []) N) (omega (arith, f r k))))
     where

@@ -115,7 +115,7 @@ line_at number one two = cond (eqb number 0) (cond (eqb one two) (min one 159) 1
 
 -- the head stored for line j is that of one of its leaves; 81 if it has none
 pub data HeadOn (m : ℕ) (line tops : List ℕ) (j : ℕ) (h : ℕ) : Type 0 where
-  no_leaf_lem : h ≡ 81 → ((r : ℕ) → r < m → get_or line r 0 ≡ j → ⊥) → HeadOn m line tops j h
+  no_leaf : h ≡ 81 → ((r : ℕ) → r < m → get_or line r 0 ≡ j → ⊥) → HeadOn m line tops j h
   leaf_there : (r : ℕ) → r < m → get_or line r 0 ≡ j → h ≡ get_or tops r 0 → HeadOn m line tops j h
 
 -- the first m ranks have their lines, and the lines their heads

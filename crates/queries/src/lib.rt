@@ -164,7 +164,7 @@ fn lack(
 ) -> Refusal
     requires { n < 80 }
     ensures { (s t : Tree) (xs : List Token)
-        → FirstMissing (folded edition s) (folded edition t) (folded_list edition xs) (in_edition edition first.entry.now)
+        → FirstMissing (folded edition s) (folded edition t) (folded_list edition xs) (in_edition edition first.now)
         (in_edition edition list.now) tree1 places n
         → held_by body xs (answer_to edition (record { first = s; second = t }) xs) ≡ refused result }
 {

@@ -19,7 +19,7 @@ use Rattle.trees.proofs.ArrayLaws.{nodes_leaves, nodes_pos, lefts_length, rights
 use Rattle.trees.proofs.PostorderLaws.{length_postorder, subtree_few, leaf_once, at_left, at_right, at_root}
 use Rattle.trees.proofs.PostorderLaws.{Third, in_first_lem, in_second_lem, at_last, third, third_first, third_second, third_last}
 use Rattle.leaves.proofs.OwnLaws.{own_laid}
-use Rattle.table.specs.Table.{column_at, join_need, nodes_at, need, LeafOf, no_leaf_lem, one_leaf, Spans, Columns}
+use Rattle.table.specs.Table.{column_at, join_need, nodes_at, need, LeafOf, no_leaf, one_leaf, Spans, Columns}
 use Rattle.table.specs.Columns.{child_at, need_at, low_at, leaf_place, ColumnPut, NodeIs, NodePut, Gathered}
 use Rattle.table.specs.Choice.{Ranked, Given}
 use Rattle.table.specs.Solving.{Rooted, OwnColumns}
@@ -73,7 +73,7 @@ put_made columns new k u x y hk hu same e = rw (e, same) (record {
   size = length-set columns (k * 159 + u) x;
   at = λ size. get_or-set_same columns (k * 159 + u) x 0 (omega arith);
   others = λ j q hq apart. get_or-set_other columns (k * 159 + u) (j * 159 + q) x 0 (ne j q hq apart);
-  nodes_kept_lem = get_or-set_other columns (k * 159 + u) 954 x 0 (omega arith);
+  nodes_kept = get_or-set_other columns (k * 159 + u) 954 x 0 (omega arith);
 })
   where
     ne : (j q : ℕ) → q < 159 → (j ≡ k → ⊥) ⊎ (q ≡ u → ⊥) → j * 159 + q ≡ k * 159 + u → ⊥
@@ -160,8 +160,8 @@ module _ (old c0 c1 c2 c3 c4 new : List ℕ) (u left right rank a b n need low p
         p5.others 5 r l (inr (no_place size r h ne)) ∙ p4.others 5 r l (inl (λ d. omega arith))
         ∙ p3.others 5 r l (inl (λ d. omega arith)) ∙ p2.others 5 r l (inl (λ d. omega arith))
         ∙ p1.others 5 r l (inl (λ d. omega arith)) ∙ p0.others 5 r l (inl (λ d. omega arith));
-    nodes_kept_lem =
-        p5.nodes_kept_lem ∙ p4.nodes_kept_lem ∙ p3.nodes_kept_lem ∙ p2.nodes_kept_lem ∙ p1.nodes_kept_lem ∙ p0.nodes_kept_lem;
+    nodes_kept =
+        p5.nodes_kept ∙ p4.nodes_kept ∙ p3.nodes_kept ∙ p2.nodes_kept ∙ p1.nodes_kept ∙ p0.nodes_kept;
   }
 
 -- node by node
@@ -186,11 +186,11 @@ pub gathered_next : (n : ℕ) (left right rank : List ℕ) (nodes : ℕ) (old ne
     → NodePut n (get_or left n 0) (get_or right n 0) (get_or rank n 0) old new → Gathered (n + 1) left right rank nodes new
 gathered_next n left right rank nodes old new hn g p = record {
   size = p.size ∙ g.size;
-  count = p.nodes_kept_lem ∙ g.count;
+  count = p.nodes_kept ∙ g.count;
   each =
       below_next (λ u. NodeIs (get_or left u 0) (get_or right u 0) (get_or rank u 0) u new) n
       (λ u l. node_kept (get_or left u 0) (get_or right u 0) (get_or rank u 0) u n old new l hn p.others (g.each u l)) (p.is g.size);
-  leaf_of_lem = λ r h. go r h (bool_cases (eqb (column_at new 0 n) n)) (bool_cases (eqb (column_at new 2 n) r));
+  leaf_of = λ r h. go r h (bool_cases (eqb (column_at new 0 n) n)) (bool_cases (eqb (column_at new 2 n) r));
 }
   where
     same : (k u : ℕ) → k < 5 → u < n → column_at new k u ≡ column_at old k u
@@ -198,14 +198,14 @@ gathered_next n left right rank nodes old new hn g p = record {
 
     later : (r : ℕ) → (column_at new 0 n ≡ n → column_at new 2 n ≡ r → ⊥) → LeafOf old n r (column_at old 5 r)
         → LeafOf new (n + 1) r (column_at old 5 r)
-    later r ne (no_leaf_lem e f) =
-        no_leaf_lem e
+    later r ne (no_leaf e f) =
+        no_leaf e
         (below_next (λ u. column_at new 0 u ≡ u → column_at new 2 u ≡ r → ⊥) n
         (λ u l a b. f u l (sym (same 0 u (omega arith) l) ∙ a) (sym (same 2 u (omega arith) l) ∙ b)) ne)
     later r ne (one_leaf l a b) = one_leaf (omega arith) (same 0 _ (omega arith) l ∙ a) (same 2 _ (omega arith) l ∙ b)
 
     stays : (r : ℕ) → r ≤ 80 → (column_at new 0 n ≡ n → column_at new 2 n ≡ r → ⊥) → LeafOf new (n + 1) r (column_at new 5 r)
-    stays r h ne = subst (LeafOf new (n + 1) r) (sym (p.leaves_kept g.size r h ne)) (later r ne (g.leaf_of_lem r h))
+    stays r h ne = subst (LeafOf new (n + 1) r) (sym (p.leaves_kept g.size r h ne)) (later r ne (g.leaf_of r h))
 
     go : (r : ℕ) → r ≤ 80 → (eqb (column_at new 0 n) n ≡ true) ⊎ (eqb (column_at new 0 n) n ≡ false)
         → (eqb (column_at new 2 n) r ≡ true) ⊎ (eqb (column_at new 2 n) r ≡ false) → LeafOf new (n + 1) r (column_at new 5 r)
@@ -227,8 +227,8 @@ gathered_none left right rank nodes x few e = record {
   size = length-set (replicate 955 255) 954 x ∙ length-replicate {A = ℕ} 955 255;
   count = get_or-set_same (replicate 955 255) 954 x 0 (omega (arith, length-replicate {A = ℕ} 955 255)) ∙ omega arith;
   each = λ u h. absurd (omega arith);
-  leaf_of_lem = λ r h.
-      no_leaf_lem
+  leaf_of = λ r h.
+      no_leaf
       (get_or-set_other (replicate 955 255) 954 (5 * 159 + r) x 0 (omega arith) ∙ filled_with 255 0 955 (5 * 159 + r) (omega arith))
       (λ u l. absurd (omega arith));
 }
@@ -429,7 +429,7 @@ module _ (t : Tree) (C : List Label) (tree : TreeArrays) (rank : List ℕ) (few-
     laid = λ v l. laid v (omega (arith, all));
     count = length_postorder t ∙ sym all;
     once = λ u v x hu hv. leaf_once t h.proper.different u v (omega (arith, all)) (omega (arith, all)) x;
-    leaf_of_lem = g.leaf_of_lem;
+    leaf_of = g.leaf_of;
     low = λ v l. omega (arith, lows v (omega (arith, all)), nodes_pos (subtree (postorder t) v));
     leaf_low = λ v l. leaf_low v (omega (arith, all));
     spans = λ v l. own_spans v (omega (arith, all));

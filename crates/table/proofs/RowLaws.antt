@@ -12,7 +12,7 @@ use Rattle.trees.proofs.EntryLaws.{below_next}
 use Rattle.agreement.specs.Weights.{best}
 use Rattle.table.specs.Table.{two64, value_at, column_at, weight_place, inner_at, cell_at, span_at, Outside}
 use Rattle.table.specs.Table.{nodes_at, Shape, Sized, Columns, RowTo, Light, RankIs, InnerRow, SpanRow}
-use Rattle.table.specs.Table.{LeafOf, no_leaf_lem, one_leaf, Spans}
+use Rattle.table.specs.Table.{LeafOf, no_leaf, one_leaf, Spans}
 use Rattle.table.proofs.RecurrenceLaws.{two_leaves, leaf_node, node_leaf, two_nodes}
 
 -- what columns tell of node u
@@ -64,7 +64,7 @@ module _ (second : List ℕ) (nodes : ℕ) (ts : List Tree) (w : Label → ℕ) 
 
   leaf_cell : (v : ℕ) → v < nodes → (y : Label) → column_at second 0 v ≡ v → subtree ts v ≡ leaf y
       → cell v ≡ cond (eqb (column_at second 2 v) rank) weight 0
-  leaf_cell v hv y e p = go (two.leaf_of_lem rank small)
+  leaf_cell v hv y e p = go (two.leaf_of rank small)
     where
       low : column_at second 4 v ≡ v
       low = two.leaf_low v hv e
@@ -86,7 +86,7 @@ module _ (second : List ℕ) (nodes : ℕ) (ts : List Tree) (w : Label → ℕ) 
           label (is_node_lem a b q) = absurd (omega arith)
 
       go : LeafOf second nodes rank at → cell v ≡ cond (eqb (column_at second 2 v) rank) weight 0
-      go (no_leaf_lem d none) =
+      go (no_leaf d none) =
           span_before second weight at v (omega arith) ∙ (rw (ne_eqb (column_at second 2 v) rank (none v hv e)) refl)
       go (one_leaf l z r) = here (bool_cases (eqb v at))
         where
@@ -111,7 +111,7 @@ module _ (second : List ℕ) (nodes : ℕ) (ts : List Tree) (w : Label → ℕ) 
       s = two.spans v hv (λ e. omega arith)
 
       apart : LeafOf second nodes rank at → at ≡ v → ⊥
-      apart (no_leaf_lem e none) k = omega arith
+      apart (no_leaf e none) k = omega arith
       apart (one_leaf l z r) k = omega (arith, ap (column_at second 0) (sym k) ∙ z)
 
       lows : (column_at second 4 c ≤ c) × (column_at second 4 d ≤ d)
@@ -140,7 +140,7 @@ module _ (second : List ℕ) (nodes : ℕ) (ts : List Tree) (w : Label → ℕ) 
             span_in_lem second weight at v (omega arith) (omega (arith, s.left_low, lows)),
           )
       go (no p) (no q) r =
-          let n = apart (two.leaf_of_lem rank small) in
+          let n = apart (two.leaf_of rank small) in
           omega (
             arith,
             span_before second weight at c (omega arith),

@@ -23,7 +23,7 @@ pub record ColumnPut (k u x : ℕ) (old new : List ℕ) : Type 0 where
   pub size : length new ≡ length old
   pub at : length old ≡ 955 → column_at new k u ≡ x
   pub others : (j q : ℕ) → q < 159 → (j ≢ k) ⊎ (q ≢ u) → column_at new j q ≡ column_at old j q
-  pub nodes_kept_lem : nodes_at new ≡ nodes_at old
+  pub nodes_kept : nodes_at new ≡ nodes_at old
 
 -- the entries of node u, which has these children and this rank in the arrays
 pub record NodeIs (a b rank u : ℕ) (columns : List ℕ) : Type 0 where
@@ -41,11 +41,11 @@ pub record NodePut (u a b rank : ℕ) (old new : List ℕ) : Type 0 where
   pub leaf_is : length old ≡ 955 → column_at new 0 u ≡ u → column_at new 5 (column_at new 2 u) ≡ u
   pub leaves_kept : length old ≡ 955 → (r : ℕ) → r ≤ 80 → (column_at new 0 u ≡ u → column_at new 2 u ≢ r)
       → column_at new 5 r ≡ column_at old 5 r
-  pub nodes_kept_lem : nodes_at new ≡ nodes_at old
+  pub nodes_kept : nodes_at new ≡ nodes_at old
 
 -- the first n nodes are stored
 pub record Gathered (n : ℕ) (left right rank : List ℕ) (nodes : ℕ) (columns : List ℕ) : Type 0 where
   pub size : length columns ≡ 955
   pub count : nodes_at columns ≡ nodes
   pub each : (u : ℕ) → u < n → NodeIs (slice_index left u) (slice_index right u) (slice_index rank u) u columns
-  pub leaf_of_lem : (r : ℕ) → r ≤ 80 → LeafOf columns n r (column_at columns 5 r)
+  pub leaf_of : (r : ℕ) → r ≤ 80 → LeafOf columns n r (column_at columns 5 r)

@@ -78,7 +78,7 @@ pub record Outside (row : ℕ) (high low high' low' : List ℕ) : Type 0 where
 
 -- the leaf among the first n nodes that has rank r; 255 if there is none
 pub data LeafOf (columns : List ℕ) (n r at : ℕ) : Type 0 where
-  no_leaf_lem : at ≡ 255 → ((u : ℕ) → u < n → column_at columns 0 u ≡ u → column_at columns 2 u ≢ r) → LeafOf columns n r at
+  no_leaf : at ≡ 255 → ((u : ℕ) → u < n → column_at columns 0 u ≡ u → column_at columns 2 u ≢ r) → LeafOf columns n r at
   one_leaf : at < n → column_at columns 0 at ≡ at → column_at columns 2 at ≡ r → LeafOf columns n r at
 
 -- the nodes below an inner node: those below its left child, then those below its right child, then the node
@@ -92,7 +92,7 @@ pub record Columns (columns : List ℕ) (nodes : ℕ) (ts : List Tree) : Type 0 
   pub laid : (v : ℕ) → v < nodes → LaidNode ts (column_at columns 0 v) (column_at columns 1 v) v (subtree ts v)
   pub count : length ts ≡ nodes
   pub once : (u v : ℕ) (x : Label) → u < nodes → v < nodes → subtree ts u ≡ leaf x → subtree ts v ≡ leaf x → u ≡ v
-  pub leaf_of_lem : (r : ℕ) → r ≤ 80 → LeafOf columns nodes r (column_at columns 5 r)
+  pub leaf_of : (r : ℕ) → r ≤ 80 → LeafOf columns nodes r (column_at columns 5 r)
   pub low : (v : ℕ) → v < nodes → column_at columns 4 v ≤ v
   pub leaf_low : (v : ℕ) → v < nodes → column_at columns 0 v ≡ v → column_at columns 4 v ≡ v
   pub spans : (v : ℕ) → v < nodes → (column_at columns 0 v ≢ v) → Spans columns v

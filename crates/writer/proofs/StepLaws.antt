@@ -27,11 +27,11 @@ use Rattle.writer.specs.Passes.{leaf_spelling, leaf_token, weight_at, sum_at, le
 -- ---- the test of a node; l, r, s and n are its entries
 
 module _ (a : TreeArrays) (text : List ℕ) (u l : ℕ) (is-left : l ≡ get_or a.left u 0) where
-  module _ (s n : ℕ) (is-start : s ≡ get_or a.start u 0) (is-size : n ≡ get_or a.size u 0) (is_IsLeaf : l ≡ u) where
+  module _ (s n : ℕ) (is-start : s ≡ get_or a.start u 0) (is-size : n ≡ get_or a.size u 0) (own-child : l ≡ u) where
     pub past_end : length text < s + n → false ≡ good_node a text u
     unfolding good_node is_leaf
     past_end h =
-        rw (eq-eqb (get_or a.left u 0) u (sym is-left ∙ is_IsLeaf), lt-leb (get_or a.start u 0 + get_or a.size u 0) (length text) (omega arith)) refl
+        rw (eq-eqb (get_or a.left u 0) u (sym is-left ∙ own-child), lt-leb (get_or a.start u 0 + get_or a.size u 0) (length text) (omega arith)) refl
 
     -- x is the part of the text that the entries name
     pub label_test : s + n ≤ length text → (x : Token) → x ≡ part_of s n text → (k : ℕ) → k ≡ length (spelling x)
@@ -41,7 +41,7 @@ module _ (a : TreeArrays) (text : List ℕ) (u l : ℕ) (is-left : l ≡ get_or 
         let inside = le-leb (get_or a.start u 0 + get_or a.size u 0) (length text) (omega arith) in
         let named = ex ∙ ap₂ (λ (i j : ℕ). part_of i j text) is-start is-size in
         let is : k ≡ length (spelling (label_at a text u)) = ek ∙ ap (λ (y : Token). length (spelling y)) (rw inside at named) in
-        rw (eq-eqb (get_or a.left u 0) u (sym is-left ∙ is_IsLeaf), inside) (ap (λ (m : ℕ). leb m label_limit) is)
+        rw (eq-eqb (get_or a.left u 0) u (sym is-left ∙ own-child), inside) (ap (λ (m : ℕ). leb m label_limit) is)
 
   pub children_test : (r : ℕ) → r ≡ get_or a.right u 0 → (l ≡ u → ⊥) → l < u → ltb r u ≡ good_node a text u
   unfolding good_node is_leaf
