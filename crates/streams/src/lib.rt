@@ -19,7 +19,7 @@ fn read_some<R: Read>(input: &mut R, buf: &mut [u8]) -> usize
 }
 
 // Reads until `buf` is full, the input ends or a read fails, and returns how many bytes it put at the start of `buf`. They are the next of the
-// input, in order. If `buf` is empty, it reads nothing.
+// input, in order. If `buf` is empty, it reads nothing. No clause says how many: a read may fail at any time.
 pub fn read_full<R: Read>(input: &mut R, buf: &mut [u8]) -> usize
     ensures bound { result ≤ length buf.new }
     ensures bytes { Consumes (R.remaining input.old) (R.remaining input.new) (take result buf.new) }
