@@ -68,7 +68,7 @@ fn choose(
     let mut rank2 = [0u8; NODE_LIMIT];
     rank_leaves(&order1, m, &mut rank1);
     rank_leaves(&order2, m, &mut rank2);
-    let largest = largest_set(
+    let answer = largest_set(
         tree1,
         tree2,
         &rank1,
@@ -78,10 +78,10 @@ fn choose(
         places.count,
         chosen,
     );
-    if largest.found {
+    if let Some(size) = answer {
         return Chosen {
             fate: ListFate::Agreed,
-            size: largest.size,
+            size,
         };
     }
     let clash = clash_in(tree1, tree2, order, number, places);

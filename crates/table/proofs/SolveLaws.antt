@@ -1,12 +1,13 @@
 -- From the weights by rank to the answer: they stand for weights of labels, the cell of both roots is the greatest weight, and it tells
 -- the set. Assumes nothing.
-use Rattle.std.proofs.Common.{◌≡◌, ℕ, suc, ◌+◌, ◌-◌, ◌*◌, ◌/◌, ◌%◌, ◌<◌, ◌≤◌, min, Bool, true, false, cond, eqb, ◌⊎◌, ◌↔◌, List, [], length, get_or, replicate, sym, refl, ap, ◌∙◌, inl, inr, arith, eq-eqb, ne_eqb, eqb-true}
+use Rattle.std.proofs.Common.{◌≡◌, ℕ, suc, ◌+◌, ◌-◌, ◌*◌, ◌/◌, ◌%◌, ◌<◌, ◌≤◌, min, Bool, true, false, cond, Option, Some, None, eqb, ◌⊎◌, ◌↔◌, List, [], length, get_or, replicate, sym, refl, ap, ◌∙◌, inl, inr, arith, eq-eqb, ne_eqb, eqb-true}
 use lib.ListN.{length-replicate}
+use Rattle.std.proofs.lemmas.Option.{none-some}
 use Rattle.trees.specs.declared.TreeArrays.{TreeArrays}
 use Rattle.trees.specs.Label.{Label, same_label, is_in, distinct}
 use Rattle.trees.specs.Tree.{Tree, leaves, leaf_limit, Proper}
 use Rattle.trees.specs.Postorder.{postorder, subtree}
-use Rattle.trees.proofs.Bools.{bool_cases, clash}
+use Rattle.trees.proofs.Bools.{bool_cases}
 use Rattle.trees.proofs.EntryLaws.{filled_at}
 use Rattle.trees.proofs.LabelLaws.{same_cases, same_ne, eq_same}
 use Rattle.trees.proofs.ArrayLaws.{nodes_pos}
@@ -225,37 +226,38 @@ module _ (s t : Tree) (K : List Label) (tree1 tree2 : TreeArrays) (rank1 rank2 :
     decoded : chosen_from chosen 0 (common s t) ≡ decode leaf_limit (common s t) (top % whole)
     decoded = chosen_decoded leaf_limit (common s t) (top % whole) chosen 0 (common_few s t own) each
 
-    pub solved_set : Solved s t K true size chosen
+    pub solved_set : Solved s t K (Some size) chosen
     solved_set = record {
-      set = λ k.
+      set = λ n k.
           told_set s t K own posed.different posed.required top w.great (e ∙ posed.count_is) ∙ ap largest (sym decoded);
-      count = λ k.
-          is ∙ sym (told_size s t K own posed.different posed.required top w.great (e ∙ posed.count_is))
+      count = λ n k.
+          let same : n ≡ size = cc in
+          same ∙ is ∙ sym (told_size s t K own posed.different posed.required top w.great (e ∙ posed.count_is))
           ∙ ap (length {A = Label}) (sym decoded);
-      disagreement = λ k. clash {b = true} refl k;
+      disagreement = λ k. absurd (none-some _ (sym k));
     }
 
-  pub solved_eight : (chosen : List Bool) → (top / whole / required_unit ≡ count → ⊥) → Solved s t K false 0 chosen
+  pub solved_eight : (chosen : List Bool) → (top / whole / required_unit ≡ count → ⊥) → Solved s t K None chosen
   solved_eight chosen apart = record {
-    set = λ k. clash {b = false} k refl;
-    count = λ k. clash {b = false} k refl;
+    set = λ n k. absurd (none-some n k);
+    count = λ n k. absurd (none-some n k);
     disagreement = λ k. told_eight s t K own posed.different posed.required top w.great (λ e. apart (e ∙ sym posed.count_is));
   }
 
 -- demand 3 of what comes back
 
-module _ (s t : Tree) (K : List Label) (proper : Proper s) (different : distinct K ≡ true) (found : Bool) (size : ℕ) (chosen : List Bool)
-    (solved : Solved s t K found size chosen) where
-  pub set_told : found ≡ true → IsAnswer s t K (chosen_from chosen 0 (common s t))
-  set_told e = (largest_exactly s t K proper.different different (chosen_from chosen 0 (common s t))).0 (solved.set e)
+module _ (s t : Tree) (K : List Label) (proper : Proper s) (different : distinct K ≡ true) (size : Option ℕ) (chosen : List Bool)
+    (solved : Solved s t K size chosen) where
+  pub set_told : (n : ℕ) → size ≡ Some n → IsAnswer s t K (chosen_from chosen 0 (common s t))
+  set_told n e = (largest_exactly s t K proper.different different (chosen_from chosen 0 (common s t))).0 (solved.set n e)
 
-  pub eight_told : Common s t (set_of K) → (found ≡ false) ↔ ((a : Label) × (b : Label) × (c : Label) × Clash s t K a b c)
-  eight_told held = (λ e. exactly.1 (solved.disagreement e), λ p. apart (bool_cases found) (exactly.0 p))
+  pub eight_told : Common s t (set_of K) → (size ≡ None) ↔ ((a : Label) × (b : Label) × (c : Label) × Clash s t K a b c)
+  eight_told held = (λ e. exactly.1 (solved.disagreement e), λ p. apart size refl (exactly.0 p))
     where
       exactly : ((a : Label) × (b : Label) × (c : Label) × Clash s t K a b c)
           ↔ ((a : Label) × (b : Label) × (c : Label) × (answer s t K ≡ disagree a b c))
       exactly = eight_exactly s t K proper.different different held
 
-      apart : (found ≡ true) ⊎ (found ≡ false) → ((a : Label) × (b : Label) × (c : Label) × (answer s t K ≡ disagree a b c)) → found ≡ false
-      apart (inr e) p = e
-      apart (inl e) p = let f = solved.set e in let g = p.3 in let z : ◌≡◌ {A = ℕ} 0 1 = cc in absurd (omega arith)
+      apart : (o : Option ℕ) → size ≡ o → ((a : Label) × (b : Label) × (c : Label) × (answer s t K ≡ disagree a b c)) → size ≡ None
+      apart None e p = e
+      apart (Some n) e p = let f = solved.set n e in let g = p.3 in let z : ◌≡◌ {A = ℕ} 0 1 = cc in absurd (omega arith)

@@ -1,7 +1,7 @@
 -- The query that the table receives, and its result. The query: two trees by their arrays, their common labels and the required ones by
 -- rank. The result: the set, or that three required labels have different closer pairs. 01, "Agreement", and row 8 of "Why a job is turned
 -- down".
-use Rattle.std.specs.Prelude.{◌≡◌, ℕ, suc, ◌<◌, Bool, true, false, cond, List, [], ◌∷◌, length, slice_index, slice_index_or}
+use Rattle.std.specs.Prelude.{◌≡◌, ℕ, suc, ◌<◌, Bool, true, false, cond, Option, Some, None, List, [], ◌∷◌, length, slice_index, slice_index_or}
 use Rattle.trees.specs.declared.TreeArrays.{TreeArrays}
 use Rattle.trees.specs.Label.{Label, is_in, distinct}
 use Rattle.trees.specs.Tree.{Tree, Proper}
@@ -47,7 +47,7 @@ chosen_from chosen r (c ∷ cs) = cond (slice_index_or chosen r false) (c ∷ ch
 
 -- "Agreement", "Largest" and "first": the answer is the set of the labels chosen, and the size is its count; or row 8, three required labels
 -- with different closer pairs
-pub record Solved (s t : Tree) (K : List Label) (found : Bool) (size : ℕ) (chosen : List Bool) : Type 0 where
-  pub set : found ≡ true → answer s t K ≡ largest (chosen_from chosen 0 (common s t))
-  pub count : found ≡ true → size ≡ length (chosen_from chosen 0 (common s t))
-  pub disagreement : found ≡ false → (a : Label) × (b : Label) × (c : Label) × (answer s t K ≡ disagree a b c)
+pub record Solved (s t : Tree) (K : List Label) (size : Option ℕ) (chosen : List Bool) : Type 0 where
+  pub set : (n : ℕ) → size ≡ Some n → answer s t K ≡ largest (chosen_from chosen 0 (common s t))
+  pub count : (n : ℕ) → size ≡ Some n → n ≡ length (chosen_from chosen 0 (common s t))
+  pub disagreement : size ≡ None → (a : Label) × (b : Label) × (c : Label) × (answer s t K ≡ disagree a b c)

@@ -4,7 +4,7 @@
 // No public function has a `requires`.
 #![tactic(auto)]
 
-ghost use Rattle.std.specs.Prelude.{◌≡◌, ℕ, ◌≤◌, min, true, false, List, replicate, slice_index_or};
+ghost use Rattle.std.specs.Prelude.{◌≡◌, ℕ, ◌≤◌, min, Some, None, false, List, replicate, slice_index_or};
 ghost use Rattle.trees.specs.Label.{Label};
 ghost use Rattle.trees.specs.Tree.{Tree};
 ghost use Rattle.table.specs.Choice.{Posed, Solved};
@@ -46,17 +46,10 @@ fn weigh(
     root_weight(&first, &second, high, low)
 }
 
-// Whether two trees agree on the required labels, and how many labels are chosen, 0 if they do not.
-#[derive(Clone, Copy)]
-pub struct Largest {
-    pub found: bool,
-    pub size: usize,
-}
-
-// Whether two trees agree on the required labels, of which there are `count`; if so, the labels chosen are the answer, by rank among
-// the m common ones. A tree is given by its arrays and, by node, its leaves' ranks; `number` has by rank a required label's number in
-// the list, counted from 1. One fill: the cell of both roots is the greatest weight, which tells it all. Arrays of no tree are taken
-// for some tree's, so what comes back for them is free.
+// How many labels are chosen: the answer, by rank among the m common ones. `None` if three of the `count` required ones clash; then
+// `chosen` stays as it was. A tree is given by its arrays and, by node, its leaves' ranks; `number` has by rank a required label's
+// number in the list, counted from 1. One fill: the cell of both roots is the greatest weight, which tells it all. Arrays of no tree
+// are taken for some tree's, so what comes back for them is free.
 pub fn largest_set(
     tree1: TreeArrays,
     tree2: TreeArrays,
@@ -66,12 +59,12 @@ pub fn largest_set(
     number: &[u8; RANKS],
     count: usize,
     chosen: &mut [bool; LEAF_LIMIT],
-) -> Largest
+) -> Option<usize>
     ensures solved { (s t : Tree) (K : List Label)
         → Posed s t K tree1 tree2 rank1.now rank2.now m number.now count
-        → Solved s t K result.found result.size chosen.new }
-    ensures false_after { result.found ≡ true → (k : ℕ) → m ≤ k → slice_index_or chosen.new k false ≡ false }
-    ensures size_value { result.found ≡ false → (result.size ≡ 0) × (chosen.new ≡ chosen.old) }
+        → Solved s t K result chosen.new }
+    ensures false_after { (n : ℕ) → result ≡ Some n → (k : ℕ) → m ≤ k → slice_index_or chosen.new k false ≡ false }
+    ensures left_alone { result ≡ None → chosen.new ≡ chosen.old }
 {
     let common = trees::least(m, LEAF_LIMIT);
     let mut high = [0u32; AREA];
@@ -80,14 +73,8 @@ pub fn largest_set(
         tree1, tree2, rank1, rank2, common, number, &mut high, &mut low,
     );
     if held(top) != count {
-        return Largest {
-            found: false,
-            size: 0,
-        };
+        return None;
     }
     read_set(&high, &low, top, common, chosen);
-    Largest {
-        found: true,
-        size: labels(top),
-    }
+    Some(labels(top))
 }
