@@ -18,7 +18,7 @@ use Rattle.trees.proofs.FoldLaws.{one_itself}
 use Rattle.trees.proofs.EditionLaws.{folded_count, valid_folded, folded_valid, valid_spelled, text_folded, arrays_folded, unfold_text}
 use Rattle.trees.proofs.EditionLaws.{normal_tree, normal_tree_valid}
 use Rattle.trees.proofs.StandsLaws.{ReadView, read_as, turned_as, stands_good, stands_refused, stands_alike, view_is, view_folded, view_refused, view_told}
-use Rattle.newick.specs.declared.TreeAnswer.TheVariants.{Leaves}
+use Rattle.std.specs.Prelude.{Ok}
 use Rattle.newick.specs.declared.TreeRead.{TreeRead}
 use Rattle.newick.specs.ReadTree.{read_tree, read_tree_in, tree_read}
 use Rattle.newick.specs.Grammar.{TreeText, OpenCrowd, TreeFault}
@@ -75,7 +75,7 @@ module _ (e : Edition) where
     where
       same : (t : Tree) → tree_read body (good (folded e t)) ≡ tree_read body (good t)
       same t =
-          ap₂ {C = TreeRead} (λ (n : ℕ) (a : TreeArrays). record { answer = Leaves n; tree = a }) (folded_count e t) (arrays_folded e t)
+          ap₂ {C = TreeRead} (λ (n : ℕ) (a : TreeArrays). record { answer = Ok n; tree = a }) (folded_count e t) (arrays_folded e t)
 
   pub refusal_in : (text : List ℕ) (r : Reason) (i : ℕ) → read_tree_in e text ≡ refused r i → TreeFault (in_edition e text) r i
   refusal_in text r i h = refusal (in_edition e text) r i (folded_refused text r i h)

@@ -23,8 +23,7 @@ use Rattle.newick.specs.declared.Mode.TheVariants.{Due}
 use Rattle.newick.specs.declared.Scan.{Scan}
 use Rattle.newick.specs.declared.Move.{Move}
 use Rattle.newick.specs.declared.Move.TheVariants.{On, Stop}
-use Rattle.newick.specs.declared.TreeAnswer.{TreeAnswer}
-use Rattle.newick.specs.declared.TreeAnswer.TheVariants.{Leaves, Refused}
+use Rattle.std.specs.Prelude.{Result, Ok, Err}
 use Rattle.newick.specs.ReadTree.{Opened, Phase, node_due, in_label, in_quotes, after_node, ended, read_from, end_of}
 use Rattle.newick.specs.ReadTree.{read_tree, tree_read}
 use Rattle.newick.specs.Machine.{open_limit, Arrays, arrays, Progress, progress_of, scan, move_of, answer_of, refusal, turned_down}
@@ -132,14 +131,14 @@ module _ (text : List ℕ) (st : Scan) (a : Arrays) (i : ℕ) (S : Simulates tex
       (sym (subst (λ (x : Move). Leads text (read_tree text) (i + 1) (drop (i + 1) text) (progress_of x b)) q (leads_so (progress_of m b) h e)))
 
 -- what the answer at the end says of the reading
-abbrev Ends : List ℕ → Body → Scan → Arrays → TreeAnswer → Type 0
-Ends text body st a (Leaves n) = with_arrays (Leaves n) st.nodes a.left a.right a.start a.size ≡ tree_read body (read_tree text)
-Ends text body st a (Refused r) = turned_down (Refused r) ≡ tree_read body (read_tree text)
+abbrev Ends : List ℕ → Body → Scan → Arrays → Result ℕ Refusal → Type 0
+Ends text body st a (Ok n) = with_arrays (Ok n) st.nodes a.left a.right a.start a.size ≡ tree_read body (read_tree text)
+Ends text body st a (Err r) = turned_down (Err r) ≡ tree_read body (read_tree text)
 
 -- a tree
 good_so : {text : List ℕ} (body : Body) {t : Tree} {seen : List Label} {st : Scan} {a : Arrays} {i : ℕ}
     → Follows text (ended t) [] seen st a i [] → good t ≡ read_tree text
-    → with_arrays (Leaves (st.opens + 1)) st.nodes a.left a.right a.start a.size ≡ tree_read body (read_tree text)
+    → with_arrays (Ok (st.opens + 1)) st.nodes a.left a.right a.start a.size ≡ tree_read body (read_tree text)
 unfolding tree_read arrays_of text_in nodes_in opens_in column_in filled
 good_so body {t = t} {st = st} F e =
     let count : st.opens + 1 ≡ length (leaves t) = omega (arith, F.counts.opens, leaves_inner t) in
@@ -173,7 +172,7 @@ ends_by {text = text} body (ended t) {seen = seen} {st = st} {a = a} {i = i} F l
     (good_so body (subst (λ (q : List Opened). Follows text (ended t) q seen st a i []) F.mode.1 F) e)
 
 -- the text ends
-module _ (text : List ℕ) (st : Scan) (a : Arrays) (i : ℕ) (S : Simulates text st a i) (body : Body) (x : TreeAnswer) (end : length text ≤ i)
+module _ (text : List ℕ) (st : Scan) (a : Arrays) (i : ℕ) (S : Simulates text st a i) (body : Body) (x : Result ℕ Refusal) (end : length text ≤ i)
     (answer : x ≡ answer_of st.mode text body st a.start a.size) where
   ends_so : Ends text body st a x
   ends_so =
@@ -183,8 +182,8 @@ module _ (text : List ℕ) (st : Scan) (a : Arrays) (i : ℕ) (S : Simulates tex
       subst (Ends text body st a) (sym answer)
       (ends_by body S.ph F (omega (arith, place_in F)) (ap (expected S.ph S.s S.seen st i) (sym d) ∙ S.told))
 
-  pub ends_tree : (n : ℕ) → x ≡ Leaves n → with_arrays x st.nodes a.left a.right a.start a.size ≡ tree_read body (read_tree text)
+  pub ends_tree : (n : ℕ) → x ≡ Ok n → with_arrays x st.nodes a.left a.right a.start a.size ≡ tree_read body (read_tree text)
   ends_tree n q = rw q (subst (Ends text body st a) q ends_so)
 
-  pub ends_refused : (r : Refusal) → x ≡ Refused r → turned_down x ≡ tree_read body (read_tree text)
+  pub ends_refused : (r : Refusal) → x ≡ Err r → turned_down x ≡ tree_read body (read_tree text)
   ends_refused r q = rw q (subst (Ends text body st a) q ends_so)

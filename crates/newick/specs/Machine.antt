@@ -1,11 +1,12 @@
 -- The reading machine over lists of array entries, with a definition for each function of the source that takes a step. Intermediate:
 -- nothing public rests on this text; proofs/Simulation.antt relates it to the reading of a tree text.
-use Rattle.std.specs.Prelude.{ℕ, ◌+◌, ◌-◌, ◌*◌, ◌≤◌, ◌<◌, Bool, cond, List, eqb, ltb, length, get_or, set}
+use Rattle.std.specs.Prelude.{ℕ, ◌+◌, ◌-◌, ◌*◌, ◌≤◌, ◌<◌, Bool, cond, List, eqb, ltb, length, get_or, set, Result, Ok, Err}
 use Rattle.trees.specs.declared.Kind.{Kind}
 use Rattle.trees.specs.declared.Kind.TheVariants.{Label as LabelByte, Open, Close, Comma, Semicolon, Quote, Blank, Other}
 use Rattle.trees.specs.declared.Reason.{Reason}
 use Rattle.trees.specs.declared.Reason.TheVariants.{BadByte, EndsTooSoon, LabelTooLong, TooMany, Repeated}
 use Rattle.trees.specs.declared.Body.{Body}
+use Rattle.trees.specs.declared.Refusal.{Refusal}
 use Rattle.trees.specs.Label.{label_limit}
 use Rattle.trees.specs.Tree.{leaf_limit}
 use Rattle.trees.specs.Arrays.{no_arrays, node_limit}
@@ -16,8 +17,6 @@ use Rattle.newick.specs.declared.Mode.TheVariants.{Due, Inside, Quoted, After, D
 use Rattle.newick.specs.declared.Scan.{Scan}
 use Rattle.newick.specs.declared.Move.{Move}
 use Rattle.newick.specs.declared.Move.TheVariants.{On, Stop}
-use Rattle.newick.specs.declared.TreeAnswer.{TreeAnswer}
-use Rattle.newick.specs.declared.TreeAnswer.TheVariants.{Leaves, Refused}
 use Rattle.newick.specs.declared.TreeRead.{TreeRead}
 
 -- a tree of 80 leaves has 79 `(`
@@ -167,20 +166,20 @@ move_of (Quoted first len) text st a i k = quoted_of text st a first len i k
 move_of (After u) text st a i k = after_of st a u i k
 move_of Done text st a i k = halt BadByte i
 
-abbrev pub refusal : Body → Reason → ℕ → TreeAnswer
-refusal body r i = Refused (record { reason = r; body = body; place = i })
+abbrev pub refusal : Body → Reason → ℕ → Result ℕ Refusal
+refusal body r i = Err (record { reason = r; body = body; place = i })
 
 -- a refusal, with arrays of no node
-abbrev pub turned_down : TreeAnswer → TreeRead
+abbrev pub turned_down : Result ℕ Refusal → TreeRead
 turned_down answer = record { answer = answer; tree = no_arrays }
 
 -- the answer with the arrays that were filled
-abbrev pub with_arrays : TreeAnswer → ℕ → (l r s z : List ℕ) → TreeRead
+abbrev pub with_arrays : Result ℕ Refusal → ℕ → (l r s z : List ℕ) → TreeRead
 with_arrays answer nodes l r s z =
     record { answer = answer; tree = record { nodes = nodes; left = l; right = r; start = s; size = z } }
 
 -- the answer if the text ends here
-unfoldable pub answer_of : Mode → List ℕ → Body → Scan → (start size : List ℕ) → TreeAnswer
+unfoldable pub answer_of : Mode → List ℕ → Body → Scan → (start size : List ℕ) → Result ℕ Refusal
 unfolding repeat_of
 answer_of Due text body st start size = refusal body EndsTooSoon (length text)
 answer_of (Inside first len) text body st start size =
@@ -188,7 +187,7 @@ answer_of (Inside first len) text body st start size =
     (refusal body EndsTooSoon (length text))
 answer_of (Quoted first len) text body st start size = refusal body EndsTooSoon (length text)
 answer_of (After u) text body st start size = refusal body EndsTooSoon (length text)
-answer_of Done text body st start size = Leaves (st.opens + 1)
+answer_of Done text body st start size = Ok (st.opens + 1)
 
 -- the stack has room
 pub record Room (st : Scan) : Type 0 where

@@ -1,7 +1,7 @@
 -- Reading a tree text from left to right: "The class of the byte and what may follow at that point decide each step." 01, "Tree text" and
 -- rows 1 to 5 of "Why a job is turned down"; C-12 for quotes. A repeat is reported at its first byte, so the first fault that is met is the
 -- one with the smallest place. The tree has tokens for labels.
-use Rattle.std.specs.Prelude.{ℕ, ◌+◌, ◌-◌, Bool, cond, List, [], ◌∷◌, ◌++◌, eqb, length}
+use Rattle.std.specs.Prelude.{ℕ, ◌+◌, ◌-◌, Bool, cond, List, [], ◌∷◌, ◌++◌, eqb, length, Ok, Err}
 use Rattle.trees.specs.declared.Kind.{Kind}
 use Rattle.trees.specs.declared.Kind.TheVariants.{Label as LabelByte, Open, Close, Comma, Semicolon, Quote, Blank, Other}
 use Rattle.trees.specs.declared.Reason.{Reason}
@@ -15,7 +15,6 @@ use Rattle.trees.specs.Tree.{Tree, leaf, node, leaves, leaf_limit}
 use Rattle.trees.specs.Edition.{in_edition}
 use Rattle.trees.specs.Reading.{Reading, good, refused, as_stands, repeats}
 use Rattle.trees.specs.Arrays.{arrays_of, no_arrays}
-use Rattle.newick.specs.declared.TreeAnswer.TheVariants.{Leaves, Refused}
 use Rattle.newick.specs.declared.TreeRead.{TreeRead}
 
 -- an open `(`: its first child is being read, or was read and the second is being read
@@ -152,6 +151,6 @@ read_tree_in e text = as_stands (read_tree (in_edition e text)) (read_tree text)
 
 -- the answer of the tree reader for the given body
 unfoldable pub tree_read : Body → Reading Tree → TreeRead
-tree_read body (good t) = record { answer = Leaves (length (leaves t)); tree = arrays_of t }
+tree_read body (good t) = record { answer = Ok (length (leaves t)); tree = arrays_of t }
 tree_read body (refused r at) =
-    record { answer = Refused (record { reason = r; body = body; place = at }); tree = no_arrays }
+    record { answer = Err (record { reason = r; body = body; place = at }); tree = no_arrays }

@@ -1,21 +1,20 @@
 -- An answer of the tree reader in 01's terms: how many leaves, or a row of the table "Why a job is turned down" with its number, body
 -- letter and place. Then the table's examples.
-use Rattle.std.specs.Prelude.{ℕ, ◌≡◌, List, [], ◌∷◌, ◌++◌, replicate}
+use Rattle.std.specs.Prelude.{ℕ, ◌≡◌, List, [], ◌∷◌, ◌++◌, replicate, Result, Ok, Err}
 use Rattle.trees.specs.declared.Body.{Body}
 use Rattle.trees.specs.declared.Edition.{Edition}
+use Rattle.trees.specs.declared.Refusal.{Refusal}
 use Rattle.trees.specs.declared.Edition.TheVariants.{One, Two}
 use Rattle.trees.specs.declared.Body.TheVariants.{S}
 use Rattle.trees.specs.Bytes.{quote_byte}
 use Rattle.trees.specs.Words.{bytes_of}
 use Rattle.trees.specs.Refusals.{Said, value, row, row_of}
-use Rattle.newick.specs.declared.TreeAnswer.{TreeAnswer}
-use Rattle.newick.specs.declared.TreeAnswer.TheVariants.{Leaves, Refused}
 use Rattle.newick.specs.ReadTree.{read_tree_in, tree_read}
 
-unfoldable pub tree_says : TreeAnswer → Said ℕ
+unfoldable pub tree_says : Result ℕ Refusal → Said ℕ
 unfolding row_of
-tree_says (Leaves n) = value n
-tree_says (Refused r) = row_of r
+tree_says (Ok n) = value n
+tree_says (Err r) = row_of r
 
 -- the answer under an edition for a text given as a body
 unfoldable pub says_of : Edition → Body → List ℕ → Said ℕ

@@ -23,17 +23,10 @@ use trees::{
 // The most `(` of a tree, one less than its leaves.
 const OPEN_LIMIT: usize = LEAF_LIMIT - 1;
 
-// How many leaves were read, or why the text was turned down.
-#[derive(Clone, Copy)]
-pub enum TreeAnswer {
-    Leaves(usize),
-    Refused(Refusal),
-}
-
-// The answer with the tree's arrays beside it; the arrays of a refusal have no node.
+// How many leaves were read, or why the text was turned down. The tree's arrays stand beside it; those of a refusal have no node.
 #[derive(Clone, Copy)]
 pub struct TreeRead {
-    pub answer: TreeAnswer,
+    pub answer: Result<usize, Refusal>,
     pub tree: TreeArrays,
 }
 
@@ -438,10 +431,10 @@ fn step(
 }
 
 // The answer that turns the text down.
-fn refuse(body: Body, reason: Reason, place: usize) -> TreeAnswer
+fn refuse(body: Body, reason: Reason, place: usize) -> Result<usize, Refusal>
     ensures { result ≡ refusal body reason place }
 {
-    TreeAnswer::Refused(Refusal {
+    Err(Refusal {
         reason: reason,
         body: body,
         place: place,
@@ -456,13 +449,13 @@ fn at_end(
     st: Scan,
     start: &[u16; NODE_LIMIT],
     size: &[u8; NODE_LIMIT],
-) -> TreeAnswer
+) -> Result<usize, Refusal>
     requires { Ready st.mode st }
     ensures { result ≡ answer_of st.mode (in_edition edition text.now) body st start.now size.now }
 {
     let mode = st.mode;
     match mode {
-        Mode::Done => TreeAnswer::Leaves(st.opens + 1),
+        Mode::Done => Ok(st.opens + 1),
         Mode::Inside(first, len) => {
             if repeated(edition, text, start, size, st.nodes, first, len) {
                 refuse(body, Reason::Repeated, first)
@@ -475,7 +468,7 @@ fn at_end(
 }
 
 // A refusal, with arrays of no node.
-fn turned_down(answer: TreeAnswer) -> TreeRead
+fn turned_down(answer: Result<usize, Refusal>) -> TreeRead
     ensures { result ≡ turned_down answer }
 {
     TreeRead {
@@ -492,7 +485,7 @@ fn turned_down(answer: TreeAnswer) -> TreeRead
 
 // The answer with the arrays that were filled.
 fn with_arrays(
-    answer: TreeAnswer,
+    answer: Result<usize, Refusal>,
     nodes: usize,
     left: [u8; NODE_LIMIT],
     right: [u8; NODE_LIMIT],
@@ -551,7 +544,7 @@ pub fn read_tree(edition: Edition, text: &[u8], body: Body) -> TreeRead
         i += 1;
     }
     let answer = at_end(edition, text, body, st, &start, &size);
-    let TreeAnswer::Leaves(_) = answer else {
+    let Ok(_) = answer else {
         return turned_down(answer);
     };
     with_arrays(answer, st.nodes, left, right, start, size)

@@ -5,7 +5,6 @@
 // place, the label that begins there and one more byte. So the first `INPUT_ROOM` bytes decide the answer to an input of any length.
 #![tactic(auto)]
 
-use newick::TreeAnswer;
 use std::io::Write;
 use trees::{Body, Edition, Refusal, TOKEN_LIMIT, TREE_ROOM};
 use writer::WriteAnswer;
@@ -26,7 +25,7 @@ fn print_refusal<W: Write>(output: &mut W, refusal: Refusal) {
 fn print_line<W: Write>(output: &mut W, text: &[u8]) {
     let read = newick::read_tree(Edition::One, text, Body::S);
     let answer = read.answer;
-    if let TreeAnswer::Refused(refusal) = answer {
+    if let Err(refusal) = answer {
         print_refusal(output, refusal);
         return;
     }

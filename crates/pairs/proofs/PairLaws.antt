@@ -14,7 +14,7 @@ use Rattle.trees.specs.Arrays.{arrays_of, node_limit}
 use Rattle.trees.specs.Reading.{Reading, good, refused as unread}
 use Rattle.trees.proofs.ArrayLaws.{few_nodes}
 use Rattle.trees.proofs.EditionLaws.{arrays_folded, valid_folded, text_folded, keyed_count}
-use Rattle.newick.specs.declared.TreeAnswer.TheVariants.{Leaves, Refused as TreeRefused}
+use Rattle.std.specs.Prelude.{Ok, Err}
 use Rattle.newick.specs.declared.TreeRead.{TreeRead}
 use Rattle.newick.specs.ReadTree.{read_tree_in, tree_read}
 use Rattle.newick.proofs.EditionReads.{accepts_in}
@@ -39,31 +39,31 @@ pub record ReadAs (e : Edition) (text : List ℕ) (tree : TreeArrays) (count : �
   pub arrays : tree ≡ arrays_of of
   pub count_is : count ≡ length (leaves of)
 
-tree_case : (body : Body) (x : Reading Tree) (r : TreeRead) (n : ℕ) → r ≡ tree_read body x → r.answer ≡ Leaves n
+tree_case : (body : Body) (x : Reading Tree) (r : TreeRead) (n : ℕ) → r ≡ tree_read body x → r.answer ≡ Ok n
     → (t : Tree) × (x ≡ good t) × (r.tree ≡ arrays_of t) × (n ≡ length (leaves t))
 unfolding tree_read
 tree_case body (good t) r n e h =
-    let d : Leaves n ≡ Leaves (length (leaves t)) = sym h ∙ ap (λ q. q.answer) e in
+    let d : Ok n ≡ Ok (length (leaves t)) = sym h ∙ ap (λ q. q.answer) e in
     (t, refl, ap (λ q. q.tree) e, cc)
 tree_case body (unread q i) r n e h =
-    let d : TreeRefused (record { reason = q; body = body; place = i }) ≡ Leaves n = sym (ap (λ q. q.answer) e) ∙ h in
+    let d : Err (record { reason = q; body = body; place = i }) ≡ Ok n = sym (ap (λ q. q.answer) e) ∙ h in
     let z : ◌≡◌ {A = ℕ} 0 1 = cc in
     absurd (omega arith)
 
 pub tree_read_lem : (e : Edition) (body : Body) (text : List ℕ) (r : TreeRead) (n : ℕ) → r ≡ tree_read body (read_tree_in e text)
-    → r.answer ≡ Leaves n → ReadAs e text r.tree n
+    → r.answer ≡ Ok n → ReadAs e text r.tree n
 tree_read_lem e body text r n d h =
     let k = tree_case body (read_tree_in e text) r n d h in
     record { of = k.0; is = k.1; arrays = k.2; count_is = k.3 }
 
-unread_case : (body : Body) (x : Reading Tree) (q : Refusal) → (tree_read body x).answer ≡ TreeRefused q
+unread_case : (body : Body) (x : Reading Tree) (q : Refusal) → (tree_read body x).answer ≡ Err q
     → Unread Tree x body (unread_tree (tree_read body x).answer body)
 unfolding tree_read unread_tree
 unread_case body (good t) q h = let z : ◌≡◌ {A = ℕ} 0 1 = cc in absurd (omega arith)
 unread_case body (unread r i) q h = record { reason = r; place = i; is = refl; told = refl }
 
 pub tree_unread : (e : Edition) (body : Body) (text : List ℕ) (r : TreeRead) (q : Refusal) → r ≡ tree_read body (read_tree_in e text)
-    → r.answer ≡ TreeRefused q → Unread Tree (read_tree_in e text) body (unread_tree r.answer body)
+    → r.answer ≡ Err q → Unread Tree (read_tree_in e text) body (unread_tree r.answer body)
 tree_unread e body text r q d h = rw d (unread_case body (read_tree_in e text) q (rw d at h))
 
 -- what the engine's parts are handed of a tree, as the edition reads it

@@ -1,5 +1,5 @@
 -- What comes back for two texts: why they are refused, or both trees by their arrays and their common leaves by rank.
-use Rattle.std.specs.Prelude.{ℕ, ◌≤◌, ◌≡◌, List}
+use Rattle.std.specs.Prelude.{ℕ, ◌≤◌, ◌≡◌, List, Result, Ok, Err}
 use Rattle.trees.specs.declared.Body.{Body}
 use Rattle.trees.specs.declared.Reason.TheVariants.{EndsTooSoon}
 use Rattle.trees.specs.declared.Refusal.{Refusal}
@@ -9,8 +9,6 @@ use Rattle.trees.specs.Edition.{in_edition, folded, keyed, ValidIn}
 use Rattle.trees.specs.Tree.{Tree, Valid}
 use Rattle.trees.specs.Text.{text_of}
 use Rattle.trees.specs.Arrays.{arrays_of}
-use Rattle.newick.specs.declared.TreeAnswer.{TreeAnswer}
-use Rattle.newick.specs.declared.TreeAnswer.TheVariants.{Leaves, Refused}
 use Rattle.pairs.specs.declared.CommonOrder.{CommonOrder}
 use Rattle.pairs.specs.declared.Options.{Options}
 use Rattle.pairs.specs.declared.Pair.{Pair}
@@ -43,6 +41,6 @@ pub record PairIs (o : Options) (first second : List ℕ) (r : Pair) : Type 0 wh
       → (b : OwnTrees o.edition first r.tree1 r.tree2 r.order) × (trees_of o first second ≡ found (trees_in b))
 
 -- the refusal of a tree's text; that of a text that was read does not occur
-unfoldable pub unread_tree : TreeAnswer → Body → Refusal
-unread_tree (Leaves n) body = record { reason = EndsTooSoon; body = body; place = 0 }
-unread_tree (Refused q) body = q
+unfoldable pub unread_tree : Result ℕ Refusal → Body → Refusal
+unread_tree (Ok n) body = record { reason = EndsTooSoon; body = body; place = 0 }
+unread_tree (Err q) body = q

@@ -15,7 +15,6 @@ ghost use Rattle.pairs.specs.PairRead.{unread_tree, PairIs};
 
 use crate::ranks::{NONE, order_in};
 use crate::strict::{LeavesShared, pair_leaves};
-use newick::TreeAnswer;
 use trees::{Body, Edition, LEAF_LIMIT, NODE_LIMIT, Reason, Refusal, TreeArrays};
 
 mod ranks;
@@ -58,16 +57,16 @@ pub struct Pair {
 }
 
 // The refusal of a tree text. No call asks for that of a text that was read; what it gets is not an invented success.
-fn unread_tree(answer: TreeAnswer, body: Body) -> Refusal
+fn unread_tree(answer: Result<usize, Refusal>, body: Body) -> Refusal
     ensures { result ≡ unread_tree answer body }
 {
     match answer {
-        TreeAnswer::Leaves(_) => Refusal {
+        Ok(_) => Refusal {
             reason: Reason::EndsTooSoon,
             body,
             place: 0,
         },
-        TreeAnswer::Refused(refusal) => refusal,
+        Err(refusal) => refusal,
     }
 }
 
@@ -105,12 +104,12 @@ pub fn read_pair(options: Options, first: &[u8], second: &[u8]) -> Pair
     let edition = options.edition;
     let one = newick::read_tree(edition, first, Body::S);
     let answer1 = one.answer;
-    let TreeAnswer::Leaves(leaves1) = answer1 else {
+    let Ok(leaves1) = answer1 else {
         return no_pair(unread_tree(answer1, Body::S));
     };
     let two = newick::read_tree(edition, second, Body::T);
     let answer2 = two.answer;
-    let TreeAnswer::Leaves(leaves2) = answer2 else {
+    let Ok(leaves2) = answer2 else {
         return no_pair(unread_tree(answer2, Body::T));
     };
     let tree1 = one.tree;

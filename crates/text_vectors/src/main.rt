@@ -7,7 +7,6 @@
 ghost use Rattle.std.specs.Prelude.{◌+◌, ◌≤◌, ◌<◌, length};
 
 use lists::{LabelPlaces, ListAnswer};
-use newick::TreeAnswer;
 use std::io::{Read, Write};
 use trees::{Body, Edition, Reason, Refusal, TREE_ROOM};
 use writer::WriteAnswer;
@@ -28,7 +27,7 @@ fn print_refusal<W: Write>(output: &mut W, refusal: Refusal) {
 fn print_tree<W: Write>(output: &mut W, edition: Edition, text: &[u8]) {
     let read = newick::read_tree(edition, text, Body::S);
     let answer = read.answer;
-    if let TreeAnswer::Refused(refusal) = answer {
+    if let Err(refusal) = answer {
         print_refusal(output, refusal);
         return;
     }

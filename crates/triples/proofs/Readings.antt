@@ -10,7 +10,7 @@ use Rattle.trees.specs.Token.{Token, spelling}
 use Rattle.trees.specs.Tree.{Tree, decoded}
 use Rattle.trees.specs.Arrays.{arrays_of}
 use Rattle.trees.specs.Reading.{Reading, good, refused}
-use Rattle.newick.specs.declared.TreeAnswer.TheVariants as Trees
+use Rattle.std.specs.Prelude.{Ok, Err}
 use Rattle.newick.specs.declared.TreeRead.{TreeRead}
 use Rattle.newick.specs.ReadTree.{read_tree, tree_read}
 use Rattle.newick.proofs.Accepts.{accepts}
@@ -35,7 +35,7 @@ pub record ListWas (reading : Reading (List Token)) (r : ListRead) : Type 0 wher
   pub read : reading ≡ good labels
   pub places : r.places ≡ places_of labels
 
-pub tree_was : (body : Body) (reading : Reading Tree) (r : TreeRead) (n : ℕ) → r ≡ tree_read body reading → r.answer ≡ Trees.Leaves n
+pub tree_was : (body : Body) (reading : Reading Tree) (r : TreeRead) (n : ℕ) → r ≡ tree_read body reading → r.answer ≡ Ok n
     → TreeWas reading r
 unfolding tree_read
 tree_was body (good t) r n e a = record { tree = t; read = refl; arrays = ap (λ (q : TreeRead). q.tree) e }
@@ -51,14 +51,14 @@ list_was body (refused x i) r n e a =
 
 -- a body that cannot be read decides
 first_body : (reading second : Reading Tree) (list : Reading (List Token)) (r : TreeRead) (x : Refusal) → r ≡ tree_read S reading
-    → r.answer ≡ Trees.Refused x → tree_refusal r.answer S ≡ verdict_on reading second list
+    → r.answer ≡ Err x → tree_refusal r.answer S ≡ verdict_on reading second list
 unfolding tree_read verdict_on tree_refusal
 first_body (good t) second list r x e a =
     absurd (let b = ap (λ (q : TreeRead). q.answer) e in let z : ◌≡◌ {A = ℕ} 0 1 = cc in omega arith)
 first_body (refused y i) second list r x e a = ap (λ (q : TreeRead). tree_refusal q.answer S) e
 
 second_body : (s : Tree) (reading : Reading Tree) (list : Reading (List Token)) (r : TreeRead) (x : Refusal) → r ≡ tree_read T reading
-    → r.answer ≡ Trees.Refused x → tree_refusal r.answer T ≡ verdict_on_second s reading list
+    → r.answer ≡ Err x → tree_refusal r.answer T ≡ verdict_on_second s reading list
 unfolding tree_read verdict_on_second tree_refusal
 second_body s (good t) list r x e a =
     absurd (let b = ap (λ (q : TreeRead). q.answer) e in let z : ◌≡◌ {A = ℕ} 0 1 = cc in omega arith)
@@ -72,7 +72,7 @@ list_body s t (good xs) r x e a =
 list_body s t (refused y i) r x e a = ap (λ (q : ListRead). list_refusal q.answer) e
 
 module _ (first second list : List ℕ) where
-  pub first_refused : (r : TreeRead) (x : Refusal) → r ≡ tree_read S (read_tree first) → r.answer ≡ Trees.Refused x
+  pub first_refused : (r : TreeRead) (x : Refusal) → r ≡ tree_read S (read_tree first) → r.answer ≡ Err x
       → tree_refusal r.answer S ≡ verdict first second list
   unfolding verdict
   first_refused r x e a = first_body (read_tree first) (read_tree second) (read_list list) r x e a
@@ -83,7 +83,7 @@ module _ (first second list : List ℕ) where
     unfolding verdict verdict_on
     on_second = ap (λ (q : Reading Tree). verdict_on q (read_tree second) (read_list list)) (sym s.read)
 
-    pub second_refused : (r : TreeRead) (x : Refusal) → r ≡ tree_read T (read_tree second) → r.answer ≡ Trees.Refused x
+    pub second_refused : (r : TreeRead) (x : Refusal) → r ≡ tree_read T (read_tree second) → r.answer ≡ Err x
         → tree_refusal r.answer T ≡ verdict first second list
     second_refused r x e a = second_body s.tree (read_tree second) (read_list list) r x e a ∙ on_second
 

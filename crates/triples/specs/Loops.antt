@@ -1,8 +1,9 @@
 -- What the loops of the test compute, over the arrays that they are lent. Intermediate: nothing public rests on this text.
-use Rattle.std.specs.Prelude.{ℕ, zero, suc, ◌+◌, ◌-◌, ◌%◌, ◌≤◌, ◌<◌, min, max, ◌≡◌, Bool, true, cond, ◌||◌, List, [], map, ltb, leb, length, get_or}
+use Rattle.std.specs.Prelude.{ℕ, zero, suc, ◌+◌, ◌-◌, ◌%◌, ◌≤◌, ◌<◌, min, max, ◌≡◌, Bool, true, cond, ◌||◌, List, [], map, ltb, leb, length, get_or, Result, Ok, Err}
 use Rattle.trees.specs.declared.Reason.TheVariants.{EndsTooSoon, FirstLacks, SecondLacks}
 use Rattle.trees.specs.declared.Body.{Body}
 use Rattle.trees.specs.declared.Body.TheVariants.{K}
+use Rattle.trees.specs.declared.Refusal.{Refusal}
 use Rattle.trees.specs.declared.TreeArrays.{TreeArrays}
 use Rattle.trees.specs.Label.{Label, label_less, distinct}
 use Rattle.trees.specs.Token.{Token, spelling}
@@ -14,8 +15,6 @@ use Rattle.lists.specs.declared.LabelPlaces.{LabelPlaces}
 use Rattle.lists.specs.ReadList.{joined, places_of, list_limit}
 use Rattle.lists.specs.declared.ListAnswer.{ListAnswer}
 use Rattle.lists.specs.declared.ListAnswer.TheVariants as Lists
-use Rattle.newick.specs.declared.TreeAnswer.{TreeAnswer}
-use Rattle.newick.specs.declared.TreeAnswer.TheVariants as Trees
 use Rattle.agreement.specs.Answer.{differ, clashing}
 use Rattle.leaves.specs.Find.{leaf_from, found_leaf}
 use Rattle.triples.specs.declared.Agreement.{Agreement}
@@ -116,10 +115,10 @@ told_of order start count r =
 unfoldable pub unread_body : Body → Agreement
 unread_body body = Refused (record { reason = EndsTooSoon; body = body; place = 0 })
 
-unfoldable pub tree_refusal : TreeAnswer → Body → Agreement
+unfoldable pub tree_refusal : Result ℕ Refusal → Body → Agreement
 unfolding unread_body
-tree_refusal (Trees.Leaves n) body = unread_body body
-tree_refusal (Trees.Refused r) body = Refused r
+tree_refusal (Ok n) body = unread_body body
+tree_refusal (Err r) body = Refused r
 
 unfoldable pub list_refusal : ListAnswer → Agreement
 unfolding unread_body

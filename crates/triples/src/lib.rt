@@ -17,7 +17,6 @@ ghost use Rattle.triples.specs.Loops.{label_in, rank_in, InOrder, LeavesFound, l
 use crate::ancestors::{lca_row, lows};
 use crate::search::{second, third};
 use lists::{LabelPlaces, ListAnswer};
-use newick::TreeAnswer;
 use trees::{Body, Edition, Reason, Refusal, TreeArrays};
 
 mod ancestors;
@@ -293,12 +292,12 @@ fn unread(body: Body) -> Agreement
 }
 
 // The refusal of a tree text that was turned down.
-fn tree_refusal(answer: TreeAnswer, body: Body) -> Agreement
+fn tree_refusal(answer: Result<usize, Refusal>, body: Body) -> Agreement
     ensures { result ≡ tree_refusal answer body }
 {
     match answer {
-        TreeAnswer::Leaves(_) => unread(body),
-        TreeAnswer::Refused(refusal) => Agreement::Refused(refusal),
+        Ok(_) => unread(body),
+        Err(refusal) => Agreement::Refused(refusal),
     }
 }
 
@@ -320,12 +319,12 @@ pub fn agree_on(edition: Edition, first: &[u8], second: &[u8], list: &[u8]) -> A
 {
     let one = newick::read_tree(edition, first, Body::S);
     let answer1 = one.answer;
-    let TreeAnswer::Leaves(_) = answer1 else {
+    let Ok(_) = answer1 else {
         return tree_refusal(answer1, Body::S);
     };
     let two = newick::read_tree(edition, second, Body::T);
     let answer2 = two.answer;
-    let TreeAnswer::Leaves(_) = answer2 else {
+    let Ok(_) = answer2 else {
         return tree_refusal(answer2, Body::T);
     };
     let three = lists::read_list(edition, list, Body::K);

@@ -56,5 +56,5 @@ pub returns : goal.returns
 returns c =
     let l = c.loop-i in let g = c.args in let a = arrays l.stack l.left l.right l.start l.size in
     c.with_arrays.ensures
-    ∙ ends_tree _ l.st a l.i l.invariant.1 _ _ (rw (fold_size g.edition g.text.now) c.loop-i-test.false) c.at_end-answer.ensures _ c.in-Leaves.is
+    ∙ ends_tree _ l.st a l.i l.invariant.1 _ _ (rw (fold_size g.edition g.text.now) c.loop-i-test.false) c.at_end-answer.ensures _ c.in-Ok.is
     ∙ answer_in g.edition g.body g.text.now

@@ -17,7 +17,7 @@ returns-in_default c =
 
 pub returns-in_default-answer2 : goal.returns-in_default-answer2
 returns-in_default-answer2 c =
-    let a = c.args in let one = tree_read_lem a.options.edition S a.first.now _ _ c.read_tree-one.ensures c.in-Leaves.is in
+    let a = c.args in let one = tree_read_lem a.options.edition S a.first.now _ _ c.read_tree-one.ensures c.in-Ok.is in
     let u = tree_unread a.options.edition T a.second.now _ _ c.read_tree-two.ensures c.in_default-answer2.is in
     pair_stopped a.options a.first.now a.second.now _ _ c.no_pair-in_default-answer2.ensures
     (trees_second a.options a.first.now a.second.now one.of one.is _ u
@@ -25,14 +25,14 @@ returns-in_default-answer2 c =
 
 pub pair_leaves-shared-requires : goal.pair_leaves-shared-requires
 pair_leaves-shared-requires c =
-    let a = c.args in let one = tree_read_lem a.options.edition S a.first.now _ _ c.read_tree-one.ensures c.in-Leaves.is in
-    let two = tree_read_lem a.options.edition T a.second.now _ _ c.read_tree-two.ensures c.in-Leaves-answer2.is in
+    let a = c.args in let one = tree_read_lem a.options.edition S a.first.now _ _ c.read_tree-one.ensures c.in-Ok.is in
+    let two = tree_read_lem a.options.edition T a.second.now _ _ c.read_tree-two.ensures c.in-Ok-answer2.is in
     (tree_few one, tree_few two)
 
 pub returns-in-Stray : goal.returns-in-Stray
 returns-in-Stray c =
-    let a = c.args in let one = tree_read_lem a.options.edition S a.first.now _ _ c.read_tree-one.ensures c.in-Leaves.is in
-    let two = tree_read_lem a.options.edition T a.second.now _ _ c.read_tree-two.ensures c.in-Leaves-answer2.is in
+    let a = c.args in let one = tree_read_lem a.options.edition S a.first.now _ _ c.read_tree-one.ensures c.in-Ok.is in
+    let two = tree_read_lem a.options.edition T a.second.now _ _ c.read_tree-two.ensures c.in-Ok-answer2.is in
     let p = c.pair_leaves-shared.ensures one.of two.of (tree_leaves one) (tree_leaves two) in
     pair_stopped a.options a.first.now a.second.now _ _ c.no_pair-in-Stray.ensures
     (trees_stray a.options a.first.now a.second.now one.of one.is two.of two.is _
@@ -40,13 +40,13 @@ returns-in-Stray c =
 
 pub order_in-requires : goal.order_in-requires
 order_in-requires c =
-    let a = c.args in let one = tree_read_lem a.options.edition S a.first.now _ _ c.read_tree-one.ensures c.in-Leaves.is in
+    let a = c.args in let one = tree_read_lem a.options.edition S a.first.now _ _ c.read_tree-one.ensures c.in-Ok.is in
     (tree_few one, omega (arith, c.least-most.ensures, tree_count one))
 
 pub returns : goal.returns
 returns c =
-    let a = c.args in let one = tree_read_lem a.options.edition S a.first.now _ _ c.read_tree-one.ensures c.in-Leaves.is in
-    let two = tree_read_lem a.options.edition T a.second.now _ _ c.read_tree-two.ensures c.in-Leaves-answer2.is in
+    let a = c.args in let one = tree_read_lem a.options.edition S a.first.now _ _ c.read_tree-one.ensures c.in-Ok.is in
+    let two = tree_read_lem a.options.edition T a.second.now _ _ c.read_tree-two.ensures c.in-Ok-answer2.is in
     let p = c.pair_leaves-shared.ensures one.of two.of (tree_leaves one) (tree_leaves two) in
     let k = all_shared a.options one.of two.of (sym c.in_default-shared.is ∙ p.told) in
     let d = c.order_in.ensures.ordered (folded a.options.edition one.of) (folded a.options.edition two.of) (tree_leaves one)

@@ -3,12 +3,12 @@ use mathlib.Core.Path.{refl}
 use Rattle.pairs.specs.PairRead.{unread_tree}
 use Rattle.pairs.proofs.unread_tree.Goals as goal
 
-pub returns-in-Leaves : goal.returns-in-Leaves
+pub returns-in-Ok : goal.returns-in-Ok
 unfolding unread_tree
-returns-in-Leaves c =
-    rw c.in-Leaves.is refl
+returns-in-Ok c =
+    rw c.in-Ok.is refl
 
-pub returns-in-Refused : goal.returns-in-Refused
+pub returns-in-Err : goal.returns-in-Err
 unfolding unread_tree
-returns-in-Refused c =
-    rw c.in-Refused.is refl
+returns-in-Err c =
+    rw c.in-Err.is refl

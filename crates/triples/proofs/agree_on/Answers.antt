@@ -14,27 +14,27 @@ returns-in_default c =
 
 pub returns-in_default-answer2 : goal.returns-in_default-answer2
 returns-in_default-answer2 c =
-    let s = tree_was S _ c.read_tree-one.result _ (c.read_tree-one.ensures ∙ sym (answer_in _ S _)) c.in-Leaves.is in
+    let s = tree_was S _ c.read_tree-one.result _ (c.read_tree-one.ensures ∙ sym (answer_in _ S _)) c.in-Ok.is in
     c.tree_refusal-in_default-answer2.ensures ∙ second_refused _ _ _ _ s c.read_tree-two.result _
     (c.read_tree-two.ensures ∙ sym (answer_in _ T _)) c.in_default-answer2.is
 
 pub returns-in_default-answer3 : goal.returns-in_default-answer3
 returns-in_default-answer3 c =
-    let s = tree_was S _ c.read_tree-one.result _ (c.read_tree-one.ensures ∙ sym (answer_in _ S _)) c.in-Leaves.is in
-    let t = tree_was T _ c.read_tree-two.result _ (c.read_tree-two.ensures ∙ sym (answer_in _ T _)) c.in-Leaves-answer2.is in
+    let s = tree_was S _ c.read_tree-one.result _ (c.read_tree-one.ensures ∙ sym (answer_in _ S _)) c.in-Ok.is in
+    let t = tree_was T _ c.read_tree-two.result _ (c.read_tree-two.ensures ∙ sym (answer_in _ T _)) c.in-Ok-answer2.is in
     c.list_refusal.ensures ∙ list_refused _ _ _ _ s _ t c.read_list-three.result _
     (c.read_list-three.ensures ∙ sym (list_answer_in _ K _)) c.in_default-answer3.is
 
 pub compared-requires : goal.compared-requires
 compared-requires c =
-    let s = tree_was S _ c.read_tree-one.result _ (c.read_tree-one.ensures ∙ sym (answer_in _ S _)) c.in-Leaves.is in
-    let t = tree_was T _ c.read_tree-two.result _ (c.read_tree-two.ensures ∙ sym (answer_in _ T _)) c.in-Leaves-answer2.is in
+    let s = tree_was S _ c.read_tree-one.result _ (c.read_tree-one.ensures ∙ sym (answer_in _ S _)) c.in-Ok.is in
+    let t = tree_was T _ c.read_tree-two.result _ (c.read_tree-two.ensures ∙ sym (answer_in _ T _)) c.in-Ok-answer2.is in
     let k = list_was K _ c.read_list-three.result _ (c.read_list-three.ensures ∙ sym (list_answer_in _ K _)) c.in-Labels.is in
     few_read _ _ _ _ s _ t _ k
 
 pub returns : goal.returns
 returns c =
-    let s = tree_was S _ c.read_tree-one.result _ (c.read_tree-one.ensures ∙ sym (answer_in _ S _)) c.in-Leaves.is in
-    let t = tree_was T _ c.read_tree-two.result _ (c.read_tree-two.ensures ∙ sym (answer_in _ T _)) c.in-Leaves-answer2.is in
+    let s = tree_was S _ c.read_tree-one.result _ (c.read_tree-one.ensures ∙ sym (answer_in _ S _)) c.in-Ok.is in
+    let t = tree_was T _ c.read_tree-two.result _ (c.read_tree-two.ensures ∙ sym (answer_in _ T _)) c.in-Ok-answer2.is in
     let k = list_was K _ c.read_list-three.result _ (c.read_list-three.ensures ∙ sym (list_answer_in _ K _)) c.in-Labels.is in
     c.compared.ensures s.tree t.tree k.labels (given_read _ _ _ _ s _ t _ k) ∙ all_read _ _ _ _ s _ t _ k

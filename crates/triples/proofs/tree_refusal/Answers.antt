@@ -3,12 +3,12 @@ use mathlib.Core.Path.{refl, ◌∙◌}
 use Rattle.triples.specs.Loops.{tree_refusal}
 use Rattle.triples.proofs.tree_refusal.Goals as goal
 
-pub returns-in-Leaves : goal.returns-in-Leaves
+pub returns-in-Ok : goal.returns-in-Ok
 unfolding tree_refusal
-returns-in-Leaves c =
-    c.unread.ensures ∙ rw c.in-Leaves.is refl
+returns-in-Ok c =
+    c.unread.ensures ∙ rw c.in-Ok.is refl
 
-pub returns-in-Refused : goal.returns-in-Refused
+pub returns-in-Err : goal.returns-in-Err
 unfolding tree_refusal
-returns-in-Refused c =
-    rw c.in-Refused.is refl
+returns-in-Err c =
+    rw c.in-Err.is refl
