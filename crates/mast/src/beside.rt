@@ -13,7 +13,7 @@ use crate::clash::clash_in;
 use crate::settle::{ListFate, Settled, settle};
 use crate::{CompareAnswer, Compared};
 use lists::LabelPlaces;
-use pairs::{CommonOrder, Way};
+use pairs::CommonOrder;
 use queries::mark_list;
 use table::RANKS;
 use trees::{Body, Edition, TreeArrays, wide};
@@ -96,12 +96,10 @@ fn beside(
         (compare_other edition b.s l.xs k.xs (length (chosen_of edition b.s b.t settled.chosen))
         (answer_to edition (trees_in b) k.xs)) }
 {
-    let marks = mark_list(edition, first, tree1, order, other, others, Body::C);
-    let claimed = marks.number;
-    let way = marks.way;
-    if let Way::Stopped(refusal) = way {
-        return CompareAnswer::Refused(refusal);
-    }
+    let claimed = match mark_list(edition, first, tree1, order, other, others, Body::C) {
+        Ok(claimed) => claimed,
+        Err(refusal) => return CompareAnswer::Refused(refusal),
+    };
     let number = settled.number;
     let lacked = lacked_label(&number, &claimed, order.count, places);
     let clash = clash_in(tree1, tree2, order, &claimed, others);

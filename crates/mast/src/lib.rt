@@ -13,7 +13,7 @@ use crate::beside::compare_lists;
 use crate::finish::{answer_list, unanswered};
 use division::PiecePlaces;
 use lists::LabelPlaces;
-use pairs::{Options, Way, read_pair};
+use pairs::{Options, read_pair};
 use queries::read_labels;
 use trees::{Body, Refusal};
 
@@ -102,21 +102,18 @@ pub fn largest_in_pieces(
         (solve (task options first.now second.now required.now) (length out.old))
         result.pieces }
 {
-    let pair = read_pair(options, first, second);
-    let way = pair.way;
-    if let Way::Stopped(refusal) = way {
-        return unanswered(LargestAnswer::Refused(refusal));
-    }
+    let pair = match read_pair(options, first, second) {
+        Ok(pair) => pair,
+        Err(refusal) => return unanswered(LargestAnswer::Refused(refusal)),
+    };
     let edition = options.edition;
-    let list = read_labels(edition, required, Body::K);
-    let way2 = list.way;
-    if let Way::Stopped(refusal) = way2 {
-        return unanswered(LargestAnswer::Refused(refusal));
-    }
+    let places = match read_labels(edition, required, Body::K) {
+        Ok(places) => places,
+        Err(refusal) => return unanswered(LargestAnswer::Refused(refusal)),
+    };
     let tree1 = pair.tree1;
     let tree2 = pair.tree2;
     let order = pair.order;
-    let places = list.places;
     answer_list(
         edition, first, tree1, tree2, order, required, places, asked, out,
     )
@@ -158,28 +155,23 @@ pub fn compare(
     ensures { result ≡ compared_of
         (compare (task options first.now second.now required.now) other.now) }
 {
-    let pair = read_pair(options, first, second);
-    let way = pair.way;
-    if let Way::Stopped(refusal) = way {
-        return CompareAnswer::Refused(refusal);
-    }
+    let pair = match read_pair(options, first, second) {
+        Ok(pair) => pair,
+        Err(refusal) => return CompareAnswer::Refused(refusal),
+    };
     let edition = options.edition;
-    let listed = read_labels(edition, required, Body::K);
-    let way2 = listed.way;
-    if let Way::Stopped(refusal) = way2 {
-        return CompareAnswer::Refused(refusal);
-    }
-    let further = read_labels(edition, other, Body::C);
-    let way3 = further.way;
-    if let Way::Stopped(refusal) = way3 {
-        return CompareAnswer::Refused(refusal);
-    }
+    let listed = match read_labels(edition, required, Body::K) {
+        Ok(listed) => listed,
+        Err(refusal) => return CompareAnswer::Refused(refusal),
+    };
+    let further = match read_labels(edition, other, Body::C) {
+        Ok(further) => further,
+        Err(refusal) => return CompareAnswer::Refused(refusal),
+    };
     let tree1 = pair.tree1;
     let tree2 = pair.tree2;
     let order = pair.order;
-    let places = listed.places;
-    let others = further.places;
     compare_lists(
-        edition, first, tree1, tree2, order, required, places, other, others,
+        edition, first, tree1, tree2, order, required, listed, other, further,
     )
 }

@@ -16,7 +16,7 @@ ghost use Rattle.mast.specs.Settled.{ChosenIs, SettledIs};
 use crate::Named;
 use crate::clash::clash_in;
 use lists::LabelPlaces;
-use pairs::{CommonOrder, Way, rank_leaves};
+use pairs::{CommonOrder, rank_leaves};
 use queries::mark_list;
 use table::{RANKS, largest_set};
 use trees::{Body, Edition, LEAF_LIMIT, NODE_LIMIT, Reason, Refusal, TreeArrays};
@@ -116,18 +116,18 @@ pub(crate) fn settle(
     ensures { (b : OwnTrees edition first.now tree1 tree2 order) (l : OwnLabels edition list.now places)
         → SettledIs b l result }
 {
-    let marks = mark_list(edition, first, tree1, order, list, places, Body::K);
-    let number = marks.number;
-    let way = marks.way;
     let mut chosen = [false; LEAF_LIMIT];
-    if let Way::Stopped(refusal) = way {
-        return Settled {
-            fate: ListFate::Refused(refusal),
-            size: 0,
-            number,
-            chosen,
-        };
-    }
+    let number = match mark_list(edition, first, tree1, order, list, places, Body::K) {
+        Ok(number) => number,
+        Err(refusal) => {
+            return Settled {
+                fate: ListFate::Refused(refusal),
+                size: 0,
+                number: [0; RANKS],
+                chosen,
+            };
+        }
+    };
     let told = choose(tree1, tree2, order, &number, places, &mut chosen);
     let fate = told.fate;
     Settled {

@@ -21,9 +21,8 @@ use Rattle.newick.proofs.EditionReads.{accepts_in}
 use Rattle.agreement.specs.Strict.{Stray, in_first, in_second, nowhere}
 use Rattle.pairs.specs.declared.Options.{Options}
 use Rattle.pairs.specs.declared.Pair.{Pair}
-use Rattle.pairs.specs.declared.Way.TheVariants.{Clear, Stopped}
-use Rattle.pairs.specs.declared.strict.LeavesShared.TheVariants as shared
-use Rattle.pairs.specs.Outcome.{refused, found}
+use Rattle.std.proofs.Common.{Ok}
+use Rattle.pairs.specs.Outcome.{found}
 use Rattle.pairs.specs.TwoTrees.{stray_for, trees_of}
 use Rattle.pairs.specs.LoneLeaves.{shared_of}
 use Rattle.pairs.specs.OwnLeaves.{OwnLeaves, Ordered}
@@ -96,31 +95,22 @@ module _ {e : Edition} {text : List ℕ} {tree : TreeArrays} {n : ℕ} (r : Read
 -- both trees
 
 pub all_shared : (o : Options) (s t : Tree)
-    → shared.All ≡ shared_of (folded o.edition s) (folded o.edition t) (stray_for o s t) → stray_for o s t ≡ nowhere
+    → Ok tt ≡ shared_of (folded o.edition s) (folded o.edition t) (stray_for o s t) → stray_for o s t ≡ nowhere
 unfolding shared_of
 all_shared o s t k = go (stray_for o s t) k
   where
-    go : (r : Stray) → shared.All ≡ shared_of (folded o.edition s) (folded o.edition t) r → r ≡ nowhere
+    go : (r : Stray) → Ok tt ≡ shared_of (folded o.edition s) (folded o.edition t) r → r ≡ nowhere
     go (in_first x) k = let z : ◌≡◌ {A = ℕ} 0 1 = cc in absurd (omega arith)
     go (in_second x) k = let z : ◌≡◌ {A = ℕ} 0 1 = cc in absurd (omega arith)
     go nowhere k = refl
 
-pub same_stop : {q p : Refusal} → Stopped q ≡ Stopped p → q ≡ p
-same_stop h = cc
-
-pub stopped_clear : {G : Type 0} {q : Refusal} → Stopped q ≡ Clear → G
-stopped_clear h = let z : ◌≡◌ {A = ℕ} 0 1 = cc in absurd (omega arith)
-
 module _ (o : Options) (first second : List ℕ) where
-  pub pair_stopped : (r : Pair) (q : Refusal) → r.way ≡ Stopped q → trees_of o first second ≡ refused q → PairIs o first second r
-  pair_stopped r q e d = record { stopped = λ p f. d ∙ ap refused (same_stop (sym e ∙ f)); clear = λ f. stopped_clear (sym e ∙ f) }
-
   pub pair_clear : (r : Pair) {m n : ℕ} (one : ReadAs o.edition first r.tree1 m) (two : ReadAs o.edition second r.tree2 n)
-      → r.way ≡ Clear → stray_for o one.of two.of ≡ nowhere
+      → stray_for o one.of two.of ≡ nowhere
       → r.order.count ≤ 80
       → Ordered (keyed o.edition one.of) (keyed o.edition two.of) r.order.first r.order.second r.order.count
-      → PairIs o first second r
-  pair_clear r one two e k few d = record { stopped = λ q f. stopped_clear (sym f ∙ e); clear = λ _. (own, both) }
+      → PairIs o first second (Ok r)
+  pair_clear r one two k few d = (own, both)
     where
       own : OwnTrees o.edition first r.tree1 r.tree2 r.order
       own =

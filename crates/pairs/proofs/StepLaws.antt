@@ -18,7 +18,7 @@ use Rattle.agreement.specs.Closer.{holds}
 use Rattle.agreement.specs.Places.{place_in}
 use Rattle.agreement.specs.Strict.{IsStray, Stray, in_first, in_second, nowhere}
 use Rattle.pairs.specs.declared.Options.{Options}
-use Rattle.pairs.specs.declared.strict.LeavesShared.TheVariants as shared
+use Rattle.std.proofs.Common.{Err}
 use Rattle.pairs.specs.Outcome.{Outcome, Trio, refused, naming, found, and_then}
 use Rattle.pairs.specs.TwoTrees.{body_of, stray_for, shared_by, trees_of}
 use Rattle.pairs.specs.LoneLeaves.{shared_of}
@@ -73,12 +73,12 @@ module _ (o : Options) (first second : List ℕ) where
       unfolding shared_by
       trees_both = trees_read nowhere
 
-      pub trees_stray : (p : Refusal) → shared.Stray p ≡ shared_of (folded o.edition s) (folded o.edition t) (stray_for o s t)
+      pub trees_stray : (p : Refusal) → Err p ≡ shared_of (folded o.edition s) (folded o.edition t) (stray_for o s t)
           → trees_of o first second ≡ refused p
       unfolding shared_of shared_by
       trees_stray p k = go (stray_for o s t) refl k
         where
-          go : (r : Stray) → stray_for o s t ≡ r → shared.Stray p ≡ shared_of (folded o.edition s) (folded o.edition t) r
+          go : (r : Stray) → stray_for o s t ≡ r → Err p ≡ shared_of (folded o.edition s) (folded o.edition t) r
               → trees_of o first second ≡ refused p
           go (in_first x) h k =
               let z : record { reason = NotShared; body = S; place = place_in (folded o.edition s) 0 x } ≡ p = cc in

@@ -25,7 +25,7 @@ use Rattle.agreement.specs.Closer.{holds}
 use Rattle.agreement.specs.Strict.{SameLeaves, StrayTold, Stray, nowhere, first_outside, in_either, stray_of}
 use Rattle.agreement.proofs.StrictLaws.{stray_exactly}
 use Rattle.pairs.specs.declared.Options.{Options}
-use Rattle.pairs.specs.declared.strict.LeavesShared.TheVariants as shared
+use Rattle.std.proofs.Common.{Ok, Err}
 use Rattle.pairs.specs.OwnLeaves.{OwnLeaves}
 use Rattle.pairs.specs.CommonRanks.{Partners, PartnerIs, NodePartner}
 use Rattle.pairs.specs.TwoTrees.{stray_for}
@@ -207,31 +207,31 @@ partners_of e p = rw e p
 module _ {s t : Tree} {text1 left1 start1 size1 text2 left2 start2 size2 : List ℕ} {nodes1 nodes2 : ℕ}
     (one : OwnLeaves s text1 left1 start1 size1 nodes1) (two : OwnLeaves t text2 left2 start2 size2 nodes2) {u : ℕ}
     (l : Lone (decoded s) (decoded t) u) where
-  pub shared_first : u < nodes1 → stray_at S (get_or start1 u 0) ≡ shared_of s t (stray_of (decoded s) (decoded t))
+  pub shared_first : u < nodes1 → Err (stray_at S (get_or start1 u 0)) ≡ shared_of s t (stray_of (decoded s) (decoded t))
   unfolding stray_of in_either shared_of
   shared_first h =
       let k = l.found (omega (arith, own_nodes one)) in
       let at = ap (λ (l : List ℕ). get_or l u 0) one.start_is ∙ own_start s one.valid u k.0 k.1 in
-      ap (stray_at S) at ∙ (rw k.2 refl)
+      ap (λ (i : ℕ). Err (stray_at S i)) at ∙ (rw k.2 refl)
 
   module _ (h : u ≡ nodes1) where
     none1 : first_outside (holds (decoded t)) (leaves (decoded s)) ≡ none
     none1 = l.missing (omega (arith, own_nodes one))
 
     module _ {v : ℕ} (m : Lone (decoded t) (decoded s) v) where
-      pub shared_second : v < nodes2 → stray_at T (get_or start2 v 0) ≡ shared_of s t (stray_of (decoded s) (decoded t))
+      pub shared_second : v < nodes2 → Err (stray_at T (get_or start2 v 0)) ≡ shared_of s t (stray_of (decoded s) (decoded t))
       unfolding stray_of in_either shared_of
       shared_second b =
           let k = m.found (omega (arith, own_nodes two)) in
           let at = ap (λ (l : List ℕ). get_or l v 0) two.start_is ∙ own_start t two.valid v k.0 k.1 in
-          ap (stray_at T) at ∙ (rw (none1, k.2) refl)
+          ap (λ (i : ℕ). Err (stray_at T i)) at ∙ (rw (none1, k.2) refl)
 
-      pub shared_all : v ≡ nodes2 → shared.All ≡ shared_of s t (stray_of (decoded s) (decoded t))
+      pub shared_all : v ≡ nodes2 → Ok tt ≡ shared_of s t (stray_of (decoded s) (decoded t))
       unfolding stray_of in_either shared_of
       shared_all b = rw (none1, m.missing (omega (arith, own_nodes two))) refl
 
 pub paired_plain : (o : Options) (s t : Tree) → o.strict ≡ false
-    → shared.All ≡ shared_of (folded o.edition s) (folded o.edition t) (stray_for o s t)
+    → Ok tt ≡ shared_of (folded o.edition s) (folded o.edition t) (stray_for o s t)
 unfolding stray_for shared_of
 paired_plain o s t e = rw e refl
 

@@ -1,9 +1,10 @@
 -- Leaves in only one tree, by their numbers and places. Intermediate: nothing public rests on this text.
-use Rattle.std.specs.Prelude.{ℕ, ◌<◌, ◌≡◌, List}
+use Rattle.std.specs.Prelude.{ℕ, ◌<◌, ◌≡◌, List, Result, Ok, Err}
 use Rattle.std.proofs.Math.Option.{some, none}
 use Rattle.trees.specs.declared.Reason.TheVariants.{NotShared}
 use Rattle.trees.specs.declared.Body.{Body}
 use Rattle.trees.specs.declared.Body.TheVariants.{S, T}
+use Rattle.trees.specs.declared.Refusal.{Refusal}
 use Rattle.trees.specs.Label.{Label}
 use Rattle.trees.specs.Edition.{folded, keyed}
 use Rattle.trees.specs.Tree.{Tree, leaves}
@@ -13,8 +14,6 @@ use Rattle.agreement.specs.Places.{place_in}
 use Rattle.agreement.specs.Strict.{Stray, in_first, in_second, nowhere, first_outside}
 use Rattle.leaves.specs.Numbered.{LeafIs}
 use Rattle.pairs.specs.declared.Options.{Options}
-use Rattle.pairs.specs.declared.strict.LeavesShared.{LeavesShared}
-use Rattle.pairs.specs.declared.strict.LeavesShared.TheVariants as shared
 use Rattle.pairs.specs.TwoTrees.{stray_for}
 use Rattle.pairs.specs.CommonRanks.{Partners}
 
@@ -24,15 +23,16 @@ pub record Lone (s t : Tree) (r : ℕ) : Type 0 where
   pub missing : r ≡ nodes_of s → first_outside (holds t) (leaves s) ≡ none
 
 -- number 12
-abbrev pub stray_at : Body → ℕ → LeavesShared
-stray_at body place = shared.Stray (record { reason = NotShared; body = body; place = place })
+abbrev pub stray_at : Body → ℕ → Refusal
+stray_at body place = record { reason = NotShared; body = body; place = place }
 
-unfoldable pub shared_of : Tree → Tree → Stray → LeavesShared
-shared_of s t (in_first x) = stray_at S (place_in s 0 x)
-shared_of s t (in_second x) = stray_at T (place_in t 0 x)
-shared_of s t nowhere = shared.All
+-- whether both trees hold the same leaves, as far as that is asked; if not, number 12
+unfoldable pub shared_of : Tree → Tree → Stray → Result (Unit {0}) Refusal
+shared_of s t (in_first x) = Err (stray_at S (place_in s 0 x))
+shared_of s t (in_second x) = Err (stray_at T (place_in t 0 x))
+shared_of s t nowhere = Ok tt
 
 -- the partner of each leaf of s, and number 12 if the options are strict
-pub record Paired (o : Options) (s t : Tree) (nodes : ℕ) (partner : List ℕ) (r : LeavesShared) : Type 0 where
+pub record Paired (o : Options) (s t : Tree) (nodes : ℕ) (partner : List ℕ) (r : Result (Unit {0}) Refusal) : Type 0 where
   pub partners : Partners nodes (keyed o.edition s) (keyed o.edition t) partner
   pub told : r ≡ shared_of (folded o.edition s) (folded o.edition t) (stray_for o s t)

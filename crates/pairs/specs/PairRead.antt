@@ -12,7 +12,6 @@ use Rattle.trees.specs.Arrays.{arrays_of}
 use Rattle.pairs.specs.declared.CommonOrder.{CommonOrder}
 use Rattle.pairs.specs.declared.Options.{Options}
 use Rattle.pairs.specs.declared.Pair.{Pair}
-use Rattle.pairs.specs.declared.Way.TheVariants.{Clear, Stopped}
 use Rattle.pairs.specs.Outcome.{refused, found}
 use Rattle.pairs.specs.TwoTrees.{Trees, trees_of}
 use Rattle.pairs.specs.OwnLeaves.{OwnLeaves, Ordered}
@@ -34,11 +33,10 @@ abbrev pub trees_in : {e : Edition} {first : List ℕ} {tree1 tree2 : TreeArrays
     → OwnTrees e first tree1 tree2 order → Trees
 trees_in b = record { first = b.s; second = b.t }
 
--- the pair is that of these texts
-pub record PairIs (o : Options) (first second : List ℕ) (r : Pair) : Type 0 where
-  pub stopped : (q : Refusal) → r.way ≡ Stopped q → trees_of o first second ≡ refused q
-  pub clear : r.way ≡ Clear
-      → (b : OwnTrees o.edition first r.tree1 r.tree2 r.order) × (trees_of o first second ≡ found (trees_in b))
+-- the pair is that of these texts, or the refusal is theirs
+abbrev pub PairIs : Options → (first second : List ℕ) → Result Pair Refusal → Type 0
+PairIs o first second (Ok p) = (b : OwnTrees o.edition first p.tree1 p.tree2 p.order) × (trees_of o first second ≡ found (trees_in b))
+PairIs o first second (Err q) = trees_of o first second ≡ refused q
 
 -- the refusal of a tree's text; that of a text that was read does not occur
 unfoldable pub unread_tree : Result ℕ Refusal → Body → Refusal

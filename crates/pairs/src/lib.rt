@@ -10,11 +10,10 @@ ghost use Rattle.trees.specs.Tree.{Tree, Proper};
 ghost use Rattle.agreement.specs.Sets.{increasing};
 ghost use Rattle.leaves.specs.Numbered.{Numbered};
 ghost use Rattle.table.specs.Choice.{Ranked};
-ghost use Rattle.pairs.specs.declared.Way.TheVariants.{Stopped};
 ghost use Rattle.pairs.specs.PairRead.{unread_tree, PairIs};
 
 use crate::ranks::{NONE, order_in};
-use crate::strict::{LeavesShared, pair_leaves};
+use crate::strict::pair_leaves;
 use trees::{Body, Edition, LEAF_LIMIT, NODE_LIMIT, Reason, Refusal, TreeArrays};
 
 mod ranks;
@@ -40,17 +39,9 @@ pub struct CommonOrder {
     pub second: [u8; LEAF_LIMIT],
 }
 
-// Whether two trees can be asked something, or why not.
-#[derive(Clone, Copy)]
-pub enum Way {
-    Clear,
-    Stopped(Refusal),
-}
-
-// Both trees' arrays, and their common leaves in label order. If the way is stopped, these are of no tree.
+// Both trees' arrays, and their common leaves in label order.
 #[derive(Clone, Copy)]
 pub struct Pair {
-    pub way: Way,
     pub tree1: TreeArrays,
     pub tree2: TreeArrays,
     pub order: CommonOrder,
@@ -70,62 +61,32 @@ fn unread_tree(answer: Result<usize, Refusal>, body: Body) -> Refusal
     }
 }
 
-// A tree of no node.
-fn no_tree() -> TreeArrays {
-    TreeArrays {
-        nodes: 0,
-        left: [0; NODE_LIMIT],
-        right: [0; NODE_LIMIT],
-        start: [0; NODE_LIMIT],
-        size: [0; NODE_LIMIT],
-    }
-}
-
-// No pair, and why.
-fn no_pair(refusal: Refusal) -> Pair
-    ensures { result.way ≡ Stopped refusal }
-{
-    Pair {
-        way: Way::Stopped(refusal),
-        tree1: no_tree(),
-        tree2: no_tree(),
-        order: CommonOrder {
-            count: 0,
-            first: [0; LEAF_LIMIT],
-            second: [0; LEAF_LIMIT],
-        },
-    }
-}
-
 // Reads S and T and pairs their leaves. Refusals come in the order S, T, 12 if the options are strict.
-pub fn read_pair(options: Options, first: &[u8], second: &[u8]) -> Pair
+pub fn read_pair(options: Options, first: &[u8], second: &[u8]) -> Result<Pair, Refusal>
     ensures { PairIs options first.now second.now result }
 {
     let edition = options.edition;
     let one = newick::read_tree(edition, first, Body::S);
     let answer1 = one.answer;
     let Ok(leaves1) = answer1 else {
-        return no_pair(unread_tree(answer1, Body::S));
+        return Err(unread_tree(answer1, Body::S));
     };
     let two = newick::read_tree(edition, second, Body::T);
     let answer2 = two.answer;
     let Ok(leaves2) = answer2 else {
-        return no_pair(unread_tree(answer2, Body::T));
+        return Err(unread_tree(answer2, Body::T));
     };
     let tree1 = one.tree;
     let tree2 = two.tree;
     let mut partner = [NONE; NODE_LIMIT];
-    let shared = pair_leaves(options, first, tree1, second, tree2, &mut partner);
-    if let LeavesShared::Stray(refusal) = shared {
-        return no_pair(refusal);
-    }
+    pair_leaves(options, first, tree1, second, tree2, &mut partner)?;
     let most = trees::least(leaves1, leaves2);
-    Pair {
-        way: Way::Clear,
+    let order = order_in(edition, first, tree1, &partner, most);
+    Ok(Pair {
         tree1,
         tree2,
-        order: order_in(edition, first, tree1, &partner, most),
-    }
+        order,
+    })
 }
 
 // Rank n for node u. The test is for safety alone: a tree has no node past 158.

@@ -14,13 +14,6 @@ use crate::Options;
 use crate::ranks::{NONE, leaf_partner, partners, put_at};
 use trees::{Body, NODE_LIMIT, Reason, Refusal, TreeArrays, wide, wide_place};
 
-// Whether both trees hold the same leaves, as far as that is asked; if not, number 12.
-#[derive(Clone, Copy)]
-pub(crate) enum LeavesShared {
-    All,
-    Stray(Refusal),
-}
-
 // Whether node u, with left child `child` and partner v, is a leaf that the other tree lacks.
 fn is_lone(child: usize, u: usize, v: usize) -> bool
     ensures { result ≡ (eqb child u && leb 159 v) }
@@ -47,14 +40,14 @@ fn lone_leaf(left: &[u8; NODE_LIMIT], nodes: usize, partner: &[usize; NODE_LIMIT
 }
 
 // Number 12 at the label of a leaf.
-fn stray(body: Body, place: usize) -> LeavesShared
+fn stray(body: Body, place: usize) -> Refusal
     ensures { result ≡ stray_at body place }
 {
-    LeavesShared::Stray(Refusal {
+    Refusal {
         reason: Reason::NotShared,
         body,
         place,
-    })
+    }
 }
 
 // The partners turned round: for each leaf of the second tree the first tree's leaf with the same label.
@@ -78,7 +71,11 @@ fn turned_round(
 
 // Number 12 for the first leaf of the first tree that the second lacks; if there is none, for the first leaf of the second that the
 // first lacks.
-fn stray_leaf(tree1: TreeArrays, tree2: TreeArrays, partner: &[usize; NODE_LIMIT]) -> LeavesShared
+fn stray_leaf(
+    tree1: TreeArrays,
+    tree2: TreeArrays,
+    partner: &[usize; NODE_LIMIT],
+) -> Result<(), Refusal>
     requires { (tree1.nodes ≤ 159) × (tree2.nodes ≤ 159) }
     ensures { (s t : Tree) (first second : List ℕ)
         → OwnLeaves s first tree1.left tree1.start tree1.size tree1.nodes
@@ -90,16 +87,16 @@ fn stray_leaf(tree1: TreeArrays, tree2: TreeArrays, partner: &[usize; NODE_LIMIT
     let start1 = tree1.start;
     let u = lone_leaf(&left1, tree1.nodes, partner);
     if u < tree1.nodes {
-        return stray(Body::S, wide_place(start1[u]));
+        return Err(stray(Body::S, wide_place(start1[u])));
     }
     let back = turned_round(&left1, tree1.nodes, partner);
     let left2 = tree2.left;
     let start2 = tree2.start;
     let v = lone_leaf(&left2, tree2.nodes, &back);
     if v < tree2.nodes {
-        return stray(Body::T, wide_place(start2[v]));
+        return Err(stray(Body::T, wide_place(start2[v])));
     }
-    LeavesShared::All
+    Ok(())
 }
 
 // For each leaf of the first tree its partner in the second; and number 12, where the options are strict.
@@ -110,7 +107,7 @@ pub(crate) fn pair_leaves(
     second: &[u8],
     tree2: TreeArrays,
     partner: &mut [usize; NODE_LIMIT],
-) -> LeavesShared
+) -> Result<(), Refusal>
     requires { (tree1.nodes ≤ 159) × (tree2.nodes ≤ 159) }
     ensures { (s t : Tree)
         → OwnLeaves (folded options.edition s) (in_edition options.edition first.now) tree1.left tree1.start
@@ -122,7 +119,7 @@ pub(crate) fn pair_leaves(
     let edition = options.edition;
     *partner = partners(edition, first, tree1, second, tree2);
     if !options.strict {
-        return LeavesShared::All;
+        return Ok(());
     }
     stray_leaf(tree1, tree2, partner)
 }

@@ -10,7 +10,6 @@ use Rattle.trees.specs.declared.TreeArrays.{TreeArrays}
 use Rattle.trees.specs.declared.Reason.{Reason}
 use Rattle.trees.specs.declared.Reason.TheVariants.{FirstLacks, SecondLacks}
 use Rattle.trees.specs.declared.Body.{Body}
-use Rattle.trees.specs.declared.Refusal.{Refusal}
 use Rattle.trees.specs.declared.Edition.{Edition}
 use Rattle.trees.specs.Edition.{in_edition, folded, keyed}
 use Rattle.trees.specs.Label.{Label}
@@ -29,18 +28,15 @@ use Rattle.agreement.proofs.PlaceLaws.{number_folded}
 use Rattle.agreement.proofs.SetLaws.{common_inc, in_common, common_in}
 use Rattle.agreement.proofs.Promises.{six_promise, seven_promise}
 use Rattle.triples.proofs.Ranks.{place_number}
-use Rattle.queries.specs.declared.Marks.{Marks}
-use Rattle.pairs.specs.declared.Way.TheVariants.{Clear, Stopped}
 use Rattle.pairs.specs.Outcome.{refused}
 use Rattle.queries.specs.Query.{answer_to, held_by}
 use Rattle.pairs.specs.PairRead.{OwnTrees}
 use Rattle.queries.specs.ListRead.{OwnLabels}
 use Rattle.queries.specs.FirstMarks.{FirstMarked, MarkedTo}
 use Rattle.queries.specs.Missing.{FirstMissing}
-use Rattle.queries.specs.RankedList.{AskedOf, MarksAre}
+use Rattle.queries.specs.RankedList.{AskedOf}
 use Rattle.pairs.specs.declared.CommonOrder.{CommonOrder}
 use Rattle.pairs.proofs.RankLaws.{own_proper}
-use Rattle.pairs.proofs.PairLaws.{same_stop, stopped_clear}
 use Rattle.queries.proofs.LookupLaws.{marked_all, marked_common}
 
 -- number 6 or 7: the first label of the list that is not common
@@ -145,16 +141,3 @@ module _ {e : Edition} {first : List ℕ} {tree1 tree2 : TreeArrays} {order : Co
 
 pub list_few : {e : Edition} {list : List ℕ} {places : LabelPlaces} → OwnLabels e list places → places.count ≤ list_limit
 list_few l = omega (arith, l.own_list.count_is, l.own_list.few)
-
--- what is returned of it
-
-module _ (e : Edition) (s t : Tree) (xs : List Token) (body : Body) (tree1 tree2 : TreeArrays) (order : CommonOrder)
-    (places : LabelPlaces) (r : Marks) where
-  pub marks_stopped : (q : Refusal) → r.way ≡ Stopped q → held_by body xs (answer_to e (record { first = s; second = t }) xs) ≡ refused q
-      → MarksAre e s t xs body tree1 tree2 order places r
-  marks_stopped q w h = record { stopped = λ p f. h ∙ ap refused (same_stop (sym w ∙ f)); clear = λ f. stopped_clear (sym w ∙ f) }
-
-  pub marks_clear : r.way ≡ Clear
-      → AskedOf (folded e s) (folded e t) (folded_list e xs) tree1 tree2 order r.number places
-      → MarksAre e s t xs body tree1 tree2 order places r
-  marks_clear w a = record { stopped = λ q f. stopped_clear (sym f ∙ w); clear = λ f. a }

@@ -16,11 +16,8 @@ use Rattle.lists.specs.declared.ListAnswer.TheVariants.{Labels, Refused as ListR
 use Rattle.lists.specs.declared.ListRead.{ListRead}
 use Rattle.lists.specs.ReadList.{read_list_in, list_read, places_of, folded_list}
 use Rattle.lists.proofs.EditionLists.{list_accepts_in, places_folded, joined_folded}
-use Rattle.pairs.specs.declared.Way.TheVariants.{Clear, Stopped}
-use Rattle.pairs.specs.Outcome.{refused}
 use Rattle.pairs.proofs.StepLaws.{Unread}
-use Rattle.pairs.proofs.PairLaws.{same_stop, stopped_clear}
-use Rattle.queries.specs.declared.LabelsRead.{LabelsRead}
+use Rattle.std.proofs.Common.{Ok, Err}
 use Rattle.queries.specs.ListRead.{OwnList, OwnLabels, ListedIs}
 use Rattle.queries.proofs.ListLaws.{list_unread, list_read_lem}
 
@@ -65,20 +62,12 @@ module _ (e : Edition) (body : Body) (text : List ℕ) where
             count_is = ap (λ p. p.count) folded_places;
           }
 
-  module _ (r : ListRead) (d : r ≡ list_read body (read_list_in e text)) (l : LabelsRead) where
-    pub listed_stopped : (q : Refusal) → r.answer ≡ ListRefused q → l.way ≡ Stopped q → ListedIs e body text l
-    listed_stopped q h w =
-        record {
-          stopped = λ p f.
-              list_unread e body text q (unlisted_case body (read_list_in e text) r q d h) ∙ ap refused (same_stop (sym w ∙ f));
-          clear = λ f. stopped_clear (sym w ∙ f);
-        }
+  module _ (r : ListRead) (d : r ≡ list_read body (read_list_in e text)) where
+    pub listed_stopped : (q : Refusal) → r.answer ≡ ListRefused q → ListedIs e body text (Err q)
+    listed_stopped q h = list_unread e body text q (unlisted_case body (read_list_in e text) r q d h)
 
-    pub listed_clear : (n : ℕ) → r.answer ≡ Labels n → l.way ≡ Clear → l.places ≡ r.places → ListedIs e body text l
+    pub listed_clear : (n : ℕ) → r.answer ≡ Labels n → ListedIs e body text (Ok r.places)
     unfolding own_labels
-    listed_clear n h w p =
+    listed_clear n h =
         let k = list_case body (read_list_in e text) r n d h in
-        record {
-          stopped = λ q f. stopped_clear (sym f ∙ w);
-          clear = λ _. (own_labels k.0 l.places k.1 (p ∙ k.2), list_read_lem e body text k.0 k.1);
-        }
+        (own_labels k.0 r.places k.1 k.2, list_read_lem e body text k.0 k.1)

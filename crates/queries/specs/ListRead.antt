@@ -1,5 +1,5 @@
 -- A list that was read, by its text and the places of its tokens there. 01, "Job and printed result"; C-12 for tokens, C-15 for editions.
-use Rattle.std.specs.Prelude.{ℕ, ◌≤◌, ◌≡◌, true, List, map, length}
+use Rattle.std.specs.Prelude.{ℕ, ◌≤◌, ◌≡◌, true, List, map, length, Result, Ok, Err}
 use Rattle.trees.specs.declared.Body.{Body}
 use Rattle.trees.specs.declared.Edition.{Edition}
 use Rattle.trees.specs.declared.Refusal.{Refusal}
@@ -8,9 +8,7 @@ use Rattle.trees.specs.Label.{distinct}
 use Rattle.trees.specs.Token.{Token, spelling, good_labels}
 use Rattle.lists.specs.declared.LabelPlaces.{LabelPlaces}
 use Rattle.lists.specs.ReadList.{joined, places_of, folded_list, list_limit}
-use Rattle.pairs.specs.declared.Way.TheVariants.{Clear, Stopped}
 use Rattle.pairs.specs.Outcome.{refused, found}
-use Rattle.queries.specs.declared.LabelsRead.{LabelsRead}
 use Rattle.queries.specs.Query.{list_of}
 
 -- the text of the list K and the places of its tokens
@@ -30,6 +28,6 @@ pub record OwnLabels (e : Edition) (text : List ℕ) (places : LabelPlaces) : Ty
   pub list_places : places ≡ places_of (folded_list e xs)
 
 -- what the reader of a list returns
-pub record ListedIs (e : Edition) (body : Body) (text : List ℕ) (r : LabelsRead) : Type 0 where
-  pub stopped : (q : Refusal) → r.way ≡ Stopped q → list_of e body text ≡ refused q
-  pub clear : r.way ≡ Clear → (l : OwnLabels e text r.places) × (list_of e body text ≡ found l.xs)
+abbrev pub ListedIs : Edition → Body → (text : List ℕ) → Result LabelPlaces Refusal → Type 0
+ListedIs e body text (Ok places) = (l : OwnLabels e text places) × (list_of e body text ≡ found l.xs)
+ListedIs e body text (Err q) = list_of e body text ≡ refused q

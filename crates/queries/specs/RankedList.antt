@@ -1,6 +1,6 @@
 -- A list once texts are read and labels have ranks: two trees by their arrays, and the list's labels marked, or the first that is not common.
 -- 01, rows 6 and 7 of "Why a job is turned down".
-use Rattle.std.specs.Prelude.{ℕ, ◌≤◌, ◌≡◌, true, List, map, length}
+use Rattle.std.specs.Prelude.{ℕ, ◌≤◌, ◌≡◌, true, List, map, length, Result, Ok, Err}
 use Rattle.trees.specs.declared.Body.{Body}
 use Rattle.trees.specs.declared.Edition.{Edition}
 use Rattle.trees.specs.declared.Refusal.{Refusal}
@@ -16,9 +16,7 @@ use Rattle.agreement.specs.Closer.{Common}
 use Rattle.agreement.specs.Sets.{increasing, common, set_of}
 use Rattle.leaves.specs.Numbered.{Numbered}
 use Rattle.table.specs.Choice.{Marked}
-use Rattle.queries.specs.declared.Marks.{Marks}
 use Rattle.pairs.specs.declared.CommonOrder.{CommonOrder}
-use Rattle.pairs.specs.declared.Way.TheVariants.{Clear, Stopped}
 use Rattle.pairs.specs.Outcome.{refused}
 use Rattle.queries.specs.Query.{answer_to, held_by}
 
@@ -47,8 +45,9 @@ pub record AskedOf (s t : Tree) (K : List Token) (tree1 tree2 : TreeArrays) (ord
   pub list_places : places ≡ places_of K
 
 -- a list looked up among the common labels: 6 or 7, or all marked
-pub record MarksAre (e : Edition) (s t : Tree) (xs : List Token) (body : Body) (tree1 tree2 : TreeArrays) (order : CommonOrder)
-    (places : LabelPlaces) (r : Marks) : Type 0 where
-  pub stopped : (q : Refusal) → r.way ≡ Stopped q → held_by body xs (answer_to e (record { first = s; second = t }) xs) ≡ refused q
-  pub clear : r.way ≡ Clear
-      → AskedOf (folded e s) (folded e t) (folded_list e xs) tree1 tree2 order r.number places
+abbrev pub MarksAre : Edition → (s t : Tree) → List Token → Body → (tree1 tree2 : TreeArrays) → CommonOrder → LabelPlaces
+    → Result (List ℕ) Refusal → Type 0
+MarksAre e s t xs body tree1 tree2 order places (Ok number) =
+    AskedOf (folded e s) (folded e t) (folded_list e xs) tree1 tree2 order number places
+MarksAre e s t xs body tree1 tree2 order places (Err q) =
+    held_by body xs (answer_to e (record { first = s; second = t }) xs) ≡ refused q

@@ -24,33 +24,20 @@ ghost use Rattle.queries.specs.Missing.{FirstMissing};
 ghost use Rattle.queries.specs.RankedList.{MarksAre};
 
 use lists::{LIST_LIMIT, LabelPlaces, ListAnswer};
-use pairs::{CommonOrder, Way, widened};
+use pairs::{CommonOrder, widened};
 use table::RANKS;
 use trees::{Body, Edition, LEAF_LIMIT, NODE_LIMIT, Reason, Refusal, TreeArrays, narrow, wide};
 
-// Where the labels of a list stand in it, or why it was not read; then the places are free.
-#[derive(Clone, Copy)]
-pub struct LabelsRead {
-    pub way: Way,
-    pub places: LabelPlaces,
-}
-
-// Reads a list.
-pub fn read_labels(edition: Edition, text: &[u8], body: Body) -> LabelsRead
+// Reads a list: where its labels stand in it.
+pub fn read_labels(edition: Edition, text: &[u8], body: Body) -> Result<LabelPlaces, Refusal>
     ensures { ListedIs edition body text.now result }
 {
     let read = lists::read_list(edition, text, body);
     let answer = read.answer;
     let places = read.places;
     match answer {
-        ListAnswer::Labels(_) => LabelsRead {
-            way: Way::Clear,
-            places,
-        },
-        ListAnswer::Refused(refusal) => LabelsRead {
-            way: Way::Stopped(refusal),
-            places,
-        },
+        ListAnswer::Labels(_) => Ok(places),
+        ListAnswer::Refused(refusal) => Err(refusal),
     }
 }
 
@@ -183,14 +170,7 @@ fn lack(
     }
 }
 
-// A list's labels looked up among the common ones: number 6 or 7 for the first that is not common, or each common label's number in the list.
-#[derive(Clone, Copy)]
-pub struct Marks {
-    pub way: Way,
-    pub number: [u8; RANKS],
-}
-
-// The same for counts that are in range.
+// The marks of a list, for counts that are in range.
 fn mark_few(
     edition: Edition,
     first: &[u8],
@@ -199,7 +179,7 @@ fn mark_few(
     list: &[u8],
     places: LabelPlaces,
     body: Body,
-) -> Marks
+) -> Result<[u8; RANKS], Refusal>
     requires { (order.count ≤ 80) × (places.count ≤ 80) }
     ensures { (tree2 : TreeArrays) (b : OwnTrees edition first.now tree1 tree2 order)
         (l : OwnLabels edition list.now places)
@@ -219,19 +199,13 @@ fn mark_few(
         &mut number,
     );
     if n < places.count {
-        return Marks {
-            way: Way::Stopped(lack(edition, first, tree1, list, places, body, n)),
-            number,
-        };
+        return Err(lack(edition, first, tree1, list, places, body, n));
     }
-    Marks {
-        way: Way::Clear,
-        number,
-    }
+    Ok(number)
 }
 
-// Looks up the labels of a list among those that two trees share. What comes back for arrays of no tree or places of no list is free, and so
-// are the marks with a refusal.
+// Looks up the labels of a list among those that two trees share: each common label's number in the list, counted from 1, by rank; or number
+// 6 or 7 for the first that is not common. What comes back for arrays of no tree or places of no list is free.
 pub fn mark_list(
     edition: Edition,
     first: &[u8],
@@ -240,20 +214,16 @@ pub fn mark_list(
     list: &[u8],
     places: LabelPlaces,
     body: Body,
-) -> Marks
+) -> Result<[u8; RANKS], Refusal>
     ensures { (tree2 : TreeArrays) (b : OwnTrees edition first.now tree1 tree2 order)
         (l : OwnLabels edition list.now places)
         → MarksAre edition b.s b.t l.xs body tree1 tree2 order places result }
 {
-    let none = Marks {
-        way: Way::Clear,
-        number: [0; RANKS],
-    };
     if LEAF_LIMIT < order.count {
-        return none;
+        return Ok([0; RANKS]);
     }
     if LIST_LIMIT < places.count {
-        return none;
+        return Ok([0; RANKS]);
     }
     mark_few(edition, first, tree1, order, list, places, body)
 }

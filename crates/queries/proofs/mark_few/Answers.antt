@@ -1,11 +1,10 @@
 -- `queries::mark_few` meets its contract. Assumes nothing.
-use mathlib.Core.Path.{refl}
 use native.Mathlib.Omega.{arith}
 use Rattle.trees.specs.Edition.{folded, keyed}
 use Rattle.lists.specs.ReadList.{folded_list}
 use Rattle.agreement.specs.Sets.{common}
 use Rattle.pairs.proofs.RankLaws.{numbered_same}
-use Rattle.queries.proofs.MarkLaws.{common_ordered, first_missing, all_asked, marks_stopped, marks_clear}
+use Rattle.queries.proofs.MarkLaws.{common_ordered, first_missing, all_asked}
 use Rattle.queries.proofs.mark_few.Goals as goal
 
 pub returns-then-n-places : goal.returns-then-n-places
@@ -16,8 +15,7 @@ returns-then-n-places c =
     (λ r h. c.widened-order1.ensures r (omega (arith, h, b.few, b.ordered.count))) in
     let m = c.mark-n.ensures.marked_to (folded a.edition b.s) C (folded_list a.edition l.xs) b.one l.own_list
     (common_ordered b) b.ordered.count n in
-    marks_stopped a.edition b.s b.t l.xs a.body a.tree1 tree2 a.order a.places _ _ refl
-    (c.lack.ensures b.s b.t l.xs (first_missing b l m c.if-n-places.true))
+    c.lack.ensures b.s b.t l.xs (first_missing b l m c.if-n-places.true)
 
 pub returns : goal.returns
 returns c =
@@ -26,5 +24,4 @@ returns c =
     let n = numbered_same (keyed a.edition b.s) C a.order.first c.widened-order1.result b.ordered.first
     (λ r h. c.widened-order1.ensures r (omega (arith, h, b.few, b.ordered.count))) in
     let k = c.mark-n.ensures in let m = k.marked_to (folded a.edition b.s) C (folded_list a.edition l.xs) b.one l.own_list (common_ordered b) b.ordered.count n in
-    marks_clear a.edition b.s b.t l.xs a.body a.tree1 tree2 a.order a.places _ refl
-    (all_asked b l m c.if-n-places.false k.upper_bound)
+    all_asked b l m c.if-n-places.false k.upper_bound

@@ -1,5 +1,7 @@
 -- `strict::stray_leaf` meets its contract. Assumes nothing.
+use Prim.Native.Nat.{ℕ}
 use mathlib.Core.Path.{ap, ◌∙◌}
+use Rattle.std.proofs.Common.{Err}
 use native.Mathlib.Omega.{arith}
 use Rattle.trees.specs.declared.Body.TheVariants.{S, T}
 use Rattle.trees.specs.Tree.{decoded}
@@ -12,7 +14,7 @@ pub returns-then-u-tree1 : goal.returns-then-u-tree1
 returns-then-u-tree1 c =
     λ s t first second one two p.
     let lone = c.lone_leaf-u.ensures.lone (decoded s) (decoded t) (own_left one) (own_nodes one) (own_proper two) p in
-    c.stray.ensures ∙ ap (stray_at S) c.wide_place.ensures ∙ shared_first one two lone c.if-u-tree1.true
+    ap Err c.stray.ensures ∙ ap (λ (i : ℕ). Err (stray_at S i)) c.wide_place.ensures ∙ shared_first one two lone c.if-u-tree1.true
 
 pub returns-then-v-tree2 : goal.returns-then-v-tree2
 returns-then-v-tree2 c =
@@ -22,7 +24,7 @@ returns-then-v-tree2 c =
     (own_left one) (own_nodes one) (own_proper two) p in
     let other = c.lone_leaf-v.ensures.lone (decoded t) (decoded s) (own_left two) (own_nodes two)
     (own_proper one) (partners_of (own_nodes two) back) in
-    c.stray-then-v-tree2.ensures ∙ ap (stray_at T) c.wide_place-then-v-tree2.ensures
+    ap Err c.stray-then-v-tree2.ensures ∙ ap (λ (i : ℕ). Err (stray_at T i)) c.wide_place-then-v-tree2.ensures
     ∙ shared_second one two lone (omega (
       arith,
       c.if-u-tree1.false,
