@@ -1,20 +1,21 @@
 -- The answer to a claim from what the engine tells of it. Assumes nothing.
 use Prim.Native.Nat.{ℕ, ◌<◌, ◌≤◌}
-use mathlib.Core.Path.{◌≡◌, refl, sym, ap, subst}
-use mathlib.Core.Bool.{true, false}
+use mathlib.Core.Path.{◌≡◌, refl, sym, ◌∙◌, ap, subst}
 use mathlib.Core.Option.{Option, some, none}
 use native.Mathlib.Omega.{arith}
+use Rattle.std.specs.Prelude.{Some, None}
+use Rattle.std.proofs.lemmas.Option.{none-some, same_Some}
 use lib.ListN.{length}
 use borrow.Author.Tests.{lt-ltb, le-ltb}
 use Rattle.trees.specs.declared.Reason.TheVariants.{ClaimLacks}
 use Rattle.trees.specs.declared.Body.TheVariants.{K}
-use Rattle.trees.proofs.Bools.{clash}
 use Rattle.agreement.specs.Answer.{Three}
 use Rattle.mast.specs.declared.Compared.{Compared}
+use Rattle.mast.specs.declared.Named.{Named}
 use Rattle.mast.specs.declared.CompareAnswer.{CompareAnswer}
 use Rattle.mast.specs.declared.CompareAnswer.TheVariants as compare_answer
 use Rattle.pairs.specs.Outcome.{Outcome, refused, naming, found, and_then}
-use Rattle.mast.specs.Compare.{Comparison, is_there, place_if, named_if, compared_of}
+use Rattle.mast.specs.Compare.{Comparison, place_if, named_if, compared_of}
 use Rattle.claims.specs.declared.ClaimAnswer.TheVariants as claim-answer
 use Rattle.claims.specs.Judge.{claim_disagreement, fifteen, judged_by_size, judged_by_three, judged_by_list, verdict_on, claim_of}
 
@@ -39,21 +40,13 @@ module _ (c : Compared) (x : Comparison) (h : compare_answer.Compared c ≡ comp
   parts_of (compare_answer.Naming q n) = c
   parts_of (compare_answer.Refused q) = c
 
-  lacks_is : c.lacks ≡ is_there x.missed
-  unfolding compared_of
-  lacks_is = ap (λ y. (parts_of y).lacks) h
-
   missing_is : c.missing ≡ place_if x.required x.missed
   unfolding compared_of
   missing_is = ap (λ y. (parts_of y).missing) h
 
-  clashes_is : c.clashes ≡ is_there x.clash
+  clash_is : c.clash ≡ named_if x.edition x.first x.further x.clash
   unfolding compared_of
-  clashes_is = ap (λ y. (parts_of y).clashes) h
-
-  named_is : c.named ≡ named_if x.edition x.first x.further x.clash
-  unfolding compared_of
-  named_is = ap (λ y. (parts_of y).named) h
+  clash_is = ap (λ y. (parts_of y).clash) h
 
   count_is : c.count ≡ length x.further
   unfolding compared_of
@@ -64,43 +57,43 @@ module _ (c : Compared) (x : Comparison) (h : compare_answer.Compared c ≡ comp
   size_is = ap (λ y. (parts_of y).size) h
 
   -- 13
-  pub lacking_told : c.lacks ≡ true
-      → claim-answer.Refused (record { reason = ClaimLacks; body = K; place = c.missing }) ≡ claim_of (verdict_on x)
-  unfolding is_there place_if verdict_on judged_by_list claim_of
-  lacking_told d = go x.missed lacks_is missing_is
+  pub lacking_told : (place : ℕ) → c.missing ≡ Some place
+      → claim-answer.Refused (record { reason = ClaimLacks; body = K; place = place }) ≡ claim_of (verdict_on x)
+  unfolding place_if verdict_on judged_by_list claim_of
+  lacking_told place d = go x.missed (sym d ∙ missing_is)
     where
-      go : (o : Option ℕ) → c.lacks ≡ is_there o → c.missing ≡ place_if x.required o
-          → claim-answer.Refused (record { reason = ClaimLacks; body = K; place = c.missing }) ≡ claim_of (judged_by_list x o)
-      go none k m = clash d k
-      go (some n) k m = rw m refl
+      go : (o : Option ℕ) → Some place ≡ place_if x.required o
+          → claim-answer.Refused (record { reason = ClaimLacks; body = K; place = place }) ≡ claim_of (judged_by_list x o)
+      go none k = absurd (none-some place (sym k))
+      go (some n) k = rw (same_Some _ _ k) refl
 
-  module _ (all : c.lacks ≡ false) where
+  module _ (all : c.missing ≡ None) where
     none_lacking : verdict_on x ≡ judged_by_three x x.clash
-    unfolding is_there verdict_on judged_by_list
-    none_lacking = go x.missed lacks_is
+    unfolding place_if verdict_on judged_by_list
+    none_lacking = go x.missed (sym all ∙ missing_is)
       where
-        go : (o : Option ℕ) → c.lacks ≡ is_there o → judged_by_list x o ≡ judged_by_three x x.clash
+        go : (o : Option ℕ) → None ≡ place_if x.required o → judged_by_list x o ≡ judged_by_three x x.clash
         go none k = refl
-        go (some n) k = clash k all
+        go (some n) k = absurd (none-some _ k)
 
     -- 14
-    pub clash_told_lem : c.clashes ≡ true → claim-answer.Naming claim_disagreement c.named ≡ claim_of (verdict_on x)
-    unfolding is_there named_if judged_by_three claim_of
-    clash_told_lem d = rw none_lacking (go x.clash clashes_is named_is)
+    pub clash_told_lem : (n : Named) → c.clash ≡ Some n → claim-answer.Naming claim_disagreement n ≡ claim_of (verdict_on x)
+    unfolding named_if judged_by_three claim_of
+    clash_told_lem n d = rw none_lacking (go x.clash (sym d ∙ clash_is))
       where
-        go : (o : Option Three) → c.clashes ≡ is_there o → c.named ≡ named_if x.edition x.first x.further o
-            → claim-answer.Naming claim_disagreement c.named ≡ claim_of (judged_by_three x o)
-        go none k m = clash d k
-        go (some r) k m = ap (claim-answer.Naming claim_disagreement) m
+        go : (o : Option Three) → Some n ≡ named_if x.edition x.first x.further o
+            → claim-answer.Naming claim_disagreement n ≡ claim_of (judged_by_three x o)
+        go none k = absurd (none-some n (sym k))
+        go (some r) k = ap (claim-answer.Naming claim_disagreement) (same_Some _ _ k)
 
-    module _ (agreed : c.clashes ≡ false) where
+    module _ (agreed : c.clash ≡ None) where
       by_size : verdict_on x ≡ judged_by_size x
-      unfolding is_there judged_by_three
-      by_size = rw none_lacking (go x.clash clashes_is)
+      unfolding named_if judged_by_three
+      by_size = rw none_lacking (go x.clash (sym agreed ∙ clash_is))
         where
-          go : (o : Option Three) → c.clashes ≡ is_there o → judged_by_three x o ≡ judged_by_size x
+          go : (o : Option Three) → None ≡ named_if x.edition x.first x.further o → judged_by_three x o ≡ judged_by_size x
           go none k = refl
-          go (some r) k = clash k agreed
+          go (some r) k = absurd (none-some _ k)
 
       -- 15
       pub small_told : c.count < c.size → claim-answer.Refused fifteen ≡ claim_of (verdict_on x)

@@ -26,20 +26,21 @@ pub enum ClaimAnswer {
 fn verdict(c: Compared) -> ClaimAnswer
     ensures { (x : Comparison) → compare_answer.Compared c ≡ compared_of (found x) → result ≡ claim_of (verdict_on x) }
 {
-    if c.lacks {
+    let missing = c.missing;
+    if let Some(place) = missing {
         return ClaimAnswer::Refused(Refusal {
             reason: Reason::ClaimLacks,
             body: Body::K,
-            place: c.missing,
+            place,
         });
     }
-    if c.clashes {
+    let clash = c.clash;
+    if let Some(named) = clash {
         let claim_disagreement = Refusal {
             reason: Reason::ClaimDisagrees,
             body: Body::C,
             place: 0,
         };
-        let named = c.named;
         return ClaimAnswer::Naming(claim_disagreement, named);
     }
     if c.count < c.size {

@@ -7,6 +7,7 @@ use mathlib.Core.Logic.{◌⊎◌, inl, inr, ◌↔◌}
 use mathlib.Core.Option.{Option, some, none}
 use native.Mathlib.Omega.{arith}
 use lib.Dec.{eqb, ltb}
+use Rattle.std.specs.Prelude.{Some, None}
 use lib.ListN.{length, get_or, length-map}
 use borrow.Author.Tests.{eqb-true, eqb-false, ltb-true, ltb-false, lt-ltb, le-ltb}
 use Rattle.trees.specs.declared.TreeArrays.{TreeArrays}
@@ -29,7 +30,8 @@ use Rattle.triples.proofs.Ranks.{place_number}
 use Rattle.pairs.specs.declared.CommonOrder.{CommonOrder}
 use Rattle.mast.specs.ListMarks.{nearer_of, least_missing}
 use Rattle.queries.specs.RankedList.{AskedOf}
-use Rattle.mast.specs.Compare.{missing, IsMissing, is_there, place_if}
+use Rattle.mast.specs.Compare.{missing, IsMissing, place_if}
+use Rattle.mast.specs.Settled.{lacked_at}
 
 -- ---- the first label of a list that another lacks
 
@@ -233,44 +235,40 @@ module _ (s t : Tree) (L Y : List Label) (number other : List ℕ) (m k : ℕ) (
 -- so the place of the first label that is missing, if there is one
 pub missing_told : (s t : Tree) (L Y : List Label) (number other : List ℕ) (m count : ℕ) → count ≡ length L → m ≡ length (common s t)
     → Common s t (set_of L) → Marked (common s t) L number → Marked (common s t) Y other
-    → (ltb (least_missing number other m count) count ≡ is_there (missing L Y 0))
-    × ((start : List ℕ) (xs : List Token) → ((n : ℕ) → n < count → get_or start n 0 ≡ place_of_number xs n)
-    → cond (ltb (least_missing number other m count) count) (get_or start (least_missing number other m count) 0) 0
-    ≡ place_if xs (missing L Y 0))
-unfolding is_there place_if
+    → (start : List ℕ) (xs : List Token) → ((n : ℕ) → n < count → get_or start n 0 ≡ place_of_number xs n)
+    → cond (ltb (least_missing number other m count) count) (Some (get_or start (least_missing number other m count) 0)) None
+    ≡ place_if xs (missing L Y 0)
+unfolding place_if
 missing_told s t L Y number other m count e all held one two = go (missing L Y 0) (missing_is L Y 0)
   where
     h : Least number other m (length L) (least_missing number other m count)
     h = subst (λ (n : ℕ). Least number other m n (least_missing number other m count)) e (least number other m count)
 
     go : (o : Option ℕ) → MissingIs L Y 0 o
-        → (ltb (least_missing number other m count) count ≡ is_there o)
-        × ((start : List ℕ) (xs : List Token) → ((n : ℕ) → n < count → get_or start n 0 ≡ place_of_number xs n)
-        → cond (ltb (least_missing number other m count) count) (get_or start (least_missing number other m count) 0) 0
-        ≡ place_if xs o)
+        → (start : List ℕ) (xs : List Token) → ((n : ℕ) → n < count → get_or start n 0 ≡ place_of_number xs n)
+        → cond (ltb (least_missing number other m count) count) (Some (get_or start (least_missing number other m count) 0)) None
+        ≡ place_if xs o
     go none f =
         let d = none_lacked s t L Y number other m _ all held one two h f in
         let b = le-ltb (least_missing number other m count) count (omega (arith, d, e)) in
-        (b, λ start xs at. rw b refl)
+        λ start xs at. rw b refl
     go (some j) f =
         let d = one_lacked s t L Y number other m _ all held one two h f.0 f.2 in
         let j-is : least_missing number other m count ≡ j = omega (arith, d, f.1) in
         let l : j < count = omega (arith, f.1, f.2.in_list, e) in
         let b = lt-ltb (least_missing number other m count) count (omega (arith, j-is, l)) in
-        (b, λ start xs at. rw (b, j-is) (at j l))
+        λ start xs at. rw (b, j-is) (ap Some (at j l))
 
 pub missing_asked : (e : Edition) (s t : Tree) (xs ys : List Token) {tree1 tree2 : TreeArrays} {order : CommonOrder}
     {number other : List ℕ} {places others : LabelPlaces}
     → AskedOf (folded e s) (folded e t) (folded_list e xs) tree1 tree2 order number places
     → AskedOf (folded e s) (folded e t) (folded_list e ys) tree1 tree2 order other others
-    → (ltb (least_missing number other order.count places.count) places.count ≡ is_there (missing (keys_of e xs) (keys_of e ys) 0))
-    × (cond (ltb (least_missing number other order.count places.count) places.count)
-    (get_or places.start (least_missing number other order.count places.count) 0) 0 ≡ place_if xs (missing (keys_of e xs) (keys_of e ys) 0))
+    → lacked_at places (least_missing number other order.count places.count) ≡ place_if xs (missing (keys_of e xs) (keys_of e ys) 0)
 missing_asked e s t xs ys {order = order} {number = number} {other = other} {places = places} a b =
     let w = missing_told (keyed e s) (keyed e t) (keys_of e xs) (keys_of e ys) number other order.count places.count
     (a.asked.count_is ∙ sym (length-map (folded_list e xs) spelling)) a.asked.one.count a.asked.held a.asked.marked
     b.asked.marked in
-    (w.0, w.1 places.start xs (λ n l. starts n l))
+    w places.start xs (λ n l. starts n l)
   where
     starts : (n : ℕ) → n < places.count → get_or places.start n 0 ≡ place_of_number xs n
     starts n l =

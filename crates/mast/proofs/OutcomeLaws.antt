@@ -7,6 +7,7 @@ use mathlib.Core.List.{List, []}
 use mathlib.Core.Option.{some, none}
 use native.Mathlib.Omega.{arith}
 use lib.Dec.{leb}
+use Rattle.std.specs.Prelude.{Some}
 use lib.ListN.{length, get_or}
 use borrow.Author.Tests.{leb-true, leb-false, le-leb, lt-leb}
 use Rattle.trees.specs.declared.Reason.TheVariants.{FirstLacks, SecondLacks, TooShort}
@@ -163,7 +164,7 @@ module _ (e : Edition) (s : Tree) (xs ys : List Token) where
   abbrev ClashTold : Answer → Comparison → Three → Type 0
   ClashTold B c r =
       (B ≡ disagree r.one r.two r.three)
-      × (named_if c.edition c.first c.further c.clash ≡ named_of (trio e s ys r.one r.two r.three))
+      × (named_if c.edition c.first c.further c.clash ≡ Some (named_of (trio e s ys r.one r.two r.three)))
 
   other_clash : (n : ℕ) (B : Answer) (c : Comparison) (r : Three) → compare_other e s xs ys n B ≡ found c → c.clash ≡ some r → ClashTold B c r
   unfolding compare_other held_by comparison clash_of named_if
@@ -174,7 +175,7 @@ module _ (e : Edition) (s : Tree) (xs ys : List Token) where
       let k : record { one = x; two = y; three = z } ≡ r = same_some (ap (λ (p : Comparison). p.clash) w ∙ h) in (
         ap (λ (p : Three). disagree p.one p.two p.three) k,
         ap (λ (p : Comparison). named_if p.edition p.first p.further p.clash) (sym w)
-            ∙ ap (λ (p : Three). named_of (trio e s ys p.one p.two p.three)) k,
+            ∙ ap (λ (p : Three). Some (named_of (trio e s ys p.one p.two p.three))) k,
       )
   other_clash n (largest X) c r d h =
       let w : comparison e s xs ys n (with_set X) ≡ c = same_found d in
@@ -318,8 +319,7 @@ module _ (q : Task) (s t : Tree) (xs : List Token) (reads : Reads q s t xs) wher
         (k.4, required_shown k.0 k.1 k.2 k.3 n k.5)
 
     pub further_names_shown : (c : Comparison) (r : Three) → compare q other ≡ found c → c.clash ≡ some r
-        → NamesShown E q.first other (named_if c.edition c.first c.further c.clash) r
+        → (n : Named) × (named_if c.edition c.first c.further c.clash ≡ Some n) × NamesShown E q.first other n r
     further_names_shown c r d h =
         let k = compared_clash E s xs ys ANS FURTHER c r (sym compare_answer ∙ d) h in
-        subst (λ (n : Named). NamesShown E q.first other n r) (sym k.1)
-        (three_shown other ys g r.one r.two r.three k.0)
+        (named_of (trio E s ys r.one r.two r.three), k.1, three_shown other ys g r.one r.two r.three k.0)

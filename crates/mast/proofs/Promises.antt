@@ -7,6 +7,7 @@ use mathlib.Core.Option.{some}
 use mathlib.Core.Bool.{true}
 use mathlib.Core.List.{List, [], ◌∷◌, ◌++◌}
 use lib.ListN.{length, get_or, drop}
+use Rattle.std.specs.Prelude.{Some}
 use Rattle.trees.specs.declared.Body.TheVariants.{K, S, T}
 use Rattle.trees.specs.declared.Refusal.{Refusal}
 use Rattle.trees.specs.declared.Reason.{Reason}
@@ -191,7 +192,7 @@ module _ (q : Task) (other : List ℕ) (s t : Tree) (xs ys : List Token) (reads 
   compare_names_promise = compare_names_shown q s t xs reads other ys g
 
   pub further_names_promise : (c : Comparison) (r : Three) → compare q other ≡ found c → c.clash ≡ some r
-      → NamesShown q.options.edition q.first other (named_if c.edition c.first c.further c.clash) r
+      → (n : Named) × (named_if c.edition c.first c.further c.clash ≡ Some n) × NamesShown q.options.edition q.first other n r
   further_names_promise = further_names_shown q s t xs reads other ys g
 
 -- "Old records must still be judged by the first edition": under edition 1 trees and lists are read as before C-15.

@@ -1,24 +1,30 @@
 -- The required list settled, and a further list beside the largest set: what the parts return is what the definitions say. Assumes nothing.
-use Prim.Native.Nat.{ℕ}
+use Prim.Native.Nat.{ℕ, ◌≤◌}
 use mathlib.Core.Path.{◌≡◌, refl, sym, ◌∙◌, ap, subst}
-use mathlib.Core.Bool.{Bool, true, false}
+use mathlib.Core.Bool.{Bool, true}
 use mathlib.Core.List.{List}
+use Rattle.std.specs.Prelude.{Option, Some, None}
 use native.Mathlib.Omega.{arith}
 use lib.ListN.{length}
 use Rattle.trees.specs.declared.Body.TheVariants.{K, C}
 use Rattle.trees.specs.declared.Refusal.{Refusal}
 use Rattle.trees.specs.declared.TreeArrays.{TreeArrays}
 use Rattle.trees.specs.declared.Edition.{Edition}
-use Rattle.trees.specs.Edition.{folded}
+use Rattle.trees.specs.Edition.{folded, keyed}
 use Rattle.trees.specs.Label.{Label}
 use Rattle.trees.specs.Token.{Token}
-use Rattle.trees.specs.Tree.{Tree}
+use Rattle.trees.specs.Tree.{Tree, Proper}
+use Rattle.trees.proofs.TokenLaws.{valid_decoded}
+use Rattle.agreement.specs.Sets.{increasing}
+use Rattle.leaves.specs.Numbered.{Numbered}
+use Rattle.table.specs.Choice.{Ranked, Posed}
+use Rattle.division.proofs.PosedLaws.{posed}
+use Rattle.std.proofs.lemmas.Option.{same_Some}
 use Rattle.lists.specs.declared.LabelPlaces.{LabelPlaces}
 use Rattle.lists.specs.ReadList.{folded_list, keys_of}
 use Rattle.agreement.specs.Answer.{Answer, disagree, largest}
 use Rattle.agreement.specs.Places.{place_in, token_in, place_of_label}
 use Rattle.pairs.specs.declared.CommonOrder.{CommonOrder}
-use Rattle.mast.specs.declared.clash.FirstClash.{FirstClash}
 use Rattle.mast.specs.declared.settle.Chosen.{Chosen}
 use Rattle.mast.specs.declared.settle.Settled.{Settled}
 use Rattle.mast.specs.declared.settle.ListFate.TheVariants as fate
@@ -28,7 +34,7 @@ use Rattle.mast.specs.declared.CompareAnswer.TheVariants as compare_answer
 use Rattle.pairs.specs.Outcome.{Outcome, refused, found, and_then, trio}
 use Rattle.mast.specs.NamedLabels.{named_of}
 use Rattle.queries.specs.Query.{AllHeld, with_clash, with_set, answer_to, held_by, agreed_on, disagreement, required_of, required_set}
-use Rattle.mast.specs.Compare.{Comparison, missing, clash_of, comparison, compare_other, compare_answers, compare_lists, is_there, place_if, no_name, named_if, compared_of}
+use Rattle.mast.specs.Compare.{Comparison, missing, clash_of, comparison, compare_other, compare_answers, compare_lists, place_if, named_if, compared_of}
 use Rattle.pairs.specs.PairRead.{OwnTrees, trees_in}
 use Rattle.queries.specs.ListRead.{OwnLabels}
 use Rattle.queries.specs.RankedList.{AskedOf}
@@ -45,6 +51,20 @@ pub named_trio : (e : Edition) (s : Tree) (xs : List Token) (a b c : Label) (x y
 unfolding named_of
 named_trio e s xs a b c x y z f g h = rw (f, g, h) refl
 
+-- what was read is posed to the engine
+pub posed_asked : (e : Edition) (s t : Tree) (xs : List Token) {tree1 tree2 : TreeArrays} {order : CommonOrder}
+    {rank1 rank2 number : List ℕ} {places : LabelPlaces}
+    → AskedOf (folded e s) (folded e t) (folded_list e xs) tree1 tree2 order number places
+    → ((t : Tree) (C : List Label) → Proper t → increasing C ≡ true → order.count ≡ length C → order.count ≤ 80
+    → Numbered t C order.first → Ranked t C rank1)
+    → ((t : Tree) (C : List Label) → Proper t → increasing C ≡ true → order.count ≡ length C → order.count ≤ 80
+    → Numbered t C order.second → Ranked t C rank2)
+    → Posed (keyed e s) (keyed e t) (keys_of e xs) tree1 tree2 rank1 rank2 order.count number places.count
+posed_asked e s t xs h one two =
+    let a = h.asked in
+    posed a (one _ _ (valid_decoded (folded e s) a.one.valid) a.one.ordered a.one.count a.one.few a.one.numbered)
+    (two _ _ (valid_decoded (folded e t) a.two.valid) a.two.ordered a.two.count a.two.few a.two.numbered)
+
 module _ (e : Edition) (s t : Tree) (xs : List Token) where
   abbrev A : Answer
   A = answer_to e (record { first = s; second = t }) xs
@@ -52,26 +72,27 @@ module _ (e : Edition) (s t : Tree) (xs : List Token) where
   abbrev Set : Outcome (List Label)
   Set = required_set e (record { first = s; second = t }) xs
 
-  pub clash_none : (r : FirstClash) (X : List Label) → A ≡ largest X → r.clashes ≡ false → r.named ≡ no_name → ClashIs e s t xs r
-  unfolding held_by clash_of is_there named_if
-  clash_none r X h p n = record { held = with_set X; is = λ body. ap (held_by body xs) h; clashes_is = p; named_is = n }
+  pub clash_none : (X : List Label) → A ≡ largest X → ClashIs e s t xs None
+  unfolding held_by clash_of named_if
+  clash_none X h = record { held = with_set X; is = λ body. ap (held_by body xs) h; named_is = refl }
 
-  pub clash_some : (r : FirstClash) (a b c : Label) → A ≡ disagree a b c → r.clashes ≡ true → r.named ≡ named_of (trio e s xs a b c) → ClashIs e s t xs r
-  unfolding held_by clash_of is_there named_if
-  clash_some r a b c h p n =
-      record { held = with_clash (record { one = a; two = b; three = c }); is = λ body. ap (held_by body xs) h; clashes_is = p; named_is = n }
+  pub clash_some : (n : Named) (a b c : Label) → A ≡ disagree a b c → n ≡ named_of (trio e s xs a b c) → ClashIs e s t xs (Some n)
+  unfolding held_by clash_of named_if
+  clash_some n a b c h k =
+      record { held = with_clash (record { one = a; two = b; three = c }); is = λ body. ap (held_by body xs) h; named_is = ap Some k }
 
   -- number 8
-  pub eight_named : (r : FirstClash) (a b c : Label) → A ≡ disagree a b c → ClashIs e s t xs r → NamingIs Set disagreement r.named
-  unfolding required_set required_of held_by agreed_on clash_of named_if
-  eight_named r a b c h k =
+  pub eight_found : (r : Option Named) (a b c : Label) → A ≡ disagree a b c → ClashIs e s t xs r → r ≡ Some (named_of (trio e s xs a b c))
+  unfolding held_by clash_of named_if
+  eight_found r a b c h k =
       let f : found (with_clash (record { one = a; two = b; three = c })) ≡ found k.held = sym (ap (held_by K xs) h) ∙ k.is K in
       let g : with_clash (record { one = a; two = b; three = c }) ≡ k.held = cc in
-      record {
-        labels = trio e s xs a b c;
-        is = ap (required_of e s xs) h;
-        named = k.named_is ∙ ap (λ (x : AllHeld). named_if e s xs (clash_of x)) (sym g);
-      }
+      k.named_is ∙ ap (λ (x : AllHeld). named_if e s xs (clash_of x)) (sym g)
+
+  pub eight_named : (n : Named) (a b c : Label) → A ≡ disagree a b c → Some n ≡ Some (named_of (trio e s xs a b c)) → NamingIs Set disagreement n
+  unfolding required_set required_of held_by agreed_on
+  eight_named n a b c h k =
+      record { labels = trio e s xs a b c; is = ap (required_of e s xs) h; named = same_Some _ _ k }
 
   pub set_found : (X : List Label) → A ≡ largest X → Set ≡ found X
   unfolding required_set required_of held_by agreed_on
@@ -155,20 +176,13 @@ module _ (e : Edition) (s : Tree) (xs ys : List Token) (size : ℕ) where
   unfolding compare_other compared_of
   other_lacking B q h = ap compared_of (sym (then_refused (held_by C ys B) _ q h))
 
-  pub other_compared : (t : Tree) (r : FirstClash) → ClashIs e s t ys r → (n count place : ℕ) (lacks : Bool) → n ≡ size → count ≡ length ys
-      → lacks ≡ is_there (missing (keys_of e xs) (keys_of e ys) 0) → place ≡ place_if xs (missing (keys_of e xs) (keys_of e ys) 0)
-      → compare_answer.Compared (record {
-        size = n;
-        count = count;
-        lacks = lacks;
-        missing = place;
-        clashes = r.clashes;
-        named = r.named;
-      })
+  pub other_compared : (t : Tree) (r : Option Named) → ClashIs e s t ys r → (n count : ℕ) (place : Option ℕ) → n ≡ size → count ≡ length ys
+      → place ≡ place_if xs (missing (keys_of e xs) (keys_of e ys) 0)
+      → compare_answer.Compared (record { size = n; count = count; missing = place; clash = r })
       ≡ compared_of (compare_other e s xs ys size (answer_to e (record { first = s; second = t }) ys))
   unfolding compare_other compared_of comparison
-  other_compared t r k n count place lacks d c f g =
-      rw (d, c, f, g, k.clashes_is, k.named_is) refl
+  other_compared t r k n count place d c f =
+      rw (d, c, f, k.named_is) refl
       ∙ ap compared_of (sym (then_found (held_by C ys (answer_to e (record { first = s; second = t }) ys))
       (λ (h : AllHeld). found (comparison e s xs ys size h)) k.held (k.is C)))
 

@@ -1,6 +1,6 @@
 -- A further list of labels beside the largest set; a claimed set is judged by this. C-16: "A body with letter C, listed and read right after K
 -- and written like K, holds the claimed set."
-use Rattle.std.specs.Prelude.{ℕ, suc, ◌<◌, ◌≡◌, Bool, true, false, cond, List, [], ◌∷◌, length, get_or}
+use Rattle.std.specs.Prelude.{ℕ, suc, ◌<◌, ◌≡◌, true, false, cond, List, [], ◌∷◌, length, get_or, Some, None, Option as Optional}
 use Rattle.std.proofs.Math.Option.{Option, some, none}
 use Rattle.trees.specs.declared.Body.TheVariants.{K, C}
 use Rattle.trees.specs.declared.Edition.{Edition}
@@ -84,41 +84,26 @@ compare q other =
 
 -- ---- what is returned
 
--- whether there is such a label, or such three
-unfoldable pub is_there : {A : Type 0} → Option A → Bool
-is_there none = false
-is_there (some x) = true
+-- the place of the label with an index in a list, if there is one
+unfoldable pub place_if : List Token → Option ℕ → Optional ℕ
+place_if xs none = None
+place_if xs (some n) = Some (place_of_number xs n)
 
--- the place of the label with an index in a list; 0 for none
-unfoldable pub place_if : List Token → Option ℕ → ℕ
-place_if xs none = 0
-place_if xs (some n) = place_of_number xs n
-
-abbrev pub no_name : Named
-no_name =
-    record {
-      first = record { place = 0; start = 0; size = 0 };
-      second = record { place = 0; start = 0; size = 0 };
-      third = record { place = 0; start = 0; size = 0 };
-    }
-
--- three labels of a list by their places; noughts if there are none
-unfoldable pub named_if : Edition → Tree → List Token → Option Three → Named
+-- three labels of a list by their places, if there are such
+unfoldable pub named_if : Edition → Tree → List Token → Option Three → Optional Named
 unfolding named_of
-named_if e s ys none = no_name
-named_if e s ys (some r) = named_of (trio e s ys r.one r.two r.three)
+named_if e s ys none = None
+named_if e s ys (some r) = Some (named_of (trio e s ys r.one r.two r.three))
 
 -- the sizes, the place of the first missing label, and the three labels; or a refusal
 unfoldable pub compared_of : Outcome Comparison → CompareAnswer
-unfolding is_there place_if named_if named_of
+unfolding place_if named_if named_of
 compared_of (found c) =
     compare_answer.Compared (record {
       size = c.size;
       count = length c.further;
-      lacks = is_there c.missed;
       missing = place_if c.required c.missed;
-      clashes = is_there c.clash;
-      named = named_if c.edition c.first c.further c.clash;
+      clash = named_if c.edition c.first c.further c.clash;
     })
 compared_of (naming q n) = compare_answer.Naming q (named_of n)
 compared_of (refused q) = compare_answer.Refused q

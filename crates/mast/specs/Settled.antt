@@ -1,5 +1,5 @@
 -- The required list settled: 6, 7, 8, or the set by rank. Intermediate: nothing public rests on this text.
-use Rattle.std.specs.Prelude.{ℕ, ◌≡◌, Bool, cond, List, ltb, length, get_or}
+use Rattle.std.specs.Prelude.{ℕ, ◌≡◌, Bool, cond, List, ltb, length, get_or, Option, Some, None}
 use Rattle.trees.specs.declared.Edition.{Edition}
 use Rattle.trees.specs.declared.Refusal.{Refusal}
 use Rattle.trees.specs.declared.TreeArrays.{TreeArrays}
@@ -12,7 +12,6 @@ use Rattle.lists.specs.ReadList.{folded_list}
 use Rattle.agreement.specs.Sets.{common}
 use Rattle.table.specs.Choice.{chosen_from}
 use Rattle.mast.specs.declared.Named.{Named}
-use Rattle.mast.specs.declared.beside.Lacked.{Lacked}
 use Rattle.mast.specs.declared.settle.ListFate.TheVariants as fate
 use Rattle.mast.specs.declared.settle.Chosen.{Chosen}
 use Rattle.mast.specs.declared.settle.Settled.{Settled}
@@ -55,5 +54,5 @@ module _ {e : Edition} {first : List ℕ} {tree1 tree2 : TreeArrays} {order : Co
     pub agreed : r.fate ≡ fate.Agreed → AgreedOn r
 
 -- the place in the required list of its label k, if it has so many
-abbrev pub lacked_at : LabelPlaces → ℕ → Lacked
-lacked_at places k = record { lacks = ltb k places.count; missing = cond (ltb k places.count) (get_or places.start k 0) 0 }
+abbrev pub lacked_at : LabelPlaces → ℕ → Option ℕ
+lacked_at places k = cond (ltb k places.count) (Some (get_or places.start k 0)) None

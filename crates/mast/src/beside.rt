@@ -1,7 +1,7 @@
 // A further list beside the largest set, over two trees and two lists that were read.
 //
 // Names that end in 1 are of the first tree, in 2 of the second; `list` is the required one, `other` the further one.
-ghost use Rattle.std.specs.Prelude.{◌≡◌, cond, List, ℕ, ◌≤◌, ltb, length, get_or};
+ghost use Rattle.std.specs.Prelude.{◌≡◌, List, ℕ, ◌≤◌, length};
 ghost use Rattle.queries.specs.Query.{answer_to};
 ghost use Rattle.mast.specs.Compare.{compare_lists, compare_other, compared_of};
 ghost use Rattle.pairs.specs.PairRead.{OwnTrees, trees_in};
@@ -47,34 +47,22 @@ fn first_missing(number: &[u8; RANKS], other: &[u8; RANKS], m: usize, count: usi
     best
 }
 
-// Where label k of a list stands in it; 0 if it has no such label.
-fn place_if(places: LabelPlaces, k: usize) -> usize
-    ensures { result ≡ cond (ltb k places.count) (get_or places.start k 0) 0 }
-{
-    if k < places.count {
-        let starts = places.start;
-        return trees::place_entry(&starts, k);
-    }
-    0
-}
-
-// Whether a further list lacks a required label, and where the first such label stands in the required list.
-#[derive(Clone, Copy)]
-struct Lacked {
-    lacks: bool,
-    missing: usize,
-}
-
-// The first required label that a further list lacks; both lists are given by their marks.
-fn lacked_label(number: &[u8; RANKS], other: &[u8; RANKS], m: usize, places: LabelPlaces) -> Lacked
+// Where the first required label that a further list lacks stands in the required list; both lists are given by their marks.
+fn lacked_label(
+    number: &[u8; RANKS],
+    other: &[u8; RANKS],
+    m: usize,
+    places: LabelPlaces,
+) -> Option<usize>
     requires { m ≤ 80 }
     ensures { result ≡ lacked_at places (least_missing number.now other.now m places.count) }
 {
     let k = first_missing(number, other, m, places.count);
-    Lacked {
-        lacks: k < places.count,
-        missing: place_if(places, k),
+    if places.count <= k {
+        return None;
     }
+    let starts = places.start;
+    Some(trees::place_entry(&starts, k))
 }
 
 // The further list beside the largest set, which the settled list has.
@@ -101,16 +89,11 @@ fn beside(
         Err(refusal) => return CompareAnswer::Refused(refusal),
     };
     let number = settled.number;
-    let lacked = lacked_label(&number, &claimed, order.count, places);
-    let clash = clash_in(tree1, tree2, order, &claimed, others);
-    let named = clash.named;
     CompareAnswer::Compared(Compared {
         size: settled.size,
         count: others.count,
-        lacks: lacked.lacks,
-        missing: lacked.missing,
-        clashes: clash.clashes,
-        named,
+        missing: lacked_label(&number, &claimed, order.count, places),
+        clash: clash_in(tree1, tree2, order, &claimed, others),
     })
 }
 

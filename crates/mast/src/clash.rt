@@ -6,7 +6,6 @@ ghost use Rattle.trees.specs.Edition.{folded};
 ghost use Rattle.trees.specs.Token.{Token};
 ghost use Rattle.trees.specs.Tree.{Tree};
 ghost use Rattle.lists.specs.ReadList.{folded_list};
-ghost use Rattle.mast.specs.Compare.{no_name};
 ghost use Rattle.mast.specs.ListMarks.{ranks_from, Entries, Added, Nameable, named_at};
 ghost use Rattle.queries.specs.RankedList.{AskedOf};
 ghost use Rattle.mast.specs.RankedQuery.{SomeAsked, RanksGathered, ClashIs};
@@ -83,29 +82,6 @@ fn named_label(
     }
 }
 
-// No label.
-fn no_name() -> Named
-    ensures { result ≡ no_name }
-{
-    Named {
-        first: NamedLabel {
-            place: 0,
-            start: 0,
-            size: 0,
-        },
-        second: NamedLabel {
-            place: 0,
-            start: 0,
-            size: 0,
-        },
-        third: NamedLabel {
-            place: 0,
-            start: 0,
-            size: 0,
-        },
-    }
-}
-
 // Three labels by their ranks among the marked ones.
 fn named_three(
     places: LabelPlaces,
@@ -155,21 +131,14 @@ fn gather(
     ranks
 }
 
-// Whether three labels of a list have different closer pairs, and the first such three.
-#[derive(Clone, Copy)]
-pub(crate) struct FirstClash {
-    pub clashes: bool,
-    pub named: Named,
-}
-
-// The first three labels of a list with different closer pairs.
+// The first three labels of a list with different closer pairs, if there are any.
 pub(crate) fn clash_in(
     tree1: TreeArrays,
     tree2: TreeArrays,
     order: CommonOrder,
     number: &[u8; RANKS],
     places: LabelPlaces,
-) -> FirstClash
+) -> Option<Named>
     requires { SomeAsked tree1 tree2 order number.now places }
     ensures { (e : Edition) (s t : Tree) (xs : List Token)
         → AskedOf (folded e s) (folded e t) (folded_list e xs) tree1 tree2 order number.now places → ClashIs e s t xs result }
@@ -190,13 +159,7 @@ pub(crate) fn clash_in(
         count,
     );
     if count <= three.first {
-        return FirstClash {
-            clashes: false,
-            named: no_name(),
-        };
+        return None;
     }
-    FirstClash {
-        clashes: true,
-        named: named_three(places, number, &ranks, tree1, &leaf1, three),
-    }
+    Some(named_three(places, number, &ranks, tree1, &leaf1, three))
 }

@@ -61,17 +61,14 @@ pub struct DividedResult {
     pub pieces: PiecePlaces,
 }
 
-// A further list compared with the largest set: the size of that set and the number of labels of the list; whether the list lacks a
-// required label, and the place of the first such label in the required list; whether three of its labels have different closer pairs, and
-// the first such three.
+// A further list compared with the largest set: the size of that set and the number of labels of the list; the place in the required list
+// of the first label that the further one lacks; and its first three labels with different closer pairs.
 #[derive(Clone, Copy)]
 pub struct Compared {
     pub size: usize,
     pub count: usize,
-    pub lacks: bool,
-    pub missing: usize,
-    pub clashes: bool,
-    pub named: Named,
+    pub missing: Option<usize>,
+    pub clash: Option<Named>,
 }
 
 // The comparison of a further list. Number 8, with the three required labels that it names. Or another refusal.

@@ -84,8 +84,7 @@ fn choose(
             size,
         };
     }
-    let clash = clash_in(tree1, tree2, order, number, places);
-    let named = clash.named;
+    let named = clash_in(tree1, tree2, order, number, places).unwrap();
     Chosen {
         fate: ListFate::Naming(disagreement(), named),
         size: 0,

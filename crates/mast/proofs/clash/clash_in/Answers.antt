@@ -1,5 +1,5 @@
 -- `clash::clash_in` meets its contract. Assumes nothing.
-use mathlib.Core.Path.{◌∙◌, refl}
+use mathlib.Core.Path.{◌∙◌}
 use Rattle.trees.specs.Edition.{folded}
 use Rattle.lists.specs.ReadList.{folded_list}
 use Rattle.queries.specs.Query.{answer_to}
@@ -13,15 +13,15 @@ returns-then-count-three c =
     λ e s t xs h.
     let g = c.gather-ranks.ensures in let z = none_clash (folded e s) (folded e t) (folded_list e xs) _ _ _ _ _ h _ g.by_rank _ _ _
     g.first g.second c.first_clash-three.ensures.value c.if-count-three.true in
-    clash_none e s t xs _ z.0 z.1 refl c.no_name.ensures
+    clash_none e s t xs z.0 z.1
 
 pub named_three-requires : goal.named_three-requires
 named_three-requires c =
-    let g = c.gather-ranks.ensures in let h = c.requires in let one = first_named h.s h.t h.K _ _ _ _ _ h.of _ g.by_rank _ _ _ g.first g.second c.first_clash-three.ensures.value
+    let g = c.gather-ranks.ensures in let h = c.requires in let one = first_named (folded h.e h.s) (folded h.e h.t) (folded_list h.e h.xs) _ _ _ _ _ h.of _ g.by_rank _ _ _ g.first g.second c.first_clash-three.ensures.value
     c.if-count-three.false in
-    let two = second_named h.s h.t h.K _ _ _ _ _ h.of _ g.by_rank _ _ _ g.first g.second c.first_clash-three.ensures.value
+    let two = second_named (folded h.e h.s) (folded h.e h.t) (folded_list h.e h.xs) _ _ _ _ _ h.of _ g.by_rank _ _ _ g.first g.second c.first_clash-three.ensures.value
     c.if-count-three.false in
-    let three = third_named h.s h.t h.K _ _ _ _ _ h.of _ g.by_rank _ _ _ g.first g.second c.first_clash-three.ensures.value
+    let three = third_named (folded h.e h.s) (folded h.e h.t) (folded_list h.e h.xs) _ _ _ _ _ h.of _ g.by_rank _ _ _ g.first g.second c.first_clash-three.ensures.value
     c.if-count-three.false in
     (one.0, two.0, three.0)
 
@@ -39,5 +39,5 @@ returns c =
     g.first g.second c.first_clash-three.ensures.value c.if-count-three.false in
     clash_some e s t xs _ three.one three.two three.three
     (named (folded e s) (folded e t) (folded_list e xs) _ _ _ _ _ h _ g.by_rank _ _ _
-    g.first g.second c.first_clash-three.ensures.value c.if-count-three.false) refl
+    g.first g.second c.first_clash-three.ensures.value c.if-count-three.false)
     (c.named_three.ensures ∙ named_trio e s xs three.one three.two three.three _ _ _ x.1 y.1 z.1)

@@ -9,7 +9,7 @@ returns-in-Err c =
 
 pub choose-told-requires : goal.choose-told-requires
 choose-told-requires c =
-    let p = c.requires in record { s = _; t = _; K = _; of = c.in-Ok.ensures _ p.0 p.1 }
+    let p = c.requires in record { e = _; s = _; t = _; xs = _; of = c.in-Ok.ensures _ p.0 p.1 }
 
 pub returns : goal.returns
 returns c =
