@@ -1,6 +1,6 @@
 -- The row of a node from the rows of its children: which rows are used, that there are enough, and which are left alone. Assumes
 -- nothing.
-use Rattle.std.proofs.Common.{◌≡◌, ℕ, zero, suc, ◌+◌, ◌-◌, ◌*◌, ◌<◌, ◌≤◌, min, Bool, true, false, cond, eqb, ltb, ◌⊎◌, List, length, sym, refl, ap, ◌∙◌, inl, inr, arith, length-append, ltb-false, ltb-true, eqb-true}
+use Rattle.std.proofs.Common.{◌≡◌, ℕ, zero, suc, ◌+◌, ◌-◌, ◌*◌, ◌<◌, ◌≤◌, min, Bool, true, false, cond, eqb, ltb, ◌⊎◌, List, length, sym, refl, ap, ◌∙◌, inl, inr, arith, length-append, ltb-false, ltb-true, eqb-true, get_or, slice_index}
 use borrow.Author.Tests.{eqb-false}
 use Rattle.trees.specs.Label.{Label}
 use Rattle.trees.specs.Tree.{Tree, leaf, node, leaves, leaf_limit}
@@ -9,7 +9,7 @@ use Rattle.trees.proofs.Bools.{bool_cases}
 use Rattle.agreement.specs.Weights.{best}
 use Rattle.agreement.specs.Powers.{power}
 use Rattle.table.specs.declared.fill.Children.{Children}
-use Rattle.table.specs.Table.{value_at, column_at, nodes_at, weight_place, join_need, need, SplitAt, Shape, RowTo}
+use Rattle.table.specs.Table.{column_at, nodes_at, weight_place, join_need, need, SplitAt, Shape, RowTo}
 use Rattle.table.specs.Table.{Filling, Spared, Filled, Rows, InnerRow, Joined, SpanRow, NodeRow}
 use Rattle.table.specs.Solving.{TopIs}
 use Rattle.table.proofs.RowLaws.{NodeCase, is_leaf, is_node_lem, node_case, row_apart, rank_kept, span_best}
@@ -72,10 +72,10 @@ few_rows t few = go (bool_cases (ltb 6 (need t)))
     go (inr e) = ltb-false 6 (need t) e
 
 -- the weights' row is as it was
-filling_kept : (first second : List ℕ) (ss ts : List Tree) (w : Label → ℕ) (h l h' l' : List ℕ) → Shape first (nodes_at first)
-    → ((v : ℕ) → v < 159 → value_at h' l' (8 * 159 + v) ≡ value_at h l (8 * 159 + v)) → Filling first second ss ts w h l
-    → Filling first second ss ts w h' l'
-filling_kept first second ss ts w h l h' l' shape same f = record {
+filling_kept : (first second : List ℕ) (ss ts : List Tree) (w : Label → ℕ) (area area' : List ℕ) → Shape first (nodes_at first)
+    → ((v : ℕ) → v < 159 → slice_index area' (8 * 159 + v) ≡ slice_index area (8 * 159 + v)) → Filling first second ss ts w area
+    → Filling first second ss ts w area'
+filling_kept first second ss ts w area area' shape same f = record {
   one = f.one;
   two = f.two;
   needs = f.needs;
@@ -86,35 +86,35 @@ filling_kept first second ss ts w h l h' l' shape same f = record {
       (f.ranks u hu x p);
 }
 
-module _ (first second : List ℕ) (u row other next : ℕ) (hu : u < nodes_at first) (h0 l0 h3 l3 : List ℕ) where
+module _ (first second : List ℕ) (u row other next : ℕ) (hu : u < nodes_at first) (area0 area3 : List ℕ) where
   -- a leaf
   pub leaf_made : nodes_at second ≤ 159 → column_at first 0 u ≡ u → column_at first 2 u ≤ 80
-      → SpanRow (nodes_at second) second (column_at first 2 u) row h0 l0 h3 l3 → NodeRow first second u row other next h0 l0 h3 l3
+      → SpanRow (nodes_at second) second (column_at first 2 u) row area0 area3 → NodeRow first second u row other next area0 area3
   leaf_made few e small made = record {
     sized = made.sized;
-    filled = λ ss ts w sh sl f rows. record {
-      right = go ss ts w sh sl f (node_case (f.one.laid u hu));
+    filled = λ ss ts w sh f rows. record {
+      right = go ss ts w sh f (node_case (f.one.laid u hu));
       kept = λ k v hv s. made.outside.same (k * 159 + v) (row_apart k row v hv s.not_row);
     };
   }
     where
-      go : (ss ts : List Tree) (w : Label → ℕ) → length h0 ≡ 1431 → length l0 ≡ 1431 → Filling first second ss ts w h0 l0
+      go : (ss ts : List Tree) (w : Label → ℕ) → length area0 ≡ 1431 → Filling first second ss ts w area0
           → NodeCase ss (column_at first 0 u) (column_at first 1 u) u (subtree ss u)
-          → RowTo (nodes_at second) ts w (subtree ss u) row h3 l3
-      go ss ts w sh sl f (is_leaf x _ p) = record {
+          → RowTo (nodes_at second) ts w (subtree ss u) row area3
+      go ss ts w sh f (is_leaf x _ p) = record {
         right = λ v hv.
-            made.each sh sl v hv
+            made.each sh v hv
             ∙ (rw p (span_best second (nodes_at second) ts w f.two few x (column_at first 2 u) _ small (f.ranks u hu x p) (suc v) v (omega arith) hv));
       }
-      go ss ts w sh sl f (is_node_lem a b p) = absurd (omega arith)
+      go ss ts w sh f (is_node_lem a b p) = absurd (omega arith)
 
   -- an inner node
-  module _ (c : Children) (h1 l1 h2 l2 : List ℕ) (shape : Shape first (nodes_at first)) (few2 : nodes_at second ≤ 159)
+  module _ (c : Children) (area1 area2 : List ℕ) (shape : Shape first (nodes_at first)) (few2 : nodes_at second ≤ 159)
       (inner : column_at first 0 u ≡ u → ⊥) (room : next < 8) (split : SplitAt first u c)
-      (one : NodeRow first second c.more other row next h0 l0 h1 l1)
-      (two : NodeRow first second c.fewer next row (next + 1) h1 l1 h2 l2)
-      (join : Joined second c.swapped row other next h2 l2 h3 l3) where
-    module _ (ss ts : List Tree) (w : Label → ℕ) (sh : length h0 ≡ 1431) (sl : length l0 ≡ 1431) (f : Filling first second ss ts w h0 l0)
+      (one : NodeRow first second c.more other row next area0 area1)
+      (two : NodeRow first second c.fewer next row (next + 1) area1 area2)
+      (join : Joined second c.swapped row other next area2 area3) where
+    module _ (ss ts : List Tree) (w : Label → ℕ) (sh : length area0 ≡ 1431) (f : Filling first second ss ts w area0)
         (rows : Rows (subtree ss u) row other next) where
       abbrev P : Tree
       P = subtree ss (column_at first 0 u)
@@ -141,8 +141,8 @@ module _ (first second : List ℕ) (u row other next : ℕ) (hu : u < nodes_at f
         need_fewer : need (subtree ss c.fewer) ≡ cond c.swapped (need P) (need Q)
         need_fewer = rw split.fewer_is (need_of c.swapped _ _)
 
-        fill1 : Filled (nodes_at second) ts w (subtree ss c.more) other row next h0 l0 h1 l1
-        fill1 = one.filled ss ts w sh sl f (record {
+        fill1 : Filled (nodes_at second) ts w (subtree ss c.more) other row next area0 area1
+        fill1 = one.filled ss ts w sh f (record {
           row_low = rows.other_low;
           other_low = rows.row_low;
           apart = λ e. rows.apart (sym e);
@@ -156,10 +156,10 @@ module _ (first second : List ℕ) (u row other next : ℕ) (hu : u < nodes_at f
           before = inr (omega arith);
         }
 
-        fill2 : Filled (nodes_at second) ts w (subtree ss c.fewer) next row (next + 1) h1 l1 h2 l2
+        fill2 : Filled (nodes_at second) ts w (subtree ss c.fewer) next row (next + 1) area1 area2
         fill2 =
-            two.filled ss ts w (one.sized.high_size sh) (one.sized.low_size sl)
-            (filling_kept first second ss ts w h0 l0 h1 l1 shape (λ v hv. fill1.kept 8 v hv weights) f)
+            two.filled ss ts w (one.sized sh)
+            (filling_kept first second ss ts w area0 area1 shape (λ v hv. fill1.kept 8 v hv weights) f)
             (record {
               row_low = omega arith;
               other_low = omega (arith, rows.row_low);
@@ -174,30 +174,27 @@ module _ (first second : List ℕ) (u row other next : ℕ) (hu : u < nodes_at f
           before = inl (omega (arith, rows.other_low));
         }
 
-        row_more : RowTo (nodes_at second) ts w (subtree ss c.more) other h2 l2
+        row_more : RowTo (nodes_at second) ts w (subtree ss c.more) other area2
         row_more = record { right = λ v hv. fill2.kept other v (omega arith) spared_other ∙ fill1.right.right v hv }
 
-        sh2 : length h2 ≡ 1431
-        sh2 = two.sized.high_size (one.sized.high_size sh)
-
-        sl2 : length l2 ≡ 1431
-        sl2 = two.sized.low_size (one.sized.low_size sl)
+        sh2 : length area2 ≡ 1431
+        sh2 = two.sized (one.sized sh)
 
         few_leaves : length (leaves (node P Q)) ≤ leaf_limit
         few_leaves = rw (← p) (f.few u hu)
 
         made : (b : Bool) → c.more ≡ cond b (column_at first 1 u) (column_at first 0 u)
             → c.fewer ≡ cond b (column_at first 0 u) (column_at first 1 u)
-            → InnerRow (nodes_at second) second (cond b next other) (cond b other next) row h2 l2 h3 l3
-            → RowTo (nodes_at second) ts w (node P Q) row h3 l3
+            → InnerRow (nodes_at second) second (cond b next other) (cond b other next) row area2 area3
+            → RowTo (nodes_at second) ts w (node P Q) row area3
         made true em ef j =
-            j.right_row ts w P Q sh2 sl2 f.two f.light few_leaves (λ e. omega (arith, rows.row_low)) (λ e. rows.apart (sym e))
+            j.right_row ts w P Q sh2 f.two f.light few_leaves (λ e. omega (arith, rows.row_low)) (λ e. rows.apart (sym e))
             (rw ef at fill2.right) (rw em at row_more)
         made false em ef j =
-            j.right_row ts w P Q sh2 sl2 f.two f.light few_leaves (λ e. rows.apart (sym e)) (λ e. omega (arith, rows.row_low))
+            j.right_row ts w P Q sh2 f.two f.light few_leaves (λ e. rows.apart (sym e)) (λ e. omega (arith, rows.row_low))
             (rw em at row_more) (rw ef at fill2.right)
 
-        kept_all : (k v : ℕ) → v < 159 → Spared row other next k → value_at h3 l3 (k * 159 + v) ≡ value_at h0 l0 (k * 159 + v)
+        kept_all : (k v : ℕ) → v < 159 → Spared row other next k → slice_index area3 (k * 159 + v) ≡ slice_index area0 (k * 159 + v)
         kept_all k v hv s =
             join.outside.same (k * 159 + v) (row_apart k row v hv s.not_row)
             ∙ fill2.kept k v hv (record { not_row = ne s.before; not_other = s.not_row; before = later s.before })
@@ -211,21 +208,18 @@ module _ (first second : List ℕ) (u row other next : ℕ) (hu : u < nodes_at f
             later (inl a) = inl (omega arith)
             later (inr a) = inr a
 
-        node_filled : Filled (nodes_at second) ts w (subtree ss u) row other next h0 l0 h3 l3
+        node_filled : Filled (nodes_at second) ts w (subtree ss u) row other next area0 area3
         node_filled = record { right = rw p (made c.swapped split.more_is split.fewer_is join); kept = kept_all }
 
       case_filled : NodeCase ss (column_at first 0 u) (column_at first 1 u) u (subtree ss u)
-          → Filled (nodes_at second) ts w (subtree ss u) row other next h0 l0 h3 l3
+          → Filled (nodes_at second) ts w (subtree ss u) row other next area0 area3
       case_filled (is_leaf x e p) = absurd (inner e)
       case_filled (is_node_lem la lb p) = node_filled la lb p
 
-    pub node_made : NodeRow first second u row other next h0 l0 h3 l3
+    pub node_made : NodeRow first second u row other next area0 area3
     node_made = record {
-      sized = record {
-        high_size = λ e. join.sized.high_size (two.sized.high_size (one.sized.high_size e));
-        low_size = λ e. join.sized.low_size (two.sized.low_size (one.sized.low_size e));
-      };
-      filled = λ ss ts w sh sl f rows. case_filled ss ts w sh sl f rows (node_case (f.one.laid u hu));
+      sized = λ e. join.sized (two.sized (one.sized e));
+      filled = λ ss ts w sh f rows. case_filled ss ts w sh f rows (node_case (f.one.laid u hu));
     }
 
 positive : (a b : ℕ) → 0 < join_need a b
@@ -238,11 +232,11 @@ positive a b = go (ltb a b) refl (ltb b a) refl
     go false p false q = omega arith
 
 -- where no row is left a node cannot come
-pub nothing_made : (first second : List ℕ) (u row other next : ℕ) (h l : List ℕ) → 8 ≤ next
-    → (column_at first 0 u ≡ u → ⊥) → u < nodes_at first → NodeRow first second u row other next h l h l
-nothing_made first second u row other next h l full inner hu = record {
-  sized = record { high_size = λ e. e; low_size = λ e. e };
-  filled = λ ss ts w sh sl f rows. absurd (go ss rows.enough (node_case (f.one.laid u hu)));
+pub nothing_made : (first second : List ℕ) (u row other next : ℕ) (area : List ℕ) → 8 ≤ next
+    → (column_at first 0 u ≡ u → ⊥) → u < nodes_at first → NodeRow first second u row other next area area
+nothing_made first second u row other next area full inner hu = record {
+  sized = λ e. e;
+  filled = λ ss ts w sh f rows. absurd (go ss rows.enough (node_case (f.one.laid u hu)));
 }
   where
     go : (ss : List Tree) → next + need (subtree ss u) ≤ 8 → NodeCase ss (column_at first 0 u) (column_at first 1 u) u (subtree ss u) → ⊥
@@ -267,16 +261,16 @@ child_low first u c shape hu inner split = go c.swapped split.more_is split.fewe
     go false em ef = (omega (arith, la), omega (arith, lb))
 
 -- the root's row
-pub top_made : (first second : List ℕ) (n m top : ℕ) (h l h' l' : List ℕ) → n ≡ nodes_at first → m ≡ nodes_at second → 0 < nodes_at second
-    → nodes_at second ≤ 159 → NodeRow first second (n - 1) 0 1 2 h l h' l' → top ≡ value_at h' l' (m - 1) → TopIs first second top h l h' l'
-top_made first second n m top h l h' l' en em some few made e = record { greatest = greatest' }
+pub top_made : (first second : List ℕ) (n m top : ℕ) (area area' : List ℕ) → n ≡ nodes_at first → m ≡ nodes_at second → 0 < nodes_at second
+    → nodes_at second ≤ 159 → NodeRow first second (n - 1) 0 1 2 area area' → top ≡ slice_index area' (m - 1) → TopIs first second top area area'
+top_made first second n m top area area' en em some few made e = record { greatest = greatest' }
   where
-    greatest' : (ss ts : List Tree) (w : Label → ℕ) → length h ≡ 1431 → length l ≡ 1431 → Filling first second ss ts w h l
+    greatest' : (ss ts : List Tree) (w : Label → ℕ) → length area ≡ 1431 → Filling first second ss ts w area
         → need (subtree ss (nodes_at first - 1)) ≤ 6
         → (top ≡ best w (subtree ss (nodes_at first - 1)) (subtree ts (nodes_at second - 1)))
-        × ((r : ℕ) → r < 159 → value_at h' l' (weight_place r) ≡ value_at h l (weight_place r))
-    greatest' ss ts w sh sl f low = (
-      e ∙ ap (value_at h' l') place ∙ filled.right.right (nodes_at second - 1) (omega arith)
+        × ((r : ℕ) → r < 159 → slice_index area' (weight_place r) ≡ slice_index area (weight_place r))
+    greatest' ss ts w sh f low = (
+      e ∙ ap (λ (k : ℕ). get_or area' k 0) place ∙ filled.right.right (nodes_at second - 1) (omega arith)
           ∙ ap (λ (k : ℕ). best w (subtree ss (k - 1)) (subtree ts (nodes_at second - 1))) en,
       λ r hr. filled.kept 8 r hr (record { not_row = λ d. omega arith; not_other = λ d. omega arith; before = inr (omega arith) }),
     )
@@ -284,8 +278,8 @@ top_made first second n m top h l h' l' en em some few made e = record { greates
         place : m - 1 ≡ 0 * 159 + (nodes_at second - 1)
         place = omega arith
 
-        filled : Filled (nodes_at second) ts w (subtree ss (n - 1)) 0 1 2 h l h' l'
-        filled = made.filled ss ts w sh sl f (record {
+        filled : Filled (nodes_at second) ts w (subtree ss (n - 1)) 0 1 2 area area'
+        filled = made.filled ss ts w sh f (record {
           row_low = omega arith;
           other_low = omega arith;
           apart = λ d. omega arith;

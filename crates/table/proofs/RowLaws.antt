@@ -1,6 +1,6 @@
 -- Laws of rows: the value computed for a cell is that of the recurrence, a stored cell leaves the others alone, and so a row is made.
 -- Assumes nothing.
-use Rattle.std.proofs.Common.{◌≡◌, ℕ, zero, suc, ◌+◌, ◌*◌, ◌<◌, ◌≤◌, max, true, false, cond, eqb, ltb, ◌⊎◌, List, length, set, sym, refl, ap, ◌∙◌, ap₂, inl, inr, arith, length-set, get_or-set_other, get_or-set_same, ltb-false, ltb-true, le-ltb, lt-ltb, eq-eqb, ne_eqb, eqb-true, le-leb}
+use Rattle.std.proofs.Common.{◌≡◌, ℕ, zero, suc, ◌+◌, ◌*◌, ◌<◌, ◌≤◌, max, true, false, cond, eqb, ltb, ◌⊎◌, List, length, set, sym, refl, ap, ◌∙◌, ap₂, inl, inr, arith, length-set, get_or-set_other, get_or-set_same, ltb-false, ltb-true, le-ltb, lt-ltb, eq-eqb, ne_eqb, eqb-true, le-leb, get_or, slice_index}
 use native.Mathlib.Decide.{dec_le}
 use borrow.Author.Tests.{eqb-false, lt-leb}
 use Rattle.trees.specs.Label.{Label, same_label}
@@ -10,8 +10,8 @@ use Rattle.trees.proofs.Bools.{bool_cases}
 use Rattle.trees.proofs.LabelLaws.{same_cases}
 use Rattle.trees.proofs.EntryLaws.{below_next}
 use Rattle.agreement.specs.Weights.{best}
-use Rattle.table.specs.Table.{two64, value_at, column_at, weight_place, inner_at, cell_at, span_at, Outside}
-use Rattle.table.specs.Table.{nodes_at, Shape, Sized, Columns, RowTo, Light, RankIs, InnerRow, SpanRow}
+use Rattle.table.specs.Table.{column_at, weight_place, inner_at, cell_at, span_at, Outside}
+use Rattle.table.specs.Table.{nodes_at, Shape, Columns, RowTo, Light, RankIs, InnerRow, SpanRow}
 use Rattle.table.specs.Table.{LeafOf, no_leaf, one_leaf, Spans}
 use Rattle.table.proofs.RecurrenceLaws.{two_leaves, leaf_node, node_leaf, two_nodes}
 
@@ -190,40 +190,26 @@ module _ (second : List ℕ) (nodes : ℕ) (ts : List Tree) (w : Label → ℕ) 
 
 -- a cell is stored
 
-module _ (place h l : ℕ) (high low : List ℕ) where
-  pub value_other : (i : ℕ) → (i ≡ place → ⊥) → value_at (set high place h) (set low place l) i ≡ value_at high low i
-  value_other i ne = ap₂ (λ (x y : ℕ). x * two64 + y) (get_or-set_other high place i h 0 ne) (get_or-set_other low place i l 0 ne)
-
-  pub value_same : place < length high → place < length low → value_at (set high place h) (set low place l) place ≡ h * two64 + l
-  value_same a b = ap₂ (λ (x y : ℕ). x * two64 + y) (get_or-set_same high place h 0 a) (get_or-set_same low place l 0 b)
-
-module _ (row v h l : ℕ) (high low : List ℕ) where
-  outside_store : (high0 low0 : List ℕ) → v < 159 → Outside row high0 low0 high low
-      → Outside row high0 low0 (set high (row * 159 + v) h) (set low (row * 159 + v) l)
-  outside_store high0 low0 hv out =
-      record { same = λ i side. value_other (row * 159 + v) h l high low i (ne i side) ∙ out.same i side }
+module _ (row v x : ℕ) (area : List ℕ) where
+  outside_store : (area0 : List ℕ) → v < 159 → Outside row area0 area
+      → Outside row area0 (set area (row * 159 + v) x)
+  outside_store area0 hv out =
+      record { same = λ i side. get_or-set_other area (row * 159 + v) i x 0 (ne i side) ∙ out.same i side }
     where
       ne : (i : ℕ) → (i < row * 159) ⊎ (row * 159 + 159 ≤ i) → i ≡ row * 159 + v → ⊥
       ne i (inl k) e = omega arith
       ne i (inr k) e = omega arith
 
-  row_store : (ts : List Tree) (w : Label → ℕ) (s : Tree) → row < 8 → v < 159 → length high ≡ 1431 → length low ≡ 1431
-      → RowTo v ts w s row high low → h * two64 + l ≡ best w s (subtree ts v)
-      → RowTo (v + 1) ts w s row (set high (row * 159 + v) h) (set low (row * 159 + v) l)
-  row_store ts w s hr hv sh sl right e = record {
+  row_store : (ts : List Tree) (w : Label → ℕ) (s : Tree) → row < 8 → v < 159 → length area ≡ 1431
+      → RowTo v ts w s row area → x ≡ best w s (subtree ts v)
+      → RowTo (v + 1) ts w s row (set area (row * 159 + v) x)
+  row_store ts w s hr hv sh right e = record {
     right =
         below_next
-        (λ q. value_at (set high (row * 159 + v) h) (set low (row * 159 + v) l) (row * 159 + q) ≡ best w s (subtree ts q)) v
-        (λ q less. value_other (row * 159 + v) h l high low (row * 159 + q) (omega arith) ∙ right.right q less)
-        (value_same (row * 159 + v) h l high low (omega arith) (omega arith) ∙ e);
+        (λ q. get_or (set area (row * 159 + v) x) (row * 159 + q) 0 ≡ best w s (subtree ts q)) v
+        (λ q less. get_or-set_other area (row * 159 + v) (row * 159 + q) x 0 (omega arith) ∙ right.right q less)
+        (get_or-set_same area (row * 159 + v) x 0 (omega arith) ∙ e);
   }
-
-pub sized_store : (place h l : ℕ) (high0 low0 high low : List ℕ) → Sized high0 low0 high low
-    → Sized high0 low0 (set high place h) (set low place l)
-sized_store place h l high0 low0 high low s = record {
-  high_size = λ e. length-set high place h ∙ s.high_size e;
-  low_size = λ e. length-set low place l ∙ s.low_size e;
-}
 
 pub row_apart : (k row v : ℕ) → v < 159 → (k ≡ row → ⊥) → (k * 159 + v < row * 159) ⊎ (row * 159 + 159 ≤ k * 159 + v)
 row_apart k row v hv ne = go (bool_cases (ltb k row))
@@ -233,9 +219,9 @@ row_apart k row v hv ne = go (bool_cases (ltb k row))
     go (inr e) = inr (omega (arith, ltb-false k row e, ne))
 
 -- another row is as it was
-other_row : (n row k : ℕ) (ts : List Tree) (w : Label → ℕ) (s : Tree) (high0 low0 high low : List ℕ) → n ≤ 159 → (k ≡ row → ⊥)
-    → Outside row high0 low0 high low → RowTo n ts w s k high0 low0 → RowTo n ts w s k high low
-other_row n row k ts w s high0 low0 high low few ne out right = record {
+other_row : (n row k : ℕ) (ts : List Tree) (w : Label → ℕ) (s : Tree) (area0 area : List ℕ) → n ≤ 159 → (k ≡ row → ⊥)
+    → Outside row area0 area → RowTo n ts w s k area0 → RowTo n ts w s k area
+other_row n row k ts w s area0 area few ne out right = record {
   right = λ v hv. out.same (k * 159 + v) (row_apart k row v (omega arith) ne) ∙ right.right v hv;
 }
 
@@ -247,55 +233,52 @@ rank_kept second nodes ts w x rank m n e is =
 
 -- a row is made cell by cell
 
-sized_none : (high low : List ℕ) → Sized high low high low
-sized_none high low = record { high_size = λ e. e; low_size = λ e. e }
-
-pub span_row_none : (second : List ℕ) (rank row : ℕ) (high low : List ℕ) → SpanRow 0 second rank row high low high low
-span_row_none second rank row high low = record {
-  sized = sized_none high low;
+pub span_row_none : (second : List ℕ) (rank row : ℕ) (area : List ℕ) → SpanRow 0 second rank row area area
+span_row_none second rank row area = record {
+  sized = λ e. e;
   outside = record { same = λ i side. refl };
-  each = λ sh sl v h. absurd (omega arith);
+  each = λ sh v h. absurd (omega arith);
 }
 
-pub inner_row_none : (second : List ℕ) (left right row : ℕ) (high low : List ℕ) → InnerRow 0 second left right row high low high low
-inner_row_none second left right row high low = record {
-  sized = sized_none high low;
+pub inner_row_none : (second : List ℕ) (left right row : ℕ) (area : List ℕ) → InnerRow 0 second left right row area area
+inner_row_none second left right row area = record {
+  sized = λ e. e;
   outside = record { same = λ i side. refl };
-  right_row = λ ts w p q sh sl two light few nl nr rl rr. record { right = λ v h. absurd (omega arith) };
+  right_row = λ ts w p q sh two light few nl nr rl rr. record { right = λ v h. absurd (omega arith) };
 }
 
-pub span_row_next : (second : List ℕ) (row v h l : ℕ) (high0 low0 high low : List ℕ) → row < 8 → v < 159 → (rank : ℕ)
-    → h * two64 + l ≡ span_at second (value_at high0 low0 (weight_place rank)) (column_at second 5 rank) v
-    → SpanRow v second rank row high0 low0 high low
-    → SpanRow (v + 1) second rank row high0 low0 (set high (row * 159 + v) h) (set low (row * 159 + v) l)
-span_row_next second row v h l high0 low0 high low hr hv rank e r = record {
-  sized = sized_store (row * 159 + v) h l high0 low0 high low r.sized;
-  outside = outside_store row v h l high low high0 low0 hv r.outside;
-  each = λ sh sl.
+pub span_row_next : (second : List ℕ) (row v x : ℕ) (area0 area : List ℕ) → row < 8 → v < 159 → (rank : ℕ)
+    → x ≡ span_at second (slice_index area0 (weight_place rank)) (column_at second 5 rank) v
+    → SpanRow v second rank row area0 area
+    → SpanRow (v + 1) second rank row area0 (set area (row * 159 + v) x)
+span_row_next second row v x area0 area hr hv rank e r = record {
+  sized = λ e. length-set area (row * 159 + v) x ∙ r.sized e;
+  outside = outside_store row v x area area0 hv r.outside;
+  each = λ sh.
       below_next
-      (λ q. value_at (set high (row * 159 + v) h) (set low (row * 159 + v) l) (row * 159 + q)
-      ≡ span_at second (value_at high0 low0 (weight_place rank)) (column_at second 5 rank) q) v
-      (λ q less. value_other (row * 159 + v) h l high low (row * 159 + q) (omega arith) ∙ r.each sh sl q less)
-      (value_same (row * 159 + v) h l high low (omega (arith, r.sized.high_size sh)) (omega (arith, r.sized.low_size sl)) ∙ e);
+      (λ q. get_or (set area (row * 159 + v) x) (row * 159 + q) 0
+      ≡ span_at second (slice_index area0 (weight_place rank)) (column_at second 5 rank) q) v
+      (λ q less. get_or-set_other area (row * 159 + v) (row * 159 + q) x 0 (omega arith) ∙ r.each sh q less)
+      (get_or-set_same area (row * 159 + v) x 0 (omega (arith, r.sized sh)) ∙ e);
 }
 
-module _ (second : List ℕ) (row v h l : ℕ) (high0 low0 high low : List ℕ) (shape : Shape second (nodes_at second)) (hr : row < 8)
+module _ (second : List ℕ) (row v x : ℕ) (area0 area : List ℕ) (shape : Shape second (nodes_at second)) (hr : row < 8)
     (hv : v < nodes_at second) where
   small : v < 159
   small = omega (arith, shape.few)
 
-  pub inner_row_next : (left right : ℕ) → h * two64 + l ≡ cell_at (value_at high low) second (left * 159) (right * 159) (row * 159) v
-      → InnerRow v second left right row high0 low0 high low
-      → InnerRow (v + 1) second left right row high0 low0 (set high (row * 159 + v) h) (set low (row * 159 + v) l)
+  pub inner_row_next : (left right : ℕ) → x ≡ cell_at (slice_index area) second (left * 159) (right * 159) (row * 159) v
+      → InnerRow v second left right row area0 area
+      → InnerRow (v + 1) second left right row area0 (set area (row * 159 + v) x)
   inner_row_next left right e r = record {
-    sized = sized_store (row * 159 + v) h l high0 low0 high low r.sized;
-    outside = outside_store row v h l high low high0 low0 small r.outside;
-    right_row = λ ts w p q sh sl two light few nl nr rl rr.
-        let one = other_row (nodes_at second) row left ts w p high0 low0 high low shape.few nl r.outside rl in
-        let other = other_row (nodes_at second) row right ts w q high0 low0 high low shape.few nr r.outside rr in
-        let here = r.right_row ts w p q sh sl two light few nl nr rl rr in
-        row_store row v h l high low ts w (node p q) hr small (r.sized.high_size sh) (r.sized.low_size sl) here
+    sized = λ e. length-set area (row * 159 + v) x ∙ r.sized e;
+    outside = outside_store row v x area area0 small r.outside;
+    right_row = λ ts w p q sh two light few nl nr rl rr.
+        let one = other_row (nodes_at second) row left ts w p area0 area shape.few nl r.outside rl in
+        let other = other_row (nodes_at second) row right ts w q area0 area shape.few nr r.outside rr in
+        let here = r.right_row ts w p q sh two light few nl nr rl rr in
+        row_store row v x area ts w (node p q) hr small (r.sized sh) here
         (e
-        ∙ inner_right second (nodes_at second) ts w two (value_at high low) (row * 159) v hv p q (left * 159) (right * 159) light few
+        ∙ inner_right second (nodes_at second) ts w two (slice_index area) (row * 159) v hv p q (left * 159) (right * 159) light few
         (λ k less. one.right k (omega arith)) (λ k less. other.right k (omega arith)) here.right);
   }

@@ -1,6 +1,6 @@
 -- From the weights by rank to the answer: they stand for weights of labels, the cell of both roots is the greatest weight, and it tells
 -- the set. Assumes nothing.
-use Rattle.std.proofs.Common.{◌≡◌, ℕ, suc, ◌+◌, ◌-◌, ◌*◌, ◌/◌, ◌%◌, ◌<◌, ◌≤◌, min, Bool, true, false, cond, Option, Some, None, eqb, ◌⊎◌, ◌↔◌, List, [], length, get_or, replicate, sym, refl, ap, ◌∙◌, inl, inr, arith, eq-eqb, ne_eqb, eqb-true}
+use Rattle.std.proofs.Common.{◌≡◌, ℕ, suc, ◌+◌, ◌-◌, ◌*◌, ◌/◌, ◌%◌, ◌<◌, ◌≤◌, min, Bool, true, false, cond, Option, Some, None, eqb, ◌⊎◌, ◌↔◌, List, [], length, get_or, replicate, sym, refl, ap, ◌∙◌, inl, inr, arith, eq-eqb, ne_eqb, eqb-true, slice_index}
 use lib.ListN.{length-replicate}
 use Rattle.std.proofs.lemmas.Option.{none-some}
 use Rattle.trees.specs.declared.TreeArrays.{TreeArrays}
@@ -25,7 +25,7 @@ use Rattle.agreement.proofs.PowerLaws.{sum_small, power_rank}
 use Rattle.agreement.proofs.Tells.{full_places, common_few, told_set, told_size, told_eight}
 use Rattle.agreement.proofs.Recurrence.{best_greatest}
 use Rattle.agreement.proofs.DemandLaws.{largest_exactly, eight_exactly}
-use Rattle.table.specs.Table.{value_at, column_at, nodes_at, weight_place, Filling}
+use Rattle.table.specs.Table.{column_at, nodes_at, weight_place, Filling}
 use Rattle.table.specs.Weighing.{unit_of, WeightsPut, Powers, bits_of, Bits}
 use Rattle.table.specs.Choice.{Marked, Given, Posed, chosen_from, Solved}
 use Rattle.table.specs.Solving.{OwnColumns, TopIs, Weighed}
@@ -125,9 +125,9 @@ module _ (s t : Tree) (K : List Label) (proper : Proper s) where
 
 -- the cell of both roots, for any weights
 
-module _ (w : Label → ℕ) (s t : Tree) (C : List Label) (first second high low high' low' : List ℕ) (top : ℕ) (one : OwnColumns s C first)
-    (two : OwnColumns t C second) (sh : length high ≡ 1431) (sl : length low ≡ 1431)
-    (filling : Filling first second (postorder s) (postorder t) w high low) (top_is : TopIs first second top high low high' low') where
+module _ (w : Label → ℕ) (s t : Tree) (C : List Label) (first second area area' : List ℕ) (top : ℕ) (one : OwnColumns s C first)
+    (two : OwnColumns t C second) (sh : length area ≡ 1431)
+    (filling : Filling first second (postorder s) (postorder t) w area) (top_is : TopIs first second top area area') where
   root1 : subtree (postorder s) (nodes_at first - 1) ≡ s
   root1 = root_last s (nodes_at first - 1) (omega (arith, one.nodes_is, nodes_pos s))
 
@@ -135,8 +135,8 @@ module _ (w : Label → ℕ) (s t : Tree) (C : List Label) (first second high lo
   root2 = root_last t (nodes_at second - 1) (omega (arith, two.nodes_is, nodes_pos t))
 
   pub told : (top ≡ best w (subtree (postorder s) (nodes_at first - 1)) (subtree (postorder t) (nodes_at second - 1)))
-      × ((r : ℕ) → r < 159 → value_at high' low' (weight_place r) ≡ value_at high low (weight_place r))
-  told = top_is.greatest (postorder s) (postorder t) w sh sl filling (rw root1 (few_rows s one.proper.few))
+      × ((r : ℕ) → r < 159 → slice_index area' (weight_place r) ≡ slice_index area (weight_place r))
+  told = top_is.greatest (postorder s) (postorder t) w sh filling (rw root1 (few_rows s one.proper.few))
 
   pub cell_greatest : Greatest w s t top
   cell_greatest = rw (told.0, root1, root2) (best_greatest w s t one.proper.different two.proper.different)
@@ -147,9 +147,9 @@ module _ (s t : Tree) (K : List Label) (tree1 tree2 : TreeArrays) (rank1 rank2 :
     (posed : Posed s t K tree1 tree2 rank1 rank2 m number count) (first second : List ℕ)
     (columns1 : (v : Tree) (C : List Label) → length C ≤ 80 → Given v C tree1 rank1 → OwnColumns v C first)
     (columns2 : (v : Tree) (C : List Label) → length C ≤ 80 → Given v C tree2 rank2 → OwnColumns v C second)
-    (n : ℕ) (ranks : n ≡ min m 80) (high1 low1 high2 low2 : List ℕ)
-    (put : WeightsPut n number (replicate 1431 0) (replicate 1431 0) high1 low1) (top : ℕ)
-    (top_is : TopIs first second top high1 low1 high2 low2) where
+    (n : ℕ) (ranks : n ≡ min m 80) (area1 area2 : List ℕ)
+    (put : WeightsPut n number (replicate 1431 0) area1) (top : ℕ)
+    (top_is : TopIs first second top area1 area2) where
   proper : Proper s
   proper = posed.one.proper
 
@@ -165,18 +165,18 @@ module _ (s t : Tree) (K : List Label) (tree1 tree2 : TreeArrays) (rank1 rank2 :
   two : OwnColumns t (common s t) second
   two = columns2 t (common s t) few posed.two
 
-  area : length {A = ℕ} (replicate 1431 0) ≡ 1431
-  area = length-replicate {A = ℕ} 1431 0
+  size : length {A = ℕ} (replicate 1431 0) ≡ 1431
+  size = length-replicate {A = ℕ} 1431 0
 
-  weighs : (r : ℕ) → r < length (common s t) → value_at high1 low1 (weight_place r) ≡ telling leaf_limit (sorted K) (common s t) (get_or (common s t) r [])
-  weighs r h = put.each area area r (omega (arith, n_is)) ∙ weight_rank s t K proper number posed.marked r h
+  weighs : (r : ℕ) → r < length (common s t) → slice_index area1 (weight_place r) ≡ telling leaf_limit (sorted K) (common s t) (get_or (common s t) r [])
+  weighs r h = put.each size r (omega (arith, n_is)) ∙ weight_rank s t K proper number posed.marked r h
 
-  nothing : value_at high1 low1 (weight_place 80) ≡ 0
+  nothing : slice_index area1 (weight_place 80) ≡ 0
   nothing =
       put.others (weight_place 80) (inr (omega (arith, n_is, few)))
       ∙ omega (arith, filled_at {A = ℕ} 0 1431 (weight_place 80))
 
-  filling : Filling first second (postorder s) (postorder t) (telling leaf_limit (sorted K) (common s t)) high1 low1
+  filling : Filling first second (postorder s) (postorder t) (telling leaf_limit (sorted K) (common s t)) area1
   filling = record {
     one = one.columns_are;
     two = two.columns_are;
@@ -185,38 +185,35 @@ module _ (s t : Tree) (K : List Label) (tree1 tree2 : TreeArrays) (rank1 rank2 :
     light = telling_light s t K proper;
     ranks = λ u h x p. record {
       is = λ v hv y q.
-          ranks_right s t K proper first second one two (λ r. value_at high1 low1 (weight_place r)) weighs nothing u v x y
+          ranks_right s t K proper first second one two (λ r. slice_index area1 (weight_place r)) weighs nothing u v x y
           (record { below = rw one.nodes_is at h; is = p }) (record { below = rw two.nodes_is at hv; is = q });
     };
   }
 
-  sh : length high1 ≡ 1431
-  sh = put.sized.high_size area
-
-  sl : length low1 ≡ 1431
-  sl = put.sized.low_size area
+  sh : length area1 ≡ 1431
+  sh = put.sized size
 
   great : Greatest (telling leaf_limit (sorted K) (common s t)) s t top
-  great = cell_greatest _ s t (common s t) first second high1 low1 high2 low2 top one two sh sl filling top_is
+  great = cell_greatest _ s t (common s t) first second area1 area2 top one two sh filling top_is
 
   -- the powers are still there
-  powers_kept : Powers n high2 low2
+  powers_kept : Powers n area2
   powers_kept r h =
-      let kept = (told _ s t (common s t) first second high1 low1 high2 low2 top one two sh sl filling top_is).1 in
-      omega (arith, kept r (omega (arith, n_is, few)), put.each area area r h, power_less r (omega (arith, n_is, few)))
+      let kept = (told _ s t (common s t) first second area1 area2 top one two sh filling top_is).1 in
+      omega (arith, kept r (omega (arith, n_is, few)), put.each size r h, power_less r (omega (arith, n_is, few)))
 
-  pub weighed : Weighed s t K n top high2 low2
+  pub weighed : Weighed s t K n top area2
   weighed = record { great = great; powers = powers_kept }
 
 -- what the greatest weight tells
 
 module _ (s t : Tree) (K : List Label) (tree1 tree2 : TreeArrays) (rank1 rank2 : List ℕ) (m : ℕ) (number : List ℕ) (count : ℕ)
-    (posed : Posed s t K tree1 tree2 rank1 rank2 m number count) (n : ℕ) (ranks : n ≡ min m 80) (top : ℕ) (high low : List ℕ)
-    (w : Weighed s t K n top high low) where
+    (posed : Posed s t K tree1 tree2 rank1 rank2 m number count) (n : ℕ) (ranks : n ≡ min m 80) (top : ℕ) (area : List ℕ)
+    (w : Weighed s t K n top area) where
   own : Proper s
   own = posed.one.proper
 
-  module _ (chosen : List Bool) (size : ℕ) (e : top / whole / required_unit ≡ count) (bits : Powers n high low → Bits n (top % whole) chosen)
+  module _ (chosen : List Bool) (size : ℕ) (e : top / whole / required_unit ≡ count) (bits : Powers n area → Bits n (top % whole) chosen)
       (is : size ≡ top / whole / required_unit + top / whole % required_unit) where
     each : (i : ℕ) → i < length (common s t) → get_or chosen (0 + i) false ≡ get_or (bits_of leaf_limit (top % whole)) i false
     each i h =

@@ -1,13 +1,14 @@
 -- Weights by rank and the bits of a set: powers halve, the weights stored are those of the labels, and bits tell the labels.
 -- Assumes nothing.
-use Rattle.std.proofs.Common.{◌≡◌, ℕ, zero, suc, ◌+◌, ◌-◌, ◌*◌, ◌/◌, ◌<◌, ◌≤◌, Bool, true, false, cond, leb, ◌⊎◌, List, [], ◌∷◌, length, get_or, set, sym, refl, ap, ◌∙◌, inl, inr, arith, length-set, get_or-set_other, get_or-set_same}
+use Rattle.std.proofs.Common.{◌≡◌, ℕ, zero, suc, ◌+◌, ◌-◌, ◌*◌, ◌/◌, ◌<◌, ◌≤◌, Bool, true, false, cond, Option, Some, None, SomeIff, is_some, leb, le-leb, ◌⊎◌, List, [], ◌∷◌, length, get_or, set, sym, refl, ap, ◌∙◌, inl, inr, arith, length-set, get_or-set_other, get_or-set_same}
+use borrow.Author.Tests.{lt-leb}
+use Rattle.std.specs.Option.{unwrap_or}
 use Rattle.trees.specs.Label.{Label}
 use Rattle.trees.proofs.EntryLaws.{below_next}
 use Rattle.agreement.specs.Powers.{whole, power, decode}
-use Rattle.table.specs.Table.{two64, value_at, weight_place}
+use Rattle.table.specs.Table.{weight_place}
 use Rattle.table.specs.Weighing.{unit_of, WeightsPut, bits_of, Bits}
 use Rattle.table.specs.Choice.{chosen_from}
-use Rattle.table.proofs.RowLaws.{value_same, value_other, sized_store}
 
 -- powers
 
@@ -26,31 +27,24 @@ power_half r p h e =
 
 -- weights stored rank by rank
 
-pub weights_none : (number high low : List ℕ) → WeightsPut 0 number high low high low
-weights_none number high low = record {
-  sized = record { high_size = λ e. e; low_size = λ e. e };
-  each = λ sh sl r h. absurd (omega arith);
+pub weights_none : (number area : List ℕ) → WeightsPut 0 number area area
+weights_none number area = record {
+  sized = λ e. e;
+  each = λ sh r h. absurd (omega arith);
   others = λ i side. refl;
 }
 
-module _ (r : ℕ) (number high0 low0 high low : List ℕ) (h l : ℕ) (small : r < 80) (put : WeightsPut r number high0 low0 high low)
-    (value : h * two64 + l ≡ unit_of (get_or number r 0) * whole + power (79 - r)) where
-  abbrev high' : List ℕ
-  high' = set high (1272 + r) h
-
-  abbrev low' : List ℕ
-  low' = set low (1272 + r) l
-
-  pub weights_next : WeightsPut (r + 1) number high0 low0 high' low'
+module _ (r : ℕ) (number area0 area : List ℕ) (x : ℕ) (small : r < 80) (put : WeightsPut r number area0 area)
+    (value : x ≡ unit_of (get_or number r 0) * whole + power (79 - r)) where
+  pub weights_next : WeightsPut (r + 1) number area0 (set area (1272 + r) x)
   weights_next = record {
-    sized = sized_store (1272 + r) h l high0 low0 high low put.sized;
-    each = λ sh sl.
-        let s = put.sized.high_size sh in
-        let t = put.sized.low_size sl in
-        below_next (λ q. value_at high' low' (weight_place q) ≡ unit_of (get_or number q 0) * whole + power (79 - q)) r
-        (λ q less. value_other (1272 + r) h l high low (1272 + q) (omega arith) ∙ put.each sh sl q less)
-        (value_same (1272 + r) h l high low (omega arith) (omega arith) ∙ value);
-    others = λ i side. value_other (1272 + r) h l high low i (outside i side) ∙ put.others i (wider i side);
+    sized = λ e. length-set area (1272 + r) x ∙ put.sized e;
+    each = λ sh.
+        let s = put.sized sh in
+        below_next (λ q. get_or (set area (1272 + r) x) (weight_place q) 0 ≡ unit_of (get_or number q 0) * whole + power (79 - q)) r
+        (λ q less. get_or-set_other area (1272 + r) (1272 + q) x 0 (omega arith) ∙ put.each sh q less)
+        (get_or-set_same area (1272 + r) x 0 (omega arith) ∙ value);
+    others = λ i side. get_or-set_other area (1272 + r) i x 0 (outside i side) ∙ put.others i (wider i side);
   }
     where
       outside : (i : ℕ) → (i < 1272) ⊎ (1272 + (r + 1) ≤ i) → i ≡ 1272 + r → ⊥
@@ -123,6 +117,12 @@ module _ (N r p rest next power' : ℕ) (held : Bool) (chosen : List Bool) (h : 
         ∙ ap (λ (n : ℕ). get_or (bits_of (N - 1 - r) n) j false) (sym next_is)
         ∙ ap (λ (n : ℕ). get_or (bits_of n next) j false) m;
   }
+
+-- a power taken from what is left, if it is in it
+pub taken : (o : Option ℕ) (p rest : ℕ) → SomeIff o (p ≤ rest) (rest - p)
+    → (is_some o ≡ leb p rest) × (unwrap_or o rest ≡ cond (leb p rest) (rest - p) rest)
+taken None p rest h = let e = lt-leb p rest (omega arith) in (sym e, rw e refl)
+taken (Some x) p rest h = let e = le-leb p rest h.0 in (sym e, rw e h.1)
 
 -- the labels that are chosen are those that the bits tell
 

@@ -1,6 +1,6 @@
 -- The input and the result of the one fill of the table: trees by their columns, and the greatest weight. Intermediate: nothing public
 -- rests on this text.
-use Rattle.std.specs.Prelude.{◌≡◌, ℕ, ◌-◌, ◌<◌, ◌≤◌, false, List, [], length, slice_index_or}
+use Rattle.std.specs.Prelude.{◌≡◌, ℕ, ◌-◌, ◌<◌, ◌≤◌, false, List, [], length, slice_index, slice_index_or}
 use Rattle.trees.specs.Label.{Label, is_in}
 use Rattle.trees.specs.Tree.{Tree, leaf_limit, Proper}
 use Rattle.trees.specs.Arrays.{nodes_of}
@@ -11,7 +11,7 @@ use Rattle.agreement.specs.Weights.{best}
 use Rattle.agreement.specs.Powers.{telling}
 use Rattle.agreement.specs.Greatest.{Greatest}
 use Rattle.table.specs.Weighing.{Powers}
-use Rattle.table.specs.Table.{value_at, column_at, nodes_at, weight_place, need, Shape, Columns, Filling}
+use Rattle.table.specs.Table.{column_at, nodes_at, weight_place, need, Shape, Columns, Filling}
 
 -- indices stay in range, and there is a root
 pub record Rooted (columns : List ℕ) : Type 0 where
@@ -28,13 +28,13 @@ pub record OwnColumns (t : Tree) (C : List Label) (columns : List ℕ) : Type 0 
   pub other : (u : ℕ) (x : Label) → LeafIs t u x → is_in x C ≡ false → column_at columns 2 u ≡ 80
 
 -- the weight of both roots, and the weights by rank as they were
-pub record TopIs (first second : List ℕ) (top : ℕ) (high low high' low' : List ℕ) : Type 0 where
-  pub greatest : (ss ts : List Tree) (w : Label → ℕ) → length high ≡ 1431 → length low ≡ 1431 → Filling first second ss ts w high low
+pub record TopIs (first second : List ℕ) (top : ℕ) (area area' : List ℕ) : Type 0 where
+  pub greatest : (ss ts : List Tree) (w : Label → ℕ) → length area ≡ 1431 → Filling first second ss ts w area
       → need (subtree ss (nodes_at first - 1)) ≤ 6
       → (top ≡ best w (subtree ss (nodes_at first - 1)) (subtree ts (nodes_at second - 1)))
-      × ((r : ℕ) → r < 159 → value_at high' low' (weight_place r) ≡ value_at high low (weight_place r))
+      × ((r : ℕ) → r < 159 → slice_index area' (weight_place r) ≡ slice_index area (weight_place r))
 
 -- the greatest weight of the common labels, n of them, and their powers by rank
-pub record Weighed (s t : Tree) (K : List Label) (n top : ℕ) (high low : List ℕ) : Type 0 where
+pub record Weighed (s t : Tree) (K : List Label) (n top : ℕ) (area : List ℕ) : Type 0 where
   pub great : Greatest (telling leaf_limit (sorted K) (common s t)) s t top
-  pub powers : Powers n high low
+  pub powers : Powers n area

@@ -1,4 +1,4 @@
--- Cells of the table in two numbers, the value of a cell from other cells, and when rows are right.
+-- The value of a cell of the table from other cells, and when rows are right.
 -- Intermediate: nothing public rests on this text.
 use Rattle.std.specs.Prelude.{◌≡◌, ℕ, suc, ◌+◌, ◌*◌, ◌%◌, ◌<◌, ◌≤◌, min, max, Bool, cond, ◌⊎◌, List, length, ◌==◌, ◌≢◌, nat_le, nat_lt, slice_index}
 use Rattle.trees.specs.Label.{Label, same_label}
@@ -7,24 +7,13 @@ use Rattle.trees.specs.Postorder.{subtree, LaidNode}
 use Rattle.agreement.specs.Weights.{best}
 use Rattle.agreement.specs.Powers.{whole}
 use Rattle.table.specs.declared.fill.Children.{Children}
-use Rattle.table.specs.declared.fill.Weight.{Weight}
 
--- 2 to the 64th, to the 96th
-abbrev pub two64 : ℕ
-two64 = 18446744073709551616
-
-abbrev pub two96 : ℕ
-two96 = 79228162514264337593543950336
-
-abbrev pub value_of : Weight → ℕ
-value_of w = w.high * two64 + w.low
-
--- the weight at place i of the area
-abbrev pub value_at : List ℕ → List ℕ → ℕ → ℕ
-value_at high low i = slice_index high i * two64 + slice_index low i
+-- 2 to the 128th
+abbrev pub two128 : ℕ
+two128 = 340282366920938463463374607431768211456
 
 abbrev pub wrapped : ℕ → ℕ → ℕ
-wrapped a b = (a + b) % two96
+wrapped a b = (a + b) % two128
 
 -- the entry of node u in column k of a tree's columns: 0 left children, 1 right children, 2 ranks, 3 rows needed, 4 the first node
 -- below; in column 5 the entry of rank u is its leaf
@@ -73,8 +62,8 @@ unfoldable pub span_at : List ℕ → ℕ → ℕ → ℕ → ℕ
 span_at second weight at v = cond (nat_lt v at) 0 (cond (nat_le (column_at second 4 v) at) weight 0)
 
 -- nothing outside a row changed
-pub record Outside (row : ℕ) (high low high' low' : List ℕ) : Type 0 where
-  pub same : (i : ℕ) → (i < row * 159) ⊎ (row * 159 + 159 ≤ i) → value_at high' low' i ≡ value_at high low i
+pub record Outside (row : ℕ) (area area' : List ℕ) : Type 0 where
+  pub same : (i : ℕ) → (i < row * 159) ⊎ (row * 159 + 159 ≤ i) → slice_index area' i ≡ slice_index area i
 
 -- the leaf among the first n nodes that has rank r; 255 if there is none
 pub data LeafOf (columns : List ℕ) (n r at : ℕ) : Type 0 where
@@ -98,10 +87,10 @@ pub record Columns (columns : List ℕ) (nodes : ℕ) (ts : List Tree) : Type 0 
   pub spans : (v : ℕ) → v < nodes → (column_at columns 0 v ≢ v) → Spans columns v
 
 -- the first n cells of a row are right for subtree s
-pub record RowTo (n : ℕ) (ts : List Tree) (w : Label → ℕ) (s : Tree) (row : ℕ) (high low : List ℕ) : Type 0 where
-  pub right : (v : ℕ) → v < n → value_at high low (row * 159 + v) ≡ best w s (subtree ts v)
+pub record RowTo (n : ℕ) (ts : List Tree) (w : Label → ℕ) (s : Tree) (row : ℕ) (area : List ℕ) : Type 0 where
+  pub right : (v : ℕ) → v < n → slice_index area (row * 159 + v) ≡ best w s (subtree ts v)
 
--- no label weighs so much that a tree's labels together pass 96 bits
+-- no label weighs so much that a tree's labels together pass 128 bits
 abbrev pub Light : (Label → ℕ) → Type 0
 Light w = (x : Label) → w x ≤ 129 * whole
 
@@ -111,14 +100,14 @@ pub record RankIs (second : List ℕ) (nodes : ℕ) (ts : List Tree) (w : Label 
       → cond (column_at second 2 v == rank) weight 0 ≡ cond (same_label x y) (w x) 0
 
 -- both trees' columns, the weights of labels, and the area's row of weights
-pub record Filling (first second : List ℕ) (ss ts : List Tree) (w : Label → ℕ) (high low : List ℕ) : Type 0 where
+pub record Filling (first second : List ℕ) (ss ts : List Tree) (w : Label → ℕ) (area : List ℕ) : Type 0 where
   pub one : Columns first (nodes_at first) ss
   pub two : Columns second (nodes_at second) ts
   pub needs : (u : ℕ) → u < nodes_at first → column_at first 3 u ≡ need (subtree ss u)
   pub few : (u : ℕ) → u < nodes_at first → length (leaves (subtree ss u)) ≤ leaf_limit
   pub light : Light w
   pub ranks : (u : ℕ) → u < nodes_at first → (x : Label) → subtree ss u ≡ leaf x
-      → RankIs second (nodes_at second) ts w x (column_at first 2 u) (value_at high low (weight_place (column_at first 2 u)))
+      → RankIs second (nodes_at second) ts w x (column_at first 2 u) (slice_index area (weight_place (column_at first 2 u)))
 
 -- rows that a node's row leaves alone: all but its own, the other one, and those from `next` to the weights
 pub record Spared (row other next k : ℕ) : Type 0 where
@@ -127,9 +116,9 @@ pub record Spared (row other next k : ℕ) : Type 0 where
   pub before : (k < next) ⊎ (8 ≤ k)
 
 -- a node's row is right, and the rows that are spared are as they were
-pub record Filled (n : ℕ) (ts : List Tree) (w : Label → ℕ) (s : Tree) (row other next : ℕ) (high low high' low' : List ℕ) : Type 0 where
-  pub right : RowTo n ts w s row high' low'
-  pub kept : (k v : ℕ) → v < 159 → Spared row other next k → value_at high' low' (k * 159 + v) ≡ value_at high low (k * 159 + v)
+pub record Filled (n : ℕ) (ts : List Tree) (w : Label → ℕ) (s : Tree) (row other next : ℕ) (area area' : List ℕ) : Type 0 where
+  pub right : RowTo n ts w s row area'
+  pub kept : (k v : ℕ) → v < 159 → Spared row other next k → slice_index area' (k * 159 + v) ≡ slice_index area (k * 159 + v)
 
 -- rows that a call may use: two, and from `next` on as many as the node needs
 pub record Rows (s : Tree) (row other next : ℕ) : Type 0 where
@@ -137,11 +126,6 @@ pub record Rows (s : Tree) (row other next : ℕ) : Type 0 where
   pub other_low : other < next
   pub apart : row ≡ other → ⊥
   pub enough : next + need s ≤ 8
-
--- both areas keep their size
-pub record Sized (high low high' low' : List ℕ) : Type 0 where
-  pub high_size : length high ≡ 1431 → length high' ≡ 1431
-  pub low_size : length low ≡ 1431 → length low' ≡ 1431
 
 -- the children of node u, the one that needs more rows first
 abbrev pub needs_more : List ℕ → ℕ → Bool
@@ -153,28 +137,28 @@ pub record SplitAt (first : List ℕ) (u : ℕ) (c : Children) : Type 0 where
   pub fewer_is : c.fewer ≡ cond c.swapped (column_at first 0 u) (column_at first 1 u)
 
 -- the first n cells of the row of an inner node, made of the rows of its children
-pub record InnerRow (n : ℕ) (second : List ℕ) (left right row : ℕ) (high low high' low' : List ℕ) : Type 0 where
-  pub sized : Sized high low high' low'
-  pub outside : Outside row high low high' low'
-  pub right_row : (ts : List Tree) (w : Label → ℕ) (p q : Tree) → length high ≡ 1431 → length low ≡ 1431
+pub record InnerRow (n : ℕ) (second : List ℕ) (left right row : ℕ) (area area' : List ℕ) : Type 0 where
+  pub sized : length area ≡ 1431 → length area' ≡ 1431
+  pub outside : Outside row area area'
+  pub right_row : (ts : List Tree) (w : Label → ℕ) (p q : Tree) → length area ≡ 1431
       → Columns second (nodes_at second) ts → Light w → length (leaves (node p q)) ≤ leaf_limit → (left ≢ row) → (right ≢ row)
-      → RowTo (nodes_at second) ts w p left high low → RowTo (nodes_at second) ts w q right high low
-      → RowTo n ts w (node p q) row high' low'
+      → RowTo (nodes_at second) ts w p left area → RowTo (nodes_at second) ts w q right area
+      → RowTo n ts w (node p q) row area'
 
 -- the whole row, with the rows swapped or not
-abbrev pub Joined : List ℕ → Bool → ℕ → ℕ → ℕ → List ℕ → List ℕ → List ℕ → List ℕ → Type 0
-Joined second swapped row other next high low high' low' =
-    InnerRow (nodes_at second) second (cond swapped next other) (cond swapped other next) row high low high' low'
+abbrev pub Joined : List ℕ → Bool → ℕ → ℕ → ℕ → List ℕ → List ℕ → Type 0
+Joined second swapped row other next area area' =
+    InnerRow (nodes_at second) second (cond swapped next other) (cond swapped other next) row area area'
 
 -- the first n cells of the row of a leaf with this rank
-pub record SpanRow (n : ℕ) (second : List ℕ) (rank row : ℕ) (high low high' low' : List ℕ) : Type 0 where
-  pub sized : Sized high low high' low'
-  pub outside : Outside row high low high' low'
-  pub each : length high ≡ 1431 → length low ≡ 1431 → (v : ℕ) → v < n
-      → value_at high' low' (row * 159 + v) ≡ span_at second (value_at high low (weight_place rank)) (column_at second 5 rank) v
+pub record SpanRow (n : ℕ) (second : List ℕ) (rank row : ℕ) (area area' : List ℕ) : Type 0 where
+  pub sized : length area ≡ 1431 → length area' ≡ 1431
+  pub outside : Outside row area area'
+  pub each : length area ≡ 1431 → (v : ℕ) → v < n
+      → slice_index area' (row * 159 + v) ≡ span_at second (slice_index area (weight_place rank)) (column_at second 5 rank) v
 
 -- the row of a node
-pub record NodeRow (first second : List ℕ) (u row other next : ℕ) (high low high' low' : List ℕ) : Type 0 where
-  pub sized : Sized high low high' low'
-  pub filled : (ss ts : List Tree) (w : Label → ℕ) → length high ≡ 1431 → length low ≡ 1431 → Filling first second ss ts w high low
-      → Rows (subtree ss u) row other next → Filled (nodes_at second) ts w (subtree ss u) row other next high low high' low'
+pub record NodeRow (first second : List ℕ) (u row other next : ℕ) (area area' : List ℕ) : Type 0 where
+  pub sized : length area ≡ 1431 → length area' ≡ 1431
+  pub filled : (ss ts : List Tree) (w : Label → ℕ) → length area ≡ 1431 → Filling first second ss ts w area
+      → Rows (subtree ss u) row other next → Filled (nodes_at second) ts w (subtree ss u) row other next area area'

@@ -2,11 +2,11 @@
 // which their subtrees agree (001, Lemma 3.1). The row of a node of the first tree is needed until its parent's row
 // is made, so that a few rows are enough.
 //
-// A weight takes 94 bits, so a cell is two numbers. The area has eight rows of cells and, in a ninth, the weights of the common
-// labels by rank. The columns of a tree are one array (columns.rt). Nodes are numbered children first, and a leaf is its own left child. Arrays are lent: by value they would cost
-// more than the work.
-ghost use Rattle.std.specs.Prelude.{◌≡◌, ◌<◌, ◌≤◌, max};
-ghost use Rattle.table.specs.Table.{value_of, value_at, wrapped, column_at, inner_at, cell_at, span_at, Shape};
+// A weight takes 94 bits. The area has eight rows of cells and, in a ninth, the weights of the common labels by rank. The columns of a
+// tree are one array (columns.rt). Nodes are numbered children first, and a leaf is its own left child. Arrays are lent: by value they
+// would cost more than the work.
+ghost use Rattle.std.specs.Prelude.{◌≡◌, ◌<◌, ◌≤◌, slice_index};
+ghost use Rattle.table.specs.Table.{column_at, inner_at, cell_at, span_at, Shape};
 ghost use Rattle.table.specs.Table.{nodes_at, SplitAt, InnerRow, Joined, SpanRow, NodeRow};
 ghost use Rattle.table.specs.Solving.{Rooted, TopIs};
 
@@ -26,50 +26,6 @@ pub(crate) const NODES: usize = 6 * NODE_LIMIT;
 
 pub(crate) const COLUMNS: usize = NODES + 1;
 
-// A weight, high * 2^64 + low.
-#[derive(Clone, Copy)]
-pub(crate) struct Weight {
-    pub(crate) high: u32,
-    pub(crate) low: u64,
-}
-
-fn heavier(a: Weight, b: Weight) -> Weight
-    ensures { value_of result ≡ max (value_of a) (value_of b) }
-{
-    if a.high < b.high {
-        return b;
-    }
-    if b.high < a.high {
-        return a;
-    }
-    if a.low < b.low { b } else { a }
-}
-
-// The sum modulo 2^96; the weights of a tree's labels never pass that.
-fn joined(a: Weight, b: Weight) -> Weight
-    ensures { value_of result ≡ wrapped (value_of a) (value_of b) }
-{
-    let low = std::num::wrapping_add_u64(a.low, b.low);
-    let high = std::num::wrapping_add_u32(a.high, b.high);
-    if low < a.low {
-        return Weight {
-            high: std::num::wrapping_add_u32(high, 1),
-            low,
-        };
-    }
-    Weight { high, low }
-}
-
-pub(crate) fn cell(high: &[u32; AREA], low: &[u64; AREA], i: usize) -> Weight
-    requires { i < 1431 }
-    ensures { value_of result ≡ value_at high.now low.now i }
-{
-    Weight {
-        high: high[i],
-        low: low[i],
-    }
-}
-
 // The entry of node u in column k: 0 left children, 1 right children, 2 ranks, 3 rows needed, 4 the first node below. In column 5 the
 // entry of rank u is its leaf.
 pub(crate) fn column(columns: &[u8; COLUMNS], k: usize, u: usize) -> usize
@@ -80,117 +36,91 @@ pub(crate) fn column(columns: &[u8; COLUMNS], k: usize, u: usize) -> usize
     trees::wide(columns[i])
 }
 
-// The heavier of two cells.
-fn heavier_cell(high: &[u32; AREA], low: &[u64; AREA], i: usize, j: usize) -> Weight
-    requires { (i < 1431) × (j < 1431) }
-    ensures { value_of result ≡ max (value_at high.now low.now i) (value_at high.now low.now j) }
-{
-    heavier(cell(high, low, i), cell(high, low, j))
-}
-
-// The sum of two cells.
-fn joined_cells(high: &[u32; AREA], low: &[u64; AREA], i: usize, j: usize) -> Weight
-    requires { (i < 1431) × (j < 1431) }
-    ensures { value_of result ≡ wrapped (value_at high.now low.now i) (value_at high.now low.now j) }
-{
-    joined(cell(high, low, i), cell(high, low, j))
-}
-
 // Two inner nodes: below one child of either, or the children paired. The rows of the first node's children start at a and b, its
 // own at u; v has children c and d.
 fn inner_cell(
-    high: &[u32; AREA],
-    low: &[u64; AREA],
+    area: &[u128; AREA],
     a: usize,
     b: usize,
     u: usize,
     c: usize,
     d: usize,
     v: usize,
-) -> Weight
+) -> u128
     requires { (a ≤ 1272) × (b ≤ 1272) × (u ≤ 1272) × (c ≤ v) × (d ≤ v) × (v < 159) }
-    ensures { value_of result ≡ inner_at (value_at high.now low.now) a b u c d v }
+    ensures { result ≡ inner_at (slice_index area.now) a b u c d v }
 {
-    let first = heavier_cell(high, low, a + v, b + v);
-    let straight = joined_cells(high, low, a + c, b + d);
-    let crossed = joined_cells(high, low, a + d, b + c);
+    let first = area[a + v].max(area[b + v]);
+    let straight = area[a + c].wrapping_add(area[b + d]);
+    let crossed = area[a + d].wrapping_add(area[b + c]);
     // what hangs on the cells before comes last, so that the rest need not wait for it
-    let second = heavier_cell(high, low, u + c, u + d);
-    heavier(heavier(first, heavier(straight, crossed)), second)
+    let second = area[u + c].max(area[u + d]);
+    first.max(straight.max(crossed)).max(second)
 }
 
 // The cell of an inner node, whose row starts at u and its children's at a and b, and node v.
 fn pair_cell(
     second: &[u8; COLUMNS],
-    high: &[u32; AREA],
-    low: &[u64; AREA],
+    area: &[u128; AREA],
     a: usize,
     b: usize,
     u: usize,
     v: usize,
-) -> Weight
+) -> u128
     requires a_bound { (a ≤ 1272) × (b ≤ 1272) × (u ≤ 1272) × (v < 159) }
     requires v_bound { (column_at second.now 0 v ≤ v) × (column_at second.now 1 v ≤ v) }
-    ensures { value_of result ≡ cell_at (value_at high.now low.now) second.now a b u v }
+    ensures { result ≡ cell_at (slice_index area.now) second.now a b u v }
 {
     let c = column(second, 0, v);
     if c == v {
-        return heavier_cell(high, low, a + v, b + v);
+        return area[a + v].max(area[b + v]);
     }
     let d = column(second, 1, v);
-    inner_cell(high, low, a, b, u, c, d, v)
+    inner_cell(area, a, b, u, c, d, v)
 }
 
 // The cell of leaf `at` of the second tree and a node v from it on: the leaf's weight if it is below v.
-fn span_cell(second: &[u8; COLUMNS], weight: Weight, at: usize, v: usize) -> Weight
+fn span_cell(second: &[u8; COLUMNS], weight: u128, at: usize, v: usize) -> u128
     requires { (v < 159) × (at ≤ v) }
-    ensures { value_of result ≡ span_at second.now (value_of weight) at v }
+    ensures { result ≡ span_at second.now weight at v }
 {
     if column(second, 4, v) <= at {
         return weight;
     }
-    Weight { high: 0, low: 0 }
+    0
 }
 
 // The row of leaf u. It is 0 but for the nodes above the leaf with the same rank, which come after that leaf.
 fn fill_leaf(
     first: &[u8; COLUMNS],
     second: &[u8; COLUMNS],
-    high: &mut [u32; AREA],
-    low: &mut [u64; AREA],
+    area: &mut [u128; AREA],
     u: usize,
     row: usize,
 )
     requires second_bound { nodes_at second.now ≤ 159 }
     requires u_bound { (u < 159) × (column_at first.now 2 u ≤ 80) × (row < 8) }
     ensures { SpanRow (nodes_at second.now) second.now (column_at first.now 2 u) row
-        high.old low.old high.new low.new }
+        area.old area.new }
 {
     let rank = column(first, 2, u);
-    let weight = cell(high, low, WEIGHTS + rank);
+    let weight = area[WEIGHTS + rank];
     let at = column(second, 5, rank);
     let nodes = trees::wide(second[NODES]);
     let clear = trees::least(at, nodes);
     let start = row * ROW;
-    let mut v: usize = 0;
-    while v < clear {
-        high[start + v] = 0;
-        low[start + v] = 0;
-        v += 1;
+    for v in 0..clear {
+        area[start + v] = 0;
     }
-    while v < nodes {
-        let value = span_cell(second, weight, at, v);
-        high[start + v] = value.high;
-        low[start + v] = value.low;
-        v += 1;
+    for v in clear..nodes {
+        area[start + v] = span_cell(second, weight, at, v);
     }
 }
 
 // The row of an inner node from the rows of its children.
 fn fill_inner(
     second: &[u8; COLUMNS],
-    high: &mut [u32; AREA],
-    low: &mut [u64; AREA],
+    area: &mut [u128; AREA],
     left: usize,
     right: usize,
     row: usize,
@@ -198,18 +128,14 @@ fn fill_inner(
     requires shape { Shape second.now (nodes_at second.now) }
     requires left_bound { (left < 8) × (right < 8) × (row < 8) }
     ensures { InnerRow (nodes_at second.now) second.now left right row
-        high.old low.old high.new low.new }
+        area.old area.new }
 {
     let nodes = trees::wide(second[NODES]);
     let a = left * ROW;
     let b = right * ROW;
     let u = row * ROW;
-    let mut v: usize = 0;
-    while v < nodes {
-        let value = pair_cell(second, high, low, a, b, u, v);
-        high[u + v] = value.high;
-        low[u + v] = value.low;
-        v += 1;
+    for v in 0..nodes {
+        area[u + v] = pair_cell(second, area, a, b, u, v);
     }
 }
 
@@ -245,8 +171,7 @@ fn children_of(first: &[u8; COLUMNS], u: usize) -> Children
 // The row of an inner node from row `other`, of the child that needed more rows, and row `next`, of the second one.
 fn join_rows(
     second: &[u8; COLUMNS],
-    high: &mut [u32; AREA],
-    low: &mut [u64; AREA],
+    area: &mut [u128; AREA],
     swapped: bool,
     row: usize,
     other: usize,
@@ -254,12 +179,12 @@ fn join_rows(
 )
     requires shape { Shape second.now (nodes_at second.now) }
     requires row_bound { (row < 8) × (other < 8) × (next < 8) }
-    ensures { Joined second.now swapped row other next high.old low.old high.new low.new }
+    ensures { Joined second.now swapped row other next area.old area.new }
 {
     if swapped {
-        fill_inner(second, high, low, next, other, row);
+        fill_inner(second, area, next, other, row);
     } else {
-        fill_inner(second, high, low, other, next, row);
+        fill_inner(second, area, other, next, row);
     }
 }
 
@@ -268,8 +193,7 @@ fn join_rows(
 fn fill_node(
     first: &[u8; COLUMNS],
     second: &[u8; COLUMNS],
-    high: &mut [u32; AREA],
-    low: &mut [u64; AREA],
+    area: &mut [u128; AREA],
     u: usize,
     row: usize,
     other: usize,
@@ -278,43 +202,33 @@ fn fill_node(
     requires shape { Shape first.now (nodes_at first.now) × Shape second.now (nodes_at second.now) }
     requires u_bound { (u < nodes_at first.now) × (row < 8) × (other < 8) }
     ensures { NodeRow first.now second.now u row other next
-        high.old low.old high.new low.new }
+        area.old area.new }
 {
     if column(first, 0, u) == u {
-        fill_leaf(first, second, high, low, u, row);
+        fill_leaf(first, second, area, u, row);
         return;
     }
     if ROWS <= next {
         return;
     }
     let children = children_of(first, u);
-    fill_node(first, second, high, low, children.more, other, row, next);
-    fill_node(
-        first,
-        second,
-        high,
-        low,
-        children.fewer,
-        next,
-        row,
-        next + 1,
-    );
-    join_rows(second, high, low, children.swapped, row, other, next);
+    fill_node(first, second, area, children.more, other, row, next);
+    fill_node(first, second, area, children.fewer, next, row, next + 1);
+    join_rows(second, area, children.swapped, row, other, next);
 }
 
 // The greatest weight of a set on which the trees agree.
 pub(crate) fn root_weight(
     first: &[u8; COLUMNS],
     second: &[u8; COLUMNS],
-    high: &mut [u32; AREA],
-    low: &mut [u64; AREA],
-) -> Weight
+    area: &mut [u128; AREA],
+) -> u128
     requires { Rooted first.now × Rooted second.now }
-    ensures { TopIs first.now second.now (value_of result)
-        high.old low.old high.new low.new }
+    ensures { TopIs first.now second.now result
+        area.old area.new }
 {
     let u = trees::wide(first[NODES]) - 1;
     let v = trees::wide(second[NODES]) - 1;
-    fill_node(first, second, high, low, u, 0, 1, 2);
-    cell(high, low, v)
+    fill_node(first, second, area, u, 0, 1, 2);
+    area[v]
 }

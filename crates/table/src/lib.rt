@@ -9,10 +9,9 @@ ghost use Rattle.trees.specs.Label.{Label};
 ghost use Rattle.trees.specs.Tree.{Tree};
 ghost use Rattle.table.specs.Choice.{Posed, Solved};
 ghost use Rattle.table.specs.Solving.{Weighed};
-ghost use Rattle.table.specs.Table.{value_of};
 
 use crate::columns::columns_of;
-use crate::fill::{AREA, Weight, root_weight};
+use crate::fill::{AREA, root_weight};
 use crate::weights::{held, labels, put_weights, read_set};
 use trees::{LEAF_LIMIT, NODE_LIMIT, TreeArrays};
 
@@ -31,19 +30,17 @@ fn weigh(
     rank2: &[u8; NODE_LIMIT],
     n: usize,
     number: &[u8; RANKS],
-    high: &mut [u32; AREA],
-    low: &mut [u64; AREA],
-) -> Weight
+    area: &mut [u128; AREA],
+) -> u128
     requires { n ≤ 80 }
     ensures { (s t : Tree) (K : List Label) (m count : ℕ)
         → Posed s t K tree1 tree2 rank1.now rank2.now m number.now count → n ≡ min m 80
-        → high.old ≡ replicate 1431 0 → low.old ≡ replicate 1431 0
-        → Weighed s t K n (value_of result) high.new low.new }
+        → area.old ≡ replicate 1431 0 → Weighed s t K n result area.new }
 {
     let first = columns_of(tree1, rank1);
     let second = columns_of(tree2, rank2);
-    put_weights(number, n, high, low);
-    root_weight(&first, &second, high, low)
+    put_weights(number, n, area);
+    root_weight(&first, &second, area)
 }
 
 // How many labels are chosen: the answer, by rank among the m common ones. `None` if three of the `count` required ones clash; then
@@ -67,14 +64,11 @@ pub fn largest_set(
     ensures left_alone { result ≡ None → chosen.new ≡ chosen.old }
 {
     let common = trees::least(m, LEAF_LIMIT);
-    let mut high = [0u32; AREA];
-    let mut low = [0u64; AREA];
-    let top = weigh(
-        tree1, tree2, rank1, rank2, common, number, &mut high, &mut low,
-    );
+    let mut area = [0u128; AREA];
+    let top = weigh(tree1, tree2, rank1, rank2, common, number, &mut area);
     if held(top) != count {
         return None;
     }
-    read_set(&high, &low, top, common, chosen);
+    read_set(&area, top, common, chosen);
     Some(labels(top))
 }

@@ -6,8 +6,5 @@ use Rattle.table.proofs.fill.fill_inner.Goals as goal
 
 pub loop-v-preserved : goal.loop-v-preserved
 loop-v-preserved c =
-    let h : c.loop-v.v < nodes_at c.args.second.now = omega (arith, c.loop-v-test.true, c.wide-nodes.ensures) in (
-      omega (arith, h),
-      inner_row_next _ _ c.loop-v.v _ _ _ _ c.loop-v.high c.loop-v.low c.requires.shape c.requires.left_bound.2 h _ _ c.pair_cell-value.ensures
-          c.loop-v.invariant.1,
-    )
+    let h : c.loop-v.v < nodes_at c.args.second.now = omega arith in
+    inner_row_next _ _ c.loop-v.v _ _ c.loop-v.area c.requires.shape c.requires.left_bound.2 h _ _ c.pair_cell.ensures c.loop-v.invariant

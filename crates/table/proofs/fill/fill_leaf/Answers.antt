@@ -6,8 +6,5 @@ use Rattle.table.proofs.fill.fill_leaf.Goals as goal
 
 pub loop-v-preserved : goal.loop-v-preserved
 loop-v-preserved c =
-    let h : c.loop-v.v < column_at c.args.second.now 5 c.column-rank.result = omega (arith, c.loop-v-test.true, c.least-clear.ensures, c.column-at.ensures) in (
-      omega (arith, c.loop-v-test.true),
-      span_row_next _ _ c.loop-v.v 0 0 _ _ c.loop-v.high c.loop-v.low c.requires.u_bound.2 (omega (arith, c.loop-v-test.true, c.least-clear.ensures, c.wide-nodes.ensures, c.requires.second_bound)) _
-          (sym (span_before _ _ _ _ h)) c.loop-v.invariant.1,
-    )
+    let h : c.loop-v.v < column_at c.args.second.now 5 c.column-rank.result = omega arith in
+    span_row_next _ _ c.loop-v.v 0 _ c.loop-v.area c.requires.u_bound.2 (omega arith) _ (sym (span_before _ _ _ _ h)) c.loop-v.invariant

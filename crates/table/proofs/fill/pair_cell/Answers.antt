@@ -6,7 +6,7 @@ use Rattle.table.proofs.fill.pair_cell.Goals as goal
 pub returns-then-c-v : goal.returns-then-c-v
 unfolding cell_at
 returns-then-c-v c =
-    rw (eq-eqb _ _ (sym c.column-c.ensures ∙ c.if-c-v.true)) c.heavier_cell.ensures
+    rw (eq-eqb _ _ (sym c.column-c.ensures ∙ c.if-c-v.true)) c.max.ensures
 
 pub returns : goal.returns
 unfolding cell_at
