@@ -6,6 +6,7 @@ use mathlib.Core.List.{List, [], ◌∷◌, ◌++◌, map, map-append}
 use native.Mathlib.Omega.{arith}
 use lib.ListN.{length, take, drop, length-map, take-append-drop}
 use lib.Seq.{take_at, drop_at}
+use Rattle.std.specs.Prelude.{Ok}
 use Rattle.trees.specs.declared.Edition.{Edition}
 use Rattle.trees.specs.declared.Edition.TheVariants.{One}
 use Rattle.trees.specs.declared.Reason.{Reason}
@@ -18,7 +19,6 @@ use Rattle.trees.specs.Reading.{Reading, good, refused}
 use Rattle.trees.specs.Faults.{Fault}
 use Rattle.trees.proofs.FoldLaws.{map_twice, take_map, drop_map, fold_fixed, fold_size, one_byte, key_decoded, goods_fold, distinct_unmap, one_itself}
 use Rattle.trees.proofs.StandsLaws.{ReadView, read_as, turned_as, stands_good, stands_refused, stands_alike, view_is, view_folded, view_refused, view_told}
-use Rattle.lists.specs.declared.ListAnswer.TheVariants.{Labels}
 use Rattle.lists.specs.declared.LabelPlaces.{LabelPlaces}
 use Rattle.lists.specs.declared.ListRead.{ListRead}
 use Rattle.lists.specs.ReadList.{read_list, read_list_in, list_read, joined, starts_of, sizes_of, places_of, IsList, folded_list, keys_of}
@@ -150,7 +150,7 @@ module _ (e : Edition) where
     where
       same : (xs : List Token) → list_read body (good (folded_list e xs)) ≡ list_read body (good xs)
       same xs =
-          ap₂ {C = ListRead} (λ (n : ℕ) (p : LabelPlaces). record { answer = Labels n; places = p }) (length-map xs (in_edition e)) (places_folded xs)
+          ap₂ {C = ListRead} (λ (n : ℕ) (p : LabelPlaces). record { answer = Ok n; places = p }) (length-map xs (in_edition e)) (places_folded xs)
 
   pub list_refusal_in : (text : List ℕ) (r : Reason) (i : ℕ) → read_list_in e text ≡ refused r i → ListFault (in_edition e text) r i
   list_refusal_in text r i h = list_refusal_lem (in_edition e text) r i (list_folded_refused text r i h)

@@ -10,6 +10,7 @@ use mathlib.Core.List.{List, [], ◌∷◌, ◌++◌, map, append_assoc}
 use lib.Dec.{eqb, ltb}
 use lib.ListN.{length, set, replicate, length-append}
 use borrow.Author.Tests.{eqb-true, eqb-false, ne_eqb, lt-ltb, ltb-true, ltb-false}
+use Rattle.std.specs.Prelude.{Ok}
 use Rattle.trees.specs.declared.Kind.{Kind}
 use Rattle.trees.specs.declared.Kind.TheVariants.{Label as LabelByte, Open, Close, Comma, Semicolon, Quote, Blank, Other}
 use Rattle.trees.specs.declared.Reason.{Reason}
@@ -31,7 +32,6 @@ use Rattle.lists.specs.declared.Stage.{Stage}
 use Rattle.lists.specs.declared.Stage.TheVariants.{Start, Due, Bare, Quoted, Closed}
 use Rattle.lists.specs.declared.Move.{Move}
 use Rattle.lists.specs.declared.Move.TheVariants.{Next, Stop}
-use Rattle.lists.specs.declared.ListAnswer.TheVariants.{Labels}
 use Rattle.lists.specs.declared.ListRead.{ListRead}
 use Rattle.lists.specs.ReadList.{label_due, in_bare, in_quotes, after_quote, next, stop, begins, goes_on, step_due, step_after}
 use Rattle.lists.specs.ReadList.{step_bare, step_quotes, step, end_of, read_from, read_list, list_limit, list_read, padded, places_of}
@@ -179,7 +179,7 @@ module _ (text : List ℕ) (body : Body) where
   closed_end seen tok first at w e = refl
 
   end_told : (seen : List Token) (x : Token) (at : ℕ) → length seen + 1 ≡ length (seen ++ (x ∷ []))
-      → answer_of (Labels (length seen + 1)) (starting (seen ++ (x ∷ []))) (sizing (seen ++ (x ∷ [])))
+      → answer_of (Ok (length seen + 1)) (starting (seen ++ (x ∷ []))) (sizing (seen ++ (x ∷ [])))
       ≡ list_read body (read_from (in_bare x) seen at [])
   unfolding answer_of read_from end_of list_read places_of starting sizing
   end_told seen x at e = rw e refl

@@ -7,11 +7,13 @@ use mathlib.Core.List.{List, [], ◌∷◌}
 use lib.Dec.{eqb, ltb}
 use lib.ListN.{set}
 use borrow.Author.Tests.{ltb-true}
+use Rattle.std.specs.Prelude.{Result, Ok, Err}
 use Rattle.trees.specs.declared.Kind.{Kind}
 use Rattle.trees.specs.declared.Kind.TheVariants.{Label as LabelByte, Open, Close, Comma, Semicolon, Quote, Blank, Other}
 use Rattle.trees.specs.declared.Reason.{Reason}
 use Rattle.trees.specs.declared.Reason.TheVariants.{BadByte, LabelTooLong, TooMany, Repeated}
 use Rattle.trees.specs.declared.Body.{Body}
+use Rattle.trees.specs.declared.Refusal.{Refusal}
 use Rattle.trees.specs.Bytes.{kind_of}
 use Rattle.trees.specs.Label.{label_limit}
 use Rattle.trees.specs.Reading.{refused}
@@ -19,8 +21,6 @@ use Rattle.lists.specs.declared.Stage.{Stage}
 use Rattle.lists.specs.declared.Stage.TheVariants.{Start, Due, Bare, Quoted, Closed}
 use Rattle.lists.specs.declared.Move.{Move}
 use Rattle.lists.specs.declared.Move.TheVariants.{Next, Stop}
-use Rattle.lists.specs.declared.ListAnswer.{ListAnswer}
-use Rattle.lists.specs.declared.ListAnswer.TheVariants.{Labels, Refused}
 use Rattle.lists.specs.declared.ListRead.{ListRead}
 use Rattle.lists.specs.ReadList.{list_limit, list_read}
 use Rattle.lists.specs.ListMachine.{After, after, ended, token_room, Room, repeat_of, begin_of, due_of, close_of, more_of, bare_of, quote_of, quoted_of}
@@ -45,13 +45,13 @@ module _
   close_new following h = rw (kept.1.0, kept.1.1, ← kept.0, h) refl
 
   pub end_repeat : (body : Body) (at : ℕ) → b ≡ true
-      → ended (Refused (record { reason = Repeated; body = body; place = first })) start' size'
+      → ended (Err (record { reason = Repeated; body = body; place = first })) start' size'
       ≡ end_at text body (Bare first len count) at start size
   unfolding end_at
   end_repeat body at h = rw (kept.1.0, kept.1.1, ← kept.0, h) refl
 
   pub end_new : (body : Body) (at : ℕ) → b ≡ false
-      → ended (Labels (count + 1)) start' size' ≡ end_at text body (Bare first len count) at start size
+      → ended (Ok (count + 1)) start' size' ≡ end_at text body (Bare first len count) at start size
   unfolding end_at
   end_new body at h = rw (kept.1.0, kept.1.1, ← kept.0, h) refl
 
@@ -174,12 +174,12 @@ module _ (text : List ℕ) (body : Body) (stage : Stage) (start size : List ℕ)
     unfolding run_from branch
     run_stop r place start' size' e = sym (ap branch e)
 
-  pub run_end : (a : ListAnswer) (start' size' : List ℕ) → ended a start' size' ≡ end_at text body stage at start size
+  pub run_end : (a : Result ℕ Refusal) (start' size' : List ℕ) → ended a start' size' ≡ end_at text body stage at start size
       → run_from text body stage start size at [] ≡ answer_of a start' size'
   unfolding run_from
   run_end a start' size' e = rw (← e) refl
 
 pub answer_refused : (body : Body) (r : Reason) (place : ℕ) (start size : List ℕ)
-    → answer_of (Refused (record { reason = r; body = body; place = place })) start size ≡ list_read body (refused r place)
+    → answer_of (Err (record { reason = r; body = body; place = place })) start size ≡ list_read body (refused r place)
 unfolding answer_of list_read
 answer_refused body r place start size = refl

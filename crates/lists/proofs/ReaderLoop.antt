@@ -7,16 +7,16 @@ use mathlib.Core.Path.{◌≡◌, ap, sym, ◌∙◌}
 use mathlib.Core.List.{List}
 use lib.ListN.{length, get_or, drop, replicate, drop_of_length-le}
 use lib.Seq.{drop-cons}
+use Rattle.std.specs.Prelude.{Result, Err}
 use Rattle.trees.specs.declared.Kind.{Kind}
 use Rattle.trees.specs.declared.Reason.{Reason}
 use Rattle.trees.specs.declared.Body.{Body}
+use Rattle.trees.specs.declared.Refusal.{Refusal}
 use Rattle.trees.specs.Bytes.{kind_of}
 use Rattle.lists.specs.declared.Stage.{Stage}
 use Rattle.lists.specs.declared.Stage.TheVariants.{Start}
 use Rattle.lists.specs.declared.Move.{Move}
 use Rattle.lists.specs.declared.Move.TheVariants.{Next, Stop}
-use Rattle.lists.specs.declared.ListAnswer.{ListAnswer}
-use Rattle.lists.specs.declared.ListAnswer.TheVariants.{Refused}
 use Rattle.lists.specs.ReadList.{list_limit, list_read, read_list}
 use Rattle.lists.specs.ListMachine.{Room, after, answer_of, end_at, ended, run_from, step_of}
 use Rattle.lists.proofs.MachineLaws.{answer_refused, room_next, run_end, run_next, run_stop}
@@ -50,7 +50,7 @@ module _
           }
 
       pub running_stop : (q : Reason) (place : ℕ) (s z : List ℕ) → o ≡ Stop q place
-          → answer_of (Refused (record { reason = q; body = body; place = place })) s z ≡ list_read body (read_list text)
+          → answer_of (Err (record { reason = q; body = body; place = place })) s z ≡ list_read body (read_list text)
       running_stop q place s z e =
           let same : after (Stop q place) start' size' ≡ step_of text k i stage start size = rw e at stepped in
           answer_refused body q place s z
@@ -63,7 +63,7 @@ module _
         let last : i ≡ length text = omega arith in
         rw last at r.room
 
-    pub running_end : (a : ListAnswer) (start' size' : List ℕ) → length text ≤ i
+    pub running_end : (a : Result ℕ Refusal) (start' size' : List ℕ) → length text ≤ i
         → ended a start' size' ≡ end_at text body stage (length text) start size
         → answer_of a start' size' ≡ list_read body (read_list text)
     running_end a start' size' h e =

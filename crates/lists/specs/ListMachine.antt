@@ -1,10 +1,11 @@
 -- Intermediate: nothing public rests on this text. The list reader as its loop goes: stages, places in arrays, a repeat found at a label's
 -- end. proofs/ListSimulation.antt relates it to `read_list`.
-use Rattle.std.specs.Prelude.{ℕ, ◌+◌, ◌*◌, ◌≤◌, ◌<◌, Bool, cond, List, [], ◌∷◌, eqb, ltb, set}
+use Rattle.std.specs.Prelude.{ℕ, ◌+◌, ◌*◌, ◌≤◌, ◌<◌, Bool, cond, List, [], ◌∷◌, eqb, ltb, set, Result, Ok, Err}
 use Rattle.trees.specs.declared.Kind.{Kind}
 use Rattle.trees.specs.declared.Kind.TheVariants.{Label as LabelByte, Open, Close, Comma, Semicolon, Quote, Blank, Other}
 use Rattle.trees.specs.declared.Reason.TheVariants.{BadByte, EndsTooSoon, LabelTooLong, TooMany, Repeated}
 use Rattle.trees.specs.declared.Body.{Body}
+use Rattle.trees.specs.declared.Refusal.{Refusal}
 use Rattle.trees.specs.Bytes.{kind_of}
 use Rattle.trees.specs.Label.{label_limit}
 use Rattle.trees.specs.Token.{token_limit}
@@ -14,8 +15,6 @@ use Rattle.lists.specs.declared.Stage.{Stage}
 use Rattle.lists.specs.declared.Stage.TheVariants.{Start, Due, Bare, Quoted, Closed}
 use Rattle.lists.specs.declared.Move.{Move}
 use Rattle.lists.specs.declared.Move.TheVariants.{Next, Stop}
-use Rattle.lists.specs.declared.ListAnswer.{ListAnswer}
-use Rattle.lists.specs.declared.ListAnswer.TheVariants.{Labels, Refused}
 use Rattle.lists.specs.declared.ListRead.{ListRead}
 use Rattle.lists.specs.ReadList.{list_limit, list_read, places_of}
 
@@ -30,11 +29,11 @@ after o start size = record { outcome = o; start = start; size = size }
 
 -- the end's answer with the arrays after it
 pub record AtEnd : Type 0 where
-  pub answer : ListAnswer
+  pub answer : Result ℕ Refusal
   pub start : List ℕ
   pub size : List ℕ
 
-abbrev pub ended : ListAnswer → List ℕ → List ℕ → AtEnd
+abbrev pub ended : Result ℕ Refusal → List ℕ → List ℕ → AtEnd
 ended a start size = record { answer = a; start = start; size = size }
 
 -- the most bytes of a token and the comma after it
@@ -136,25 +135,25 @@ step_of text k at (Closed count) start size = after (closed_of k at count) start
 -- the text ends at place `at`
 unfoldable pub end_at : List ℕ → Body → Stage → ℕ → List ℕ → List ℕ → AtEnd
 unfolding repeat_of
-end_at text body Start at start size = ended (Labels 0) start size
+end_at text body Start at start size = ended (Ok 0) start size
 end_at text body (Due count) at start size =
-    ended (Refused (record { reason = EndsTooSoon; body = body; place = at })) start size
+    ended (Err (record { reason = EndsTooSoon; body = body; place = at })) start size
 end_at text body (Bare first len count) at start size =
     ended
-    (cond (repeat_of text start size count first len) (Refused (record { reason = Repeated; body = body; place = first }))
-    (Labels (count + 1)))
+    (cond (repeat_of text start size count first len) (Err (record { reason = Repeated; body = body; place = first }))
+    (Ok (count + 1)))
     (set start count first)
     (set size count len)
 end_at text body (Quoted first len count) at start size =
-    ended (Refused (record { reason = EndsTooSoon; body = body; place = at })) start size
-end_at text body (Closed count) at start size = ended (Labels count) start size
+    ended (Err (record { reason = EndsTooSoon; body = body; place = at })) start size
+end_at text body (Closed count) at start size = ended (Ok count) start size
 
 -- the answer with the places; a refusal has none
-unfoldable pub answer_of : ListAnswer → List ℕ → List ℕ → ListRead
+unfoldable pub answer_of : Result ℕ Refusal → List ℕ → List ℕ → ListRead
 unfolding places_of
-answer_of (Labels count) start size =
-    record { answer = Labels count; places = record { count = count; start = start; size = size } }
-answer_of (Refused r) start size = record { answer = Refused r; places = places_of [] }
+answer_of (Ok count) start size =
+    record { answer = Ok count; places = record { count = count; start = start; size = size } }
+answer_of (Err r) start size = record { answer = Err r; places = places_of [] }
 
 -- the bytes from place `at` on
 unfoldable pub run_from : List ℕ → Body → Stage → List ℕ → List ℕ → ℕ → List ℕ → ListRead

@@ -1,7 +1,7 @@
 -- Reading a list of labels from left to right: "The required list is empty, or labels joined by `,` with nothing else, at most 80, all
 -- different." 01, "Tree text" and rows 1 to 5 of "Why a job is turned down"; C-12. The labels that are returned are tokens; they are
 -- compared as decoded.
-use Rattle.std.specs.Prelude.{ℕ, ◌+◌, ◌≤◌, ◌≡◌, Bool, true, cond, List, [], ◌∷◌, ◌++◌, map, eqb, length}
+use Rattle.std.specs.Prelude.{ℕ, ◌+◌, ◌≤◌, ◌≡◌, Bool, true, cond, List, [], ◌∷◌, ◌++◌, map, eqb, length, Ok, Err}
 use Rattle.trees.specs.declared.Kind.{Kind}
 use Rattle.trees.specs.declared.Kind.TheVariants.{Label as LabelByte, Open, Close, Comma, Semicolon, Quote, Blank, Other}
 use Rattle.trees.specs.declared.Reason.{Reason}
@@ -14,7 +14,6 @@ use Rattle.trees.specs.Token.{Token, spelling, quoted_token, good_labels}
 use Rattle.trees.specs.Arrays.{padded_to}
 use Rattle.trees.specs.Edition.{in_edition}
 use Rattle.trees.specs.Reading.{Reading, good, refused, as_stands, repeats}
-use Rattle.lists.specs.declared.ListAnswer.TheVariants.{Labels, Refused}
 use Rattle.lists.specs.declared.LabelPlaces.{LabelPlaces}
 use Rattle.lists.specs.declared.ListRead.{ListRead}
 
@@ -164,6 +163,6 @@ places_of xs = record { count = length xs; start = padded (starts_of xs 0); size
 -- the answer of the list reader for the given body
 unfoldable pub list_read : Body → Reading (List Token) → ListRead
 unfolding places_of
-list_read body (good xs) = record { answer = Labels (length xs); places = places_of xs }
+list_read body (good xs) = record { answer = Ok (length xs); places = places_of xs }
 list_read body (refused r at) =
-    record { answer = Refused (record { reason = r; body = body; place = at }); places = places_of [] }
+    record { answer = Err (record { reason = r; body = body; place = at }); places = places_of [] }

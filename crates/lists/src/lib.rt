@@ -9,7 +9,6 @@ ghost use Rattle.trees.specs.Edition.{in_edition};
 ghost use Rattle.trees.specs.Slots.{SlotMarks};
 ghost use Rattle.trees.specs.declared.Reason.TheVariants.{EndsTooSoon};
 ghost use Rattle.lists.specs.declared.Stage.TheVariants.{Quoted};
-ghost use Rattle.lists.specs.declared.ListAnswer.TheVariants.{Refused};
 ghost use Rattle.lists.specs.ListMachine.{Fits, Room, after, answer_of, bare_of, begin_of, close_of, closed_of, due_of, end_at, ended};
 ghost use Rattle.lists.specs.ListMachine.{more_of, quote_of, quoted_of, repeat_of, step_of};
 
@@ -17,13 +16,6 @@ use trees::{Body, Edition, Kind, LABEL_LIMIT, Reason, Refusal, SLOTS};
 
 // The most labels of a list.
 pub const LIST_LIMIT: usize = 80;
-
-// How many labels were read, or why the text was turned down.
-#[derive(Clone, Copy)]
-pub enum ListAnswer {
-    Labels(usize),
-    Refused(Refusal),
-}
 
 // Where the labels of a list stand in its text, in list order. Entries are as narrow as a list's limits allow: places are passed by value.
 #[derive(Clone, Copy)]
@@ -33,10 +25,10 @@ pub struct LabelPlaces {
     pub size: [u8; LIST_LIMIT],
 }
 
-// The answer with the places beside it; those of a refusal hold no label.
+// How many labels were read, or why the text was turned down, with the places beside it; those of a refusal hold no label.
 #[derive(Clone, Copy)]
 pub struct ListRead {
-    pub answer: ListAnswer,
+    pub answer: Result<usize, Refusal>,
     pub places: LabelPlaces,
 }
 
@@ -346,10 +338,10 @@ fn step(
 }
 
 // The text ends too soon.
-fn too_soon(text: &[u8], body: Body) -> ListAnswer
-    ensures { result ≡ Refused (record { reason = EndsTooSoon; body = body; place = length text.now }) }
+fn too_soon(text: &[u8], body: Body) -> Result<usize, Refusal>
+    ensures { result ≡ Err (record { reason = EndsTooSoon; body = body; place = length text.now }) }
 {
-    ListAnswer::Refused(Refusal {
+    Err(Refusal {
         reason: Reason::EndsTooSoon,
         body,
         place: text.len(),
@@ -365,44 +357,48 @@ fn at_end(
     start: &mut [u16; LIST_LIMIT],
     size: &mut [u8; LIST_LIMIT],
     seen: &mut [u8; SLOTS],
-) -> ListAnswer
+) -> Result<usize, Refusal>
     requires room { Room stage (length text.now) }
     requires slot_marks { SlotMarks list_limit (in_edition edition text.now) start.old size.old seen.old }
     ensures { ended result start.new size.new
         ≡ end_at (in_edition edition text.now) body stage (length text.now) start.old size.old }
 {
     match stage {
-        Stage::Start => ListAnswer::Labels(0),
+        Stage::Start => Ok(0),
         Stage::Due { count: _ } => too_soon(text, body),
         Stage::Bare { first, len, count } => {
             if keep(edition, text, first, len, count, start, size, seen) {
-                return ListAnswer::Refused(Refusal {
+                return Err(Refusal {
                     reason: Reason::Repeated,
                     body,
                     place: first,
                 });
             }
-            ListAnswer::Labels(count + 1)
+            Ok(count + 1)
         }
         Stage::Quoted {
             first: _,
             len: _,
             count: _,
         } => too_soon(text, body),
-        Stage::Closed { count } => ListAnswer::Labels(count),
+        Stage::Closed { count } => Ok(count),
     }
 }
 
 // The answer with the places of its labels.
-fn told(answer: ListAnswer, start: [u16; LIST_LIMIT], size: [u8; LIST_LIMIT]) -> ListRead
+fn told(
+    answer: Result<usize, Refusal>,
+    start: [u16; LIST_LIMIT],
+    size: [u8; LIST_LIMIT],
+) -> ListRead
     ensures { result ≡ answer_of answer start size }
 {
     match answer {
-        ListAnswer::Labels(count) => ListRead {
+        Ok(count) => ListRead {
             answer,
             places: LabelPlaces { count, start, size },
         },
-        ListAnswer::Refused(_) => ListRead {
+        Err(_) => ListRead {
             answer,
             places: LabelPlaces {
                 count: 0,
@@ -433,7 +429,7 @@ pub fn read_list(edition: Edition, text: &[u8], body: Body) -> ListRead
             }
             Move::Stop(reason, place) => {
                 return told(
-                    ListAnswer::Refused(Refusal {
+                    Err(Refusal {
                         reason,
                         body,
                         place,

@@ -12,33 +12,32 @@ use Rattle.trees.specs.Edition.{in_edition}
 use Rattle.trees.specs.Reading.{Reading, good, refused as unread}
 use Rattle.trees.proofs.FoldLaws.{goods_fold}
 use Rattle.lists.specs.declared.LabelPlaces.{LabelPlaces}
-use Rattle.lists.specs.declared.ListAnswer.TheVariants.{Labels, Refused as ListRefused}
 use Rattle.lists.specs.declared.ListRead.{ListRead}
 use Rattle.lists.specs.ReadList.{read_list_in, list_read, places_of, folded_list}
 use Rattle.lists.proofs.EditionLists.{list_accepts_in, places_folded, joined_folded}
 use Rattle.pairs.proofs.StepLaws.{Unread}
-use Rattle.std.proofs.Common.{Ok, Err}
+use Rattle.std.proofs.Common.{Result, Ok, Err}
 use Rattle.queries.specs.ListRead.{OwnList, OwnLabels, ListedIs}
 use Rattle.queries.proofs.ListLaws.{list_unread, list_read_lem}
 
-list_case : (body : Body) (x : Reading (List Token)) (r : ListRead) (n : ℕ) → r ≡ list_read body x → r.answer ≡ Labels n
+list_case : (body : Body) (x : Reading (List Token)) (r : ListRead) (n : ℕ) → r ≡ list_read body x → r.answer ≡ Ok n
     → (xs : List Token) × (x ≡ good xs) × (r.places ≡ places_of xs)
 unfolding list_read
 list_case body (good t) r n e h = (t, refl, ap (λ q. q.places) e)
 list_case body (unread q i) r n e h =
-    let d : ListRefused (record { reason = q; body = body; place = i }) ≡ Labels n = sym (ap (λ q. q.answer) e) ∙ h in
+    let d : ◌≡◌ {A = Result ℕ Refusal} (Err (record { reason = q; body = body; place = i })) (Ok n) = sym (ap (λ q. q.answer) e) ∙ h in
     let z : ◌≡◌ {A = ℕ} 0 1 = cc in
     absurd (omega arith)
 
-unlisted_case : (body : Body) (x : Reading (List Token)) (r : ListRead) (q : Refusal) → r ≡ list_read body x → r.answer ≡ ListRefused q
+unlisted_case : (body : Body) (x : Reading (List Token)) (r : ListRead) (q : Refusal) → r ≡ list_read body x → r.answer ≡ Err q
     → Unread (List Token) x body q
 unfolding list_read
 unlisted_case body (good t) r q e h =
-    let d : Labels (length t) ≡ ListRefused q = sym (ap (λ q. q.answer) e) ∙ h in
+    let d : Ok (length t) ≡ Err q = sym (ap (λ q. q.answer) e) ∙ h in
     let z : ◌≡◌ {A = ℕ} 0 1 = cc in
     absurd (omega arith)
 unlisted_case body (unread p i) r q e h =
-    let d : ListRefused q ≡ ListRefused (record { reason = p; body = body; place = i }) = sym h ∙ ap (λ q. q.answer) e in
+    let d : Err q ≡ Err (record { reason = p; body = body; place = i }) = sym h ∙ ap (λ q. q.answer) e in
     record { reason = p; place = i; is = refl; told = cc }
 
 module _ (e : Edition) (body : Body) (text : List ℕ) where
@@ -63,10 +62,10 @@ module _ (e : Edition) (body : Body) (text : List ℕ) where
           }
 
   module _ (r : ListRead) (d : r ≡ list_read body (read_list_in e text)) where
-    pub listed_stopped : (q : Refusal) → r.answer ≡ ListRefused q → ListedIs e body text (Err q)
+    pub listed_stopped : (q : Refusal) → r.answer ≡ Err q → ListedIs e body text (Err q)
     listed_stopped q h = list_unread e body text q (unlisted_case body (read_list_in e text) r q d h)
 
-    pub listed_clear : (n : ℕ) → r.answer ≡ Labels n → ListedIs e body text (Ok r.places)
+    pub listed_clear : (n : ℕ) → r.answer ≡ Ok n → ListedIs e body text (Ok r.places)
     unfolding own_labels
     listed_clear n h =
         let k = list_case body (read_list_in e text) r n d h in

@@ -23,7 +23,7 @@ ghost use Rattle.queries.specs.FirstMarks.{FoundRank, MarkedTo};
 ghost use Rattle.queries.specs.Missing.{FirstMissing};
 ghost use Rattle.queries.specs.RankedList.{MarksAre};
 
-use lists::{LIST_LIMIT, LabelPlaces, ListAnswer};
+use lists::{LIST_LIMIT, LabelPlaces};
 use pairs::{CommonOrder, widened};
 use table::RANKS;
 use trees::{Body, Edition, LEAF_LIMIT, NODE_LIMIT, Reason, Refusal, TreeArrays, narrow, wide};
@@ -36,8 +36,8 @@ pub fn read_labels(edition: Edition, text: &[u8], body: Body) -> Result<LabelPla
     let answer = read.answer;
     let places = read.places;
     match answer {
-        ListAnswer::Labels(_) => Ok(places),
-        ListAnswer::Refused(refusal) => Err(refusal),
+        Ok(_) => Ok(places),
+        Err(refusal) => Err(refusal),
     }
 }
 

@@ -6,7 +6,7 @@
 
 ghost use Rattle.std.specs.Prelude.{◌+◌, ◌≤◌, ◌<◌, length};
 
-use lists::{LabelPlaces, ListAnswer};
+use lists::LabelPlaces;
 use std::io::{Read, Write};
 use trees::{Body, Edition, Reason, Refusal, TREE_ROOM};
 use writer::WriteAnswer;
@@ -81,7 +81,7 @@ fn print_number<W: Write>(output: &mut W, n: usize) {
 fn print_list<W: Write>(output: &mut W, edition: Edition, text: &[u8]) {
     let read = lists::read_list(edition, text, Body::K);
     let answer = read.answer;
-    if let ListAnswer::Refused(refusal) = answer {
+    if let Err(refusal) = answer {
         print_refusal(output, refusal);
         return;
     }

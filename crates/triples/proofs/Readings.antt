@@ -3,6 +3,7 @@ use Prim.Native.Nat.{ℕ, ◌≤◌}
 use mathlib.Core.Path.{◌≡◌, refl, sym, ◌∙◌, ap}
 use mathlib.Core.List.{List, map}
 use native.Mathlib.Omega.{arith}
+use Rattle.std.specs.Prelude.{Ok, Err}
 use Rattle.trees.specs.declared.Body.{Body}
 use Rattle.trees.specs.declared.Body.TheVariants.{S, T, K}
 use Rattle.trees.specs.declared.Refusal.{Refusal}
@@ -10,11 +11,9 @@ use Rattle.trees.specs.Token.{Token, spelling}
 use Rattle.trees.specs.Tree.{Tree, decoded}
 use Rattle.trees.specs.Arrays.{arrays_of}
 use Rattle.trees.specs.Reading.{Reading, good, refused}
-use Rattle.std.specs.Prelude.{Ok, Err}
 use Rattle.newick.specs.declared.TreeRead.{TreeRead}
 use Rattle.newick.specs.ReadTree.{read_tree, tree_read}
 use Rattle.newick.proofs.Accepts.{accepts}
-use Rattle.lists.specs.declared.ListAnswer.TheVariants as Lists
 use Rattle.lists.specs.declared.LabelPlaces.{LabelPlaces}
 use Rattle.lists.specs.declared.ListRead.{ListRead}
 use Rattle.lists.specs.ReadList.{read_list, list_read, places_of}
@@ -43,7 +42,7 @@ tree_was body (refused x i) r n e a =
     absurd (let b = ap (λ (q : TreeRead). q.answer) e in let z : ◌≡◌ {A = ℕ} 0 1 = cc in omega arith)
 
 pub list_was : (body : Body) (reading : Reading (List Token)) (r : ListRead) (n : ℕ) → r ≡ list_read body reading
-    → r.answer ≡ Lists.Labels n → ListWas reading r
+    → r.answer ≡ Ok n → ListWas reading r
 unfolding list_read
 list_was body (good xs) r n e a = record { labels = xs; read = refl; places = ap (λ (q : ListRead). q.places) e }
 list_was body (refused x i) r n e a =
@@ -65,7 +64,7 @@ second_body s (good t) list r x e a =
 second_body s (refused y i) list r x e a = ap (λ (q : TreeRead). tree_refusal q.answer T) e
 
 list_body : (s t : Tree) (reading : Reading (List Token)) (r : ListRead) (x : Refusal) → r ≡ list_read K reading
-    → r.answer ≡ Lists.Refused x → list_refusal r.answer ≡ verdict_on_list s t reading
+    → r.answer ≡ Err x → list_refusal r.answer ≡ verdict_on_list s t reading
 unfolding list_read verdict_on_list list_refusal
 list_body s t (good xs) r x e a =
     absurd (let b = ap (λ (q : ListRead). q.answer) e in let z : ◌≡◌ {A = ℕ} 0 1 = cc in omega arith)
@@ -93,7 +92,7 @@ module _ (first second list : List ℕ) where
       unfolding verdict_on_second
       on_list = ap (λ (q : Reading Tree). verdict_on_second s.tree q (read_list list)) (sym t.read) ∙ on_second
 
-      pub list_refused : (r : ListRead) (x : Refusal) → r ≡ list_read K (read_list list) → r.answer ≡ Lists.Refused x
+      pub list_refused : (r : ListRead) (x : Refusal) → r ≡ list_read K (read_list list) → r.answer ≡ Err x
           → list_refusal r.answer ≡ verdict first second list
       list_refused r x e a = list_body s.tree t.tree (read_list list) r x e a ∙ on_list
 

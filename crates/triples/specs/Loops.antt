@@ -13,8 +13,6 @@ use Rattle.trees.specs.Arrays.{arrays_of}
 use Rattle.trees.specs.Stored.{part_of}
 use Rattle.lists.specs.declared.LabelPlaces.{LabelPlaces}
 use Rattle.lists.specs.ReadList.{joined, places_of, list_limit}
-use Rattle.lists.specs.declared.ListAnswer.{ListAnswer}
-use Rattle.lists.specs.declared.ListAnswer.TheVariants as Lists
 use Rattle.agreement.specs.Answer.{differ, clashing}
 use Rattle.leaves.specs.Find.{leaf_from, found_leaf}
 use Rattle.triples.specs.declared.Agreement.{Agreement}
@@ -120,10 +118,10 @@ unfolding unread_body
 tree_refusal (Ok n) body = unread_body body
 tree_refusal (Err r) body = Refused r
 
-unfoldable pub list_refusal : ListAnswer → Agreement
+unfoldable pub list_refusal : Result ℕ Refusal → Agreement
 unfolding unread_body
-list_refusal (Lists.Labels n) = unread_body K
-list_refusal (Lists.Refused r) = Refused r
+list_refusal (Ok n) = unread_body K
+list_refusal (Err r) = Refused r
 
 -- two trees and a list of tokens as the readers return them
 pub record AsRead (s t : Tree) (xs : List Token) (first second list : List ℕ) (one two : TreeArrays) (places : LabelPlaces) : Type 0 where

@@ -16,7 +16,7 @@ ghost use Rattle.triples.specs.Loops.{label_in, rank_in, InOrder, LeavesFound, l
 
 use crate::ancestors::{lca_row, lows};
 use crate::search::{second, third};
-use lists::{LabelPlaces, ListAnswer};
+use lists::LabelPlaces;
 use trees::{Body, Edition, Reason, Refusal, TreeArrays};
 
 mod ancestors;
@@ -302,12 +302,12 @@ fn tree_refusal(answer: Result<usize, Refusal>, body: Body) -> Agreement
 }
 
 // The refusal of a list that was turned down.
-fn list_refusal(answer: ListAnswer) -> Agreement
+fn list_refusal(answer: Result<usize, Refusal>) -> Agreement
     ensures { result ≡ list_refusal answer }
 {
     match answer {
-        ListAnswer::Labels(_) => unread(Body::K),
-        ListAnswer::Refused(refusal) => Agreement::Refused(refusal),
+        Ok(_) => unread(Body::K),
+        Err(refusal) => Agreement::Refused(refusal),
     }
 }
 
@@ -329,7 +329,7 @@ pub fn agree_on(edition: Edition, first: &[u8], second: &[u8], list: &[u8]) -> A
     };
     let three = lists::read_list(edition, list, Body::K);
     let answer3 = three.answer;
-    let ListAnswer::Labels(_) = answer3 else {
+    let Ok(_) = answer3 else {
         return list_refusal(answer3);
     };
     let tree1 = one.tree;

@@ -4,12 +4,12 @@ use Rattle.lists.specs.ReadList.{places_of}
 use Rattle.lists.specs.ListMachine.{answer_of}
 use Rattle.lists.proofs.told.Goals as goal
 
-pub returns-in-Labels : goal.returns-in-Labels
+pub returns-in-Ok : goal.returns-in-Ok
 unfolding answer_of
-returns-in-Labels c =
-    rw c.in-Labels.is refl
+returns-in-Ok c =
+    rw c.in-Ok.is refl
 
-pub returns-in-Refused : goal.returns-in-Refused
+pub returns-in-Err : goal.returns-in-Err
 unfolding answer_of places_of
-returns-in-Refused c =
-    rw c.in-Refused.is refl
+returns-in-Err c =
+    rw c.in-Err.is refl

@@ -2,10 +2,10 @@
 use Rattle.queries.proofs.ReadLaws.{listed_stopped, listed_clear}
 use Rattle.queries.proofs.read_labels.Goals as goal
 
-pub returns-in-Labels : goal.returns-in-Labels
-returns-in-Labels c =
-    let a = c.args in listed_clear a.edition a.body a.text.now _ c.read_list-read.ensures _ c.in-Labels.is
+pub returns-in-Ok : goal.returns-in-Ok
+returns-in-Ok c =
+    let a = c.args in listed_clear a.edition a.body a.text.now _ c.read_list-read.ensures _ c.in-Ok.is
 
-pub returns-in-Refused : goal.returns-in-Refused
-returns-in-Refused c =
-    let a = c.args in listed_stopped a.edition a.body a.text.now _ c.read_list-read.ensures _ c.in-Refused.is
+pub returns-in-Err : goal.returns-in-Err
+returns-in-Err c =
+    let a = c.args in listed_stopped a.edition a.body a.text.now _ c.read_list-read.ensures _ c.in-Err.is

@@ -29,12 +29,12 @@ pub compared-requires : goal.compared-requires
 compared-requires c =
     let s = tree_was S _ c.read_tree-one.result _ (c.read_tree-one.ensures ∙ sym (answer_in _ S _)) c.in-Ok.is in
     let t = tree_was T _ c.read_tree-two.result _ (c.read_tree-two.ensures ∙ sym (answer_in _ T _)) c.in-Ok-answer2.is in
-    let k = list_was K _ c.read_list-three.result _ (c.read_list-three.ensures ∙ sym (list_answer_in _ K _)) c.in-Labels.is in
+    let k = list_was K _ c.read_list-three.result _ (c.read_list-three.ensures ∙ sym (list_answer_in _ K _)) c.in-Ok-answer3.is in
     few_read _ _ _ _ s _ t _ k
 
 pub returns : goal.returns
 returns c =
     let s = tree_was S _ c.read_tree-one.result _ (c.read_tree-one.ensures ∙ sym (answer_in _ S _)) c.in-Ok.is in
     let t = tree_was T _ c.read_tree-two.result _ (c.read_tree-two.ensures ∙ sym (answer_in _ T _)) c.in-Ok-answer2.is in
-    let k = list_was K _ c.read_list-three.result _ (c.read_list-three.ensures ∙ sym (list_answer_in _ K _)) c.in-Labels.is in
+    let k = list_was K _ c.read_list-three.result _ (c.read_list-three.ensures ∙ sym (list_answer_in _ K _)) c.in-Ok-answer3.is in
     c.compared.ensures s.tree t.tree k.labels (given_read _ _ _ _ s _ t _ k) ∙ all_read _ _ _ _ s _ t _ k

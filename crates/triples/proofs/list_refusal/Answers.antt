@@ -3,12 +3,12 @@ use mathlib.Core.Path.{refl, ◌∙◌}
 use Rattle.triples.specs.Loops.{list_refusal}
 use Rattle.triples.proofs.list_refusal.Goals as goal
 
-pub returns-in-Labels : goal.returns-in-Labels
+pub returns-in-Ok : goal.returns-in-Ok
 unfolding list_refusal
-returns-in-Labels c =
-    c.unread.ensures ∙ rw c.in-Labels.is refl
+returns-in-Ok c =
+    c.unread.ensures ∙ rw c.in-Ok.is refl
 
-pub returns-in-Refused : goal.returns-in-Refused
+pub returns-in-Err : goal.returns-in-Err
 unfolding list_refusal
-returns-in-Refused c =
-    rw c.in-Refused.is refl
+returns-in-Err c =
+    rw c.in-Err.is refl
