@@ -31,8 +31,7 @@ use Rattle.mast.specs.Largest.{Solution, solution, solution_text, solve}
 use Rattle.claims.specs.Judge.{claim_disagreement, judge}
 use Rattle.job.specs.declared.JobAnswer.{JobAnswer}
 use Rattle.job.specs.declared.JobAnswer.TheVariants as job-answer
-use Rattle.lines.specs.declared.LineAnswer.{LineAnswer}
-use Rattle.lines.specs.declared.LineAnswer.TheVariants.{Written, TooShort}
+use Rattle.std.specs.Prelude.{Result, Ok, Err}
 use Rattle.contents.specs.Contents.{Bodies, bytes, first_text, list_text, claim_text, bodies_of}
 use Rattle.contents.proofs.Promises.{body_promise}
 use Rattle.job.specs.Printed.{job_limit, task_of, Reply, set_reply, claim_reply, solve_task, solve_bodies, solve_job, reply_lines, printed_of, printed}
@@ -162,9 +161,9 @@ record_named : (job line lines : List ℕ) (room : ℕ) → NamedLine job line (
 unfolding record_answer lines_answer
 record_named job line lines room = go (line_answer lines room)
   where
-    go : (l : LineAnswer) → NamedLine job line (lines_answer l)
-    go (Written n) = tt
-    go (TooShort q) = tt
+    go : (l : Result ℕ Refusal) → NamedLine job line (lines_answer l)
+    go (Ok n) = tt
+    go (Err q) = tt
 
 pub naming_line_lem : (job : List ℕ) (room : ℕ) (q : Refusal) (n : Named) → answer_to job room ≡ job-answer.Naming q n
     → named_line job q n ≡ printed job

@@ -9,7 +9,7 @@ use Rattle.trees.specs.Refusals.{number_of}
 use Rattle.pairs.specs.Outcome.{Outcome, refused, naming, found}
 use Rattle.job.specs.declared.JobAnswer.{JobAnswer}
 use Rattle.job.specs.declared.JobAnswer.TheVariants as job-answer
-use Rattle.lines.specs.declared.LineAnswer.TheVariants.{Written, TooShort}
+use Rattle.std.specs.Prelude.{Ok, Err}
 use Rattle.job.specs.Printed.{Reply, reply_lines, printed_of, printed, solve_job}
 use Rattle.lines.specs.Lines.{refused_line}
 use Rattle.lines.specs.Output.{line_answer, line_output}
@@ -25,12 +25,12 @@ module _ (job out : List ℕ) where
   told x = answered (begin_in job) room x
 
   pub printed_lines : (n : ℕ) → answer_to job room ≡ job-answer.Written n
-      → (Written n ≡ line_answer (printed job) room) × (job_output (solve_job job) out ≡ line_output (printed job) out)
+      → (Ok n ≡ line_answer (printed job) room) × (job_output (solve_job job) out ≡ line_output (printed job) out)
   unfolding answer_to answered printed printed_of job_output
   printed_lines n e = go (solve_job job) e
     where
       go : (x : Outcome Reply) → told x ≡ job-answer.Written n
-          → (Written n ≡ line_answer (printed_of x) room) × (job_output x out ≡ line_output (printed_of x) out)
+          → (Ok n ≡ line_answer (printed_of x) room) × (job_output x out ≡ line_output (printed_of x) out)
       go (found x) h = (record_written (reply_lines x) room n h, refl)
       go (naming q m) h = let z : ◌≡◌ {A = ℕ} 0 1 = cc in absurd (omega arith)
       go (refused q) h = let z : ◌≡◌ {A = ℕ} 0 1 = cc in absurd (omega arith)
@@ -48,12 +48,12 @@ module _ (job out : List ℕ) where
   module _ (q : Refusal) (e : answer_to job room ≡ job-answer.Refused q) where
     -- number 9 is the output's
     pub printed_nine : number_of q.reason ≡ 9
-        → (TooShort q ≡ line_answer (printed job) room) × (job_output (solve_job job) out ≡ line_output (printed job) out)
+        → (Err q ≡ line_answer (printed job) room) × (job_output (solve_job job) out ≡ line_output (printed job) out)
     unfolding answer_to answered printed printed_of job_output
     printed_nine n = go (solve_job job) refl e
       where
         go : (x : Outcome Reply) → solve_job job ≡ x → told x ≡ job-answer.Refused q
-            → (TooShort q ≡ line_answer (printed_of x) room) × (job_output x out ≡ line_output (printed_of x) out)
+            → (Err q ≡ line_answer (printed_of x) room) × (job_output x out ≡ line_output (printed_of x) out)
         go (found x) k h = ((record_refused (reply_lines x) room q h).0, refl)
         go (naming p m) k h = let z : ◌≡◌ {A = ℕ} 0 1 = cc in absurd (omega arith)
         go (refused p) k h =

@@ -14,49 +14,48 @@ use Rattle.trees.proofs.Bools.{bool_cases}
 use Rattle.mast.specs.Largest.{too_short}
 use Rattle.job.specs.declared.JobAnswer.{JobAnswer}
 use Rattle.job.specs.declared.JobAnswer.TheVariants as job-answer
-use Rattle.lines.specs.declared.LineAnswer.{LineAnswer}
-use Rattle.lines.specs.declared.LineAnswer.TheVariants.{Written, TooShort}
+use Rattle.std.specs.Prelude.{Result, Ok, Err}
 use Rattle.lines.specs.Output.{line_answer}
 use Rattle.job.specs.Answered.{lines_answer, record_answer}
 
-pub record_told : (lines : List ℕ) (room : ℕ) {l : LineAnswer} → l ≡ line_answer lines room → lines_answer l ≡ record_answer lines room
+pub record_told : (lines : List ℕ) (room : ℕ) {l : Result ℕ Refusal} → l ≡ line_answer lines room → lines_answer l ≡ record_answer lines room
 unfolding record_answer
 record_told lines room e = ap lines_answer e
 
-pub record_written : (lines : List ℕ) (room n : ℕ) → record_answer lines room ≡ job-answer.Written n → Written n ≡ line_answer lines room
+pub record_written : (lines : List ℕ) (room n : ℕ) → record_answer lines room ≡ job-answer.Written n → Ok n ≡ line_answer lines room
 unfolding record_answer lines_answer
 record_written lines room n e = go (line_answer lines room) e
   where
-    go : (l : LineAnswer) → lines_answer l ≡ job-answer.Written n → Written n ≡ l
-    go (Written m) h = let k : n ≡ m = cc in ap Written k
-    go (TooShort q) h = let z : ◌≡◌ {A = ℕ} 0 1 = cc in absurd (omega arith)
+    go : (l : Result ℕ Refusal) → lines_answer l ≡ job-answer.Written n → Ok n ≡ l
+    go (Ok m) h = let k : n ≡ m = cc in ap Ok k
+    go (Err q) h = let z : ◌≡◌ {A = ℕ} 0 1 = cc in absurd (omega arith)
 
 -- the line's answer carries number 9 only where the output is too short
-line_nine : (lines : List ℕ) (room : ℕ) (q : Refusal) → line_answer lines room ≡ TooShort q → (q ≡ too_short) × (room < length lines)
+line_nine : (lines : List ℕ) (room : ℕ) (q : Refusal) → line_answer lines room ≡ Err q → (q ≡ too_short) × (room < length lines)
 unfolding line_answer
 line_nine lines room q e = go (bool_cases (leb (length lines) room))
   where
     go : (leb (length lines) room ≡ true) ⊎ (leb (length lines) room ≡ false) → (q ≡ too_short) × (room < length lines)
     go (inl f) =
-        let g : Written (length lines) ≡ TooShort q = rw f at e in
+        let g : Ok (length lines) ≡ Err q = rw f at e in
         let z : ◌≡◌ {A = ℕ} 0 1 = cc in
         absurd (omega arith)
     go (inr f) =
-        let g : TooShort too_short ≡ TooShort q = rw f at e in
+        let g : Err too_short ≡ Err q = rw f at e in
         let k : q ≡ too_short = cc in
         (k, leb-false (length lines) room f)
 
 pub record_refused : (lines : List ℕ) (room : ℕ) (q : Refusal) → record_answer lines room ≡ job-answer.Refused q
-    → (TooShort q ≡ line_answer lines room) × (number_of q.reason ≡ 9) × (room < length lines)
+    → (Err q ≡ line_answer lines room) × (number_of q.reason ≡ 9) × (room < length lines)
 unfolding record_answer lines_answer number_of
 record_refused lines room q e = go (line_answer lines room) refl e
   where
-    go : (l : LineAnswer) → line_answer lines room ≡ l → lines_answer l ≡ job-answer.Refused q
-        → (TooShort q ≡ line_answer lines room) × (number_of q.reason ≡ 9) × (room < length lines)
-    go (Written n) f h = let z : ◌≡◌ {A = ℕ} 0 1 = cc in absurd (omega arith)
-    go (TooShort p) f h =
+    go : (l : Result ℕ Refusal) → line_answer lines room ≡ l → lines_answer l ≡ job-answer.Refused q
+        → (Err q ≡ line_answer lines room) × (number_of q.reason ≡ 9) × (room < length lines)
+    go (Ok n) f h = let z : ◌≡◌ {A = ℕ} 0 1 = cc in absurd (omega arith)
+    go (Err p) f h =
         let k : p ≡ q = cc in
-        let g : line_answer lines room ≡ TooShort q = f ∙ ap TooShort k in
+        let g : line_answer lines room ≡ Err q = f ∙ ap Err k in
         let w = line_nine lines room q g in
         (sym g, ap (λ (r : Refusal). number_of r.reason) w.0, w.1)
 
@@ -70,6 +69,6 @@ pub record_no_names : (lines : List ℕ) (room : ℕ) → Names (record_answer l
 unfolding record_answer lines_answer
 record_no_names lines room = go (line_answer lines room)
   where
-    go : (l : LineAnswer) → Names (lines_answer l) → ⊥
-    go (Written m) h = h
-    go (TooShort q) h = h
+    go : (l : Result ℕ Refusal) → Names (lines_answer l) → ⊥
+    go (Ok m) h = h
+    go (Err q) h = h

@@ -1,6 +1,6 @@
 -- What the functions over jobs return, and what the lent output then holds. Both follow from the result of the job (`solve_job`) and its
 -- printed lines (`printed_of`). 01, "Job and printed result" and "Why a job is turned down".
-use Rattle.std.specs.Prelude.{ℕ, ◌+◌, Bool, cond, List, eqb}
+use Rattle.std.specs.Prelude.{ℕ, ◌+◌, Bool, cond, List, eqb, Result, Ok, Err}
 use Rattle.trees.specs.declared.Body.{Body}
 use Rattle.trees.specs.declared.Body.TheVariants.{S, K, C}
 use Rattle.trees.specs.Refusals.{letter_of}
@@ -13,13 +13,12 @@ use Rattle.job.specs.declared.Begin.{Begin}
 use Rattle.job.specs.declared.JobAnswer.{JobAnswer}
 use Rattle.job.specs.declared.JobAnswer.TheVariants as job-answer
 use Rattle.job.specs.Printed.{Reply, reply_lines, solve_job}
-use Rattle.lines.specs.declared.LineAnswer.{LineAnswer}
+use Rattle.trees.specs.declared.Refusal.{Refusal}
 use Rattle.lines.specs.Output.{line_answer, line_output}
-use Rattle.lines.specs.declared.LineAnswer.TheVariants.{Written, TooShort}
 
-unfoldable pub lines_answer : LineAnswer → JobAnswer
-lines_answer (Written n) = job-answer.Written n
-lines_answer (TooShort q) = job-answer.Refused q
+unfoldable pub lines_answer : Result ℕ Refusal → JobAnswer
+lines_answer (Ok n) = job-answer.Written n
+lines_answer (Err q) = job-answer.Refused q
 
 -- the lines of an answer for an output of `room` bytes: how many bytes they have, or number 9
 unfoldable pub record_answer : List ℕ → ℕ → JobAnswer

@@ -18,7 +18,6 @@ ghost use Rattle.job.specs.Answered.{lines_answer, base_of, moved_by, answered, 
 
 use claims::ClaimAnswer;
 use contents::{Layout, Span, Table};
-use lines::LineAnswer;
 use mast::{DividedResult, LargestAnswer, Named, NamedLabel};
 use pairs::Options;
 use trees::{Body, Reason, Refusal, TREE_ROOM};
@@ -65,12 +64,12 @@ fn job_refusal(reason: Reason) -> JobAnswer
 }
 
 // The answer that a job's lines make.
-fn lines_answer(given: LineAnswer) -> JobAnswer
+fn lines_answer(given: Result<usize, Refusal>) -> JobAnswer
     ensures { result ≡ lines_answer given }
 {
     match given {
-        LineAnswer::Written(n) => JobAnswer::Written(n),
-        LineAnswer::TooShort(refusal) => JobAnswer::Refused(refusal),
+        Ok(n) => JobAnswer::Written(n),
+        Err(refusal) => JobAnswer::Refused(refusal),
     }
 }
 
@@ -118,7 +117,7 @@ fn result_lines(
     res: DividedResult,
     tree: &[u8],
     out: &mut [u8],
-) -> LineAnswer
+) -> Result<usize, Refusal>
     ensures answer { result ≡ line_answer (lines_at pieces first.now res.pieces res.set tree.now) (length out.old) }
     ensures output { out.new ≡ line_output (lines_at pieces first.now res.pieces res.set tree.now)
         out.old }
@@ -245,18 +244,18 @@ pub fn answer_job(job: &[u8], out: &mut [u8]) -> JobAnswer
 
 // Writes what is printed for a job into `out`: the three lines of its set, after those of its pieces if they are asked for; the line of its
 // claim; or that of its refusal.
-pub fn print_job(job: &[u8], out: &mut [u8]) -> LineAnswer
+pub fn print_job(job: &[u8], out: &mut [u8]) -> Result<usize, Refusal>
     ensures answer { result ≡ line_answer (printed job.now) (length out.old) }
     ensures output { out.new ≡ line_output (printed job.now) out.old }
 {
     let answer = answer_job(job, out);
     match answer {
-        JobAnswer::Written(n) => LineAnswer::Written(n),
+        JobAnswer::Written(n) => Ok(n),
         JobAnswer::Naming(refusal, named) => lines::naming_line(job, refusal, named, out),
         JobAnswer::Refused(refusal) => {
             let reason = refusal.reason;
             if trees::number(reason) == 9 {
-                return LineAnswer::TooShort(refusal);
+                return Err(refusal);
             }
             lines::refusal_line(refusal, out)
         }

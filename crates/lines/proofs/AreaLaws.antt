@@ -15,7 +15,7 @@ use Rattle.trees.specs.Token.{Token, spelling, token_of, token_limit}
 use Rattle.trees.proofs.StoredLaws.{shown_back}
 use Rattle.trees.proofs.TokenLaws.{token_short}
 use Rattle.lists.specs.ReadList.{joined}
-use Rattle.lines.specs.declared.LineAnswer.TheVariants.{Written, TooShort}
+use Rattle.std.specs.Prelude.{Ok, Err}
 use Rattle.mast.specs.Largest.{too_short}
 use Rattle.lines.specs.Output.{line_answer, line_output}
 use Rattle.lines.specs.Lines.{label_in, labels_in, item_room}
@@ -87,11 +87,11 @@ handed text out after n p =
     ∙ ap₂ (λ (a b : List ℕ). a ++ b) p.front p.back
     ∙ ap (λ (k : ℕ). text ++ drop k out) (p.ends ∙ zero-add (length text))
 
-pub answer_fits : (text : List ℕ) (room n : ℕ) → length text ≤ room → n ≡ 0 + length text → Written n ≡ line_answer text room
+pub answer_fits : (text : List ℕ) (room n : ℕ) → length text ≤ room → n ≡ 0 + length text → Ok n ≡ line_answer text room
 unfolding line_answer
-answer_fits text room n h e = rw (le-leb (length text) room h) (ap Written (e ∙ zero-add (length text)))
+answer_fits text room n h e = rw (le-leb (length text) room h) (ap Ok (e ∙ zero-add (length text)))
 
-pub answer_short : (text : List ℕ) (room : ℕ) → room < length text → TooShort too_short ≡ line_answer text room
+pub answer_short : (text : List ℕ) (room : ℕ) → room < length text → Err too_short ≡ line_answer text room
 unfolding line_answer
 answer_short text room h = rw (lt-leb (length text) room h) refl
 

@@ -15,7 +15,7 @@ use Rattle.trees.specs.Token.{Token, token_of, token_limit}
 use Rattle.trees.specs.Tree.{leaf_limit}
 use Rattle.lists.specs.ReadList.{joined}
 use Rattle.mast.specs.declared.Named.{Named}
-use Rattle.lines.specs.declared.LineAnswer.{LineAnswer}
+use Rattle.std.specs.Prelude.{Result}
 use Rattle.decimals.specs.Decimal.{decimal_of}
 use Rattle.trees.specs.Words.{bytes_of}
 use Rattle.contents.specs.Contents.{line}
@@ -112,7 +112,7 @@ module _ {a b text : List ℕ} {n : ℕ} (p : Put a 0 text n b) where
   pub front_length : n ≡ length (take n b)
   front_length = omega (arith, front_inside, length-take n b)
 
-  pub front_answer : (r : LineAnswer) (room : ℕ) → r ≡ line_answer (take n b) room → r ≡ line_answer text room
+  pub front_answer : (r : Result ℕ Refusal) (room : ℕ) → r ≡ line_answer (take n b) room → r ≡ line_answer text room
   front_answer r room e = e ∙ ap (λ (t : List ℕ). line_answer t room) (put_front p)
 
   pub front_output : (o out : List ℕ) → o ≡ line_output (take n b) out → o ≡ line_output text out

@@ -4,6 +4,7 @@ use mathlib.Core.Path.{◌≡◌, refl}
 use mathlib.Core.Bool.{true}
 use mathlib.Core.List.{List, [], ◌∷◌}
 use lib.ListN.{length}
+use Rattle.std.specs.Prelude.{Ok, Err}
 use Rattle.trees.specs.declared.Refusal.{Refusal}
 use Rattle.trees.specs.Refusals.{value, row}
 use Rattle.trees.specs.Label.{Label}
@@ -12,7 +13,6 @@ use Rattle.trees.specs.Tree.{leaf_limit}
 use Rattle.trees.specs.Writable.{writable_labels}
 use Rattle.mast.specs.Largest.{too_short}
 use Rattle.pieces.specs.Pieces.{Piece, total, hung}
-use Rattle.lines.specs.declared.LineAnswer.TheVariants.{Written, TooShort}
 use Rattle.lines.specs.Lines.{record_room, refused_line, record_lines, claim_line, three_line}
 use Rattle.lines.specs.Output.{line_answer, line_output, written_part}
 use Rattle.lines.specs.PaperNumbers.{said_of_line}
@@ -46,6 +46,6 @@ pub pieces_room_lem : (ps : List Piece) → AllShort ps → total ps ≤ 159 →
 pieces_room_lem = ShortLaws.pieces_short
 
 -- "If an answer is an enum, the promises use a definition that gives this paper's number and values for each of its cases."
-pub line_rows_promise : (n : ℕ) → (said_of_line (Written n) ≡ value n) × (said_of_line (TooShort too_short) ≡ row 9 79 0)
+pub line_rows_promise : (n : ℕ) → (said_of_line (Ok n) ≡ value n) × (said_of_line (Err too_short) ≡ row 9 79 0)
 unfolding said_of_line
 line_rows_promise n = (refl, refl)

@@ -13,7 +13,7 @@ ghost use Rattle.lines.specs.ItemText.{head_text, item_text, run_text};
 ghost use Rattle.lines.specs.PieceLines.{items_in, pieces_from, pieces_lines, pieces_room};
 ghost use Rattle.lines.specs.Areas.{Put, item};
 
-use crate::{ITEMS, LineAnswer};
+use crate::ITEMS;
 use mast::Named;
 use trees::{Body, Edition, Reason, Refusal, ShownLabel, wide};
 
@@ -231,20 +231,20 @@ pub(crate) fn put_pieces(
 }
 
 // Copies a text to the output: all of it, or nothing if the output is too short.
-pub(crate) fn hand_over(text: &[u8], out: &mut [u8]) -> LineAnswer
+pub(crate) fn hand_over(text: &[u8], out: &mut [u8]) -> Result<usize, Refusal>
     ensures answer { result ≡ line_answer text.now (length out.old) }
     ensures output { out.new ≡ line_output text.now out.old }
 {
     let n = text.len();
     if out.len() < n {
-        return LineAnswer::TooShort(Refusal {
+        return Err(Refusal {
             reason: Reason::TooShort,
             body: Body::O,
             place: 0,
         });
     }
     let end = put_bytes(text, out, 0);
-    LineAnswer::Written(end)
+    Ok(end)
 }
 
 // The words of a refusal: `refused`, number, body letter, place.

@@ -1,4 +1,5 @@
-// Printed lines, written into a lent output: all of them, or nothing if it is too short.
+// Printed lines, written into a lent output: all of them, or nothing if it is too short. The answer is the number of bytes written, or
+// number 9.
 //
 // No public function has a `requires`.
 #![tactic(auto)]
@@ -40,25 +41,18 @@ const PIECES_ROOM: usize = 8 + DIGIT_ROOM + ITEMS * (ITEM_ROOM + 4) + 1;
 // The lines of the pieces, then those of the set.
 const DIVIDED_ROOM: usize = PIECES_ROOM + RECORD_ROOM;
 
-// The number of bytes written to the output, or number 9 if it is too short for the lines.
-#[derive(Clone, Copy)]
-pub enum LineAnswer {
-    Written(usize),
-    TooShort(Refusal),
-}
-
 // The part of an output that the answer wrote: its lines, or nothing.
-pub fn written<'a>(out: &'a [u8], answer: LineAnswer) -> &'a [u8]
+pub fn written<'a>(out: &'a [u8], answer: Result<usize, Refusal>) -> &'a [u8]
     ensures { result.now ≡ written_part out.now answer }
 {
     match answer {
-        LineAnswer::Written(bytes) => trees::part(out, 0, bytes),
-        LineAnswer::TooShort(_) => trees::part(out, 0, 0),
+        Ok(bytes) => trees::part(out, 0, bytes),
+        Err(_) => trees::part(out, 0, 0),
     }
 }
 
 // Writes the line of a refusal into `out`.
-pub fn refusal_line(refusal: Refusal, out: &mut [u8]) -> LineAnswer
+pub fn refusal_line(refusal: Refusal, out: &mut [u8]) -> Result<usize, Refusal>
     ensures answer { result ≡ line_answer (refused_line refusal) (length out.old) }
     ensures output { out.new ≡ line_output (refused_line refusal) out.old }
 {
@@ -70,7 +64,12 @@ pub fn refusal_line(refusal: Refusal, out: &mut [u8]) -> LineAnswer
 
 // Writes the line of a refusal that names three labels, number 8 or 14, into `out`. Starts and sizes name parts of the job; the labels are
 // those that these parts decode to.
-pub fn naming_line(job: &[u8], refusal: Refusal, named: Named, out: &mut [u8]) -> LineAnswer
+pub fn naming_line(
+    job: &[u8],
+    refusal: Refusal,
+    named: Named,
+    out: &mut [u8],
+) -> Result<usize, Refusal>
     ensures answer { result ≡ line_answer (named_line job.now refusal named) (length out.old) }
     ensures output { out.new ≡ line_output (named_line job.now refusal named) out.old }
 {
@@ -80,7 +79,7 @@ pub fn naming_line(job: &[u8], refusal: Refusal, named: Named, out: &mut [u8]) -
 }
 
 // Writes the line of a claim that passes into `out`.
-pub fn claim_line(size: usize, out: &mut [u8]) -> LineAnswer
+pub fn claim_line(size: usize, out: &mut [u8]) -> Result<usize, Refusal>
     ensures answer { result ≡ line_answer (claim_line size) (length out.old) }
     ensures output { out.new ≡ line_output (claim_line size) out.old }
 {
@@ -153,7 +152,7 @@ fn write_lines(
     set: LabelPlaces,
     tree: &[u8],
     out: &mut [u8],
-) -> LineAnswer
+) -> Result<usize, Refusal>
     ensures answer { result ≡ line_answer (lines_at asked first.now pieces set tree.now) (length out.old) }
     ensures output { out.new ≡ line_output (lines_at asked first.now pieces set tree.now) out.old }
 {
@@ -165,7 +164,12 @@ fn write_lines(
 
 // Writes the three lines of a set into `out`. The set's places and sizes name parts of the first tree's text. No set has more than 80
 // labels and no tree a longer text than TREE_ROOM: what goes beyond is left out.
-pub fn set_lines(first: &[u8], set: LabelPlaces, tree: &[u8], out: &mut [u8]) -> LineAnswer
+pub fn set_lines(
+    first: &[u8],
+    set: LabelPlaces,
+    tree: &[u8],
+    out: &mut [u8],
+) -> Result<usize, Refusal>
     ensures answer { result ≡ line_answer (placed_record first.now set tree.now) (length out.old) }
     ensures output { out.new ≡ line_output (placed_record first.now set tree.now) out.old }
 {
@@ -180,7 +184,7 @@ pub fn divided_lines(
     set: LabelPlaces,
     tree: &[u8],
     out: &mut [u8],
-) -> LineAnswer
+) -> Result<usize, Refusal>
     ensures answer { result ≡ line_answer (placed_pieces first.now pieces ++ placed_record first.now set tree.now)
         (length out.old) }
     ensures output { out.new ≡ line_output (placed_pieces first.now pieces ++ placed_record first.now set tree.now)

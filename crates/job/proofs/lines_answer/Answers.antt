@@ -3,10 +3,10 @@ use Rattle.job.specs.Answered.{lines_answer}
 use mathlib.Core.Path.{ap, sym}
 use Rattle.job.proofs.lines_answer.Goals as goal
 
-pub returns-in-Written : goal.returns-in-Written
+pub returns-in-Ok : goal.returns-in-Ok
 unfolding lines_answer
-returns-in-Written c = ap lines_answer (sym c.in-Written.is)
+returns-in-Ok c = ap lines_answer (sym c.in-Ok.is)
 
-pub returns-in-TooShort : goal.returns-in-TooShort
+pub returns-in-Err : goal.returns-in-Err
 unfolding lines_answer
-returns-in-TooShort c = ap lines_answer (sym c.in-TooShort.is)
+returns-in-Err c = ap lines_answer (sym c.in-Err.is)

@@ -4,12 +4,10 @@ use Rattle.lines.proofs.OutputLaws.{part_none}
 use mathlib.Core.Path.{◌∙◌, sym, ap}
 use Rattle.lines.proofs.written.Goals as goal
 
-pub returns-in-Written : goal.returns-in-Written
+pub returns-in-Ok : goal.returns-in-Ok
 unfolding written_part
-returns-in-Written c =
-    c.part.ensures ∙ ap (written_part c.args.out.now) (sym c.in-Written.is)
+returns-in-Ok c = c.part.ensures ∙ ap (written_part c.args.out.now) (sym c.in-Ok.is)
 
-pub returns-in-TooShort : goal.returns-in-TooShort
+pub returns-in-Err : goal.returns-in-Err
 unfolding written_part
-returns-in-TooShort c =
-    c.part-in-TooShort.ensures ∙ part_none c.args.out.now ∙ ap (written_part c.args.out.now) (sym c.in-TooShort.is)
+returns-in-Err c = c.part-in-Err.ensures ∙ part_none c.args.out.now ∙ ap (written_part c.args.out.now) (sym c.in-Err.is)
