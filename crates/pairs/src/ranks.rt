@@ -12,7 +12,7 @@ ghost use Rattle.pairs.specs.OwnLeaves.{OwnLeaves, Ordered};
 ghost use Rattle.pairs.specs.CommonRanks.{PartnerIs, Partners, Place, OpenedAt, most_common, Collected, NodePartner, stored_label, LeafPlaced};
 
 use crate::CommonOrder;
-use trees::{Edition, LEAF_LIMIT, NODE_LIMIT, Order, StoredLabel, TreeArrays, wide};
+use trees::{Edition, LEAF_LIMIT, NODE_LIMIT, StoredLabel, TreeArrays, wide};
 
 // No node has this number.
 pub(crate) const NONE: usize = NODE_LIMIT;
@@ -69,12 +69,7 @@ pub(crate) fn partners(
 fn comes_first(a: StoredLabel, b: StoredLabel) -> bool
     ensures { result ≡ label_less (stored_bytes a) (stored_bytes b) }
 {
-    let order = trees::compare_stored(a, b);
-    match order {
-        Order::Less => true,
-        Order::Equal => false,
-        Order::Greater => false,
-    }
+    trees::compare_stored(a, b).is_lt()
 }
 
 // Where a new label goes among the labels of the first m leaves in `order`, by halves: before the first that is greater.

@@ -1,6 +1,6 @@
 -- How the code reads tokens byte by byte and writes labels: what it reads of a token is the token's spelling, and what it writes of a
 -- label is the label's written form. Assumes nothing.
-use Prim.Native.Nat.{ℕ, suc, ◌+◌, ◌-◌, ◌<◌, ◌≤◌}
+use Prim.Native.Nat.{ℕ, suc, ◌+◌, ◌-◌, ◌<◌, ◌≤◌, min}
 use mathlib.Core.Path.{◌≡◌, refl, sym, ◌∙◌, ap, ap₂}
 use mathlib.Core.Bool.{Bool, true, false, ◌||◌}
 use mathlib.Core.Logic.{◌⊎◌, inl, inr}
@@ -16,7 +16,11 @@ use Rattle.trees.specs.declared.Edition.TheVariants.{One}
 use Rattle.trees.specs.Bytes.{quote_byte, blank_byte, underscore_byte}
 use Rattle.trees.specs.Edition.{fold_byte, in_edition, key}
 use Rattle.trees.specs.Label.{Label, same_label, order_of}
-use Rattle.trees.specs.declared.Order.TheVariants.{Less, Equal, Greater}
+use Rattle.std.specs.declared.cmp.Ordering.{Ordering}
+use Rattle.std.specs.declared.cmp.Ordering.TheVariants.{Less, Equal, Greater}
+use Rattle.std.specs.List.{list_any}
+use Rattle.std.specs.Ordering.{MatchOrdering, nat_cmp}
+use Rattle.std.proofs.lemmas.Cmp.{ranked}
 use Rattle.trees.specs.Token.{Token, bare_byte, spelling, written_byte, holds_underscore, token_of}
 use Rattle.trees.specs.Reading.{quote_first}
 use Rattle.trees.specs.Stored.{byte_of, inner_bytes, read_as, form_of}
@@ -171,29 +175,31 @@ module _ (e : Edition) (q r : Bool) (a b : List ℕ) where
   OrderFrom i = order_of (drop i (read_as e q a)) (drop i (read_as e r b)) ≡ order_of (read_as e q a) (read_as e r b)
 
   module _ (i : ℕ) (so_far : OrderFrom i) where
-    pub read_both_end : length a ≤ i → length b ≤ i → Equal ≡ order_of (read_as e q a) (read_as e r b)
-    read_both_end h k =
-        both_end (read_as e q a) (read_as e r b) i so_far (omega (arith, read_size e q a)) (omega (arith, read_size e r b))
-
-    pub read_first_ends : length a ≤ i → i < length b → Less ≡ order_of (read_as e q a) (read_as e r b)
-    read_first_ends h k =
-        first_ends (read_as e q a) (read_as e r b) i so_far (omega (arith, read_size e q a)) (omega (arith, read_size e r b))
-
-    pub read_second_ends : i < length a → length b ≤ i → Greater ≡ order_of (read_as e q a) (read_as e r b)
-    read_second_ends h k =
-        second_ends (read_as e q a) (read_as e r b) i so_far (omega (arith, read_size e q a)) (omega (arith, read_size e r b))
+    -- where one of the two ends, the lengths decide
+    pub read_ends : min (length a) (length b) ≤ i → i ≤ length a → i ≤ length b → (o : Ordering) → o ≡ nat_cmp (length a) (length b)
+        → o ≡ order_of (read_as e q a) (read_as e r b)
+    read_ends h ha hb o told = go o (ranked (length a) (length b) o told) (read_size e q a) (read_size e r b)
+      where
+        go : (o : Ordering) → MatchOrdering o (length a < length b) (length a ≡ length b) (length b < length a)
+            → length (read_as e q a) ≡ length a → length (read_as e r b) ≡ length b → o ≡ order_of (read_as e q a) (read_as e r b)
+        go Less l n m = first_ends (read_as e q a) (read_as e r b) i so_far (omega arith) (omega arith)
+        go Equal l n m = both_end (read_as e q a) (read_as e r b) i so_far (omega arith) (omega arith)
+        go Greater l n m = second_ends (read_as e q a) (read_as e r b) i so_far (omega arith) (omega arith)
 
     -- the byte at i decides, or the rest does
     module _ (h : i < length a) (k : i < length b) where
-      pub read_less : byte_of e q (get_or a i 0) < byte_of e r (get_or b i 0) → Less ≡ order_of (read_as e q a) (read_as e r b)
-      read_less l =
-          byte_less (read_as e q a) (read_as e r b) i so_far (omega (arith, read_size e q a)) (omega (arith, read_size e r b))
-          (rw (read_at e q a i h, read_at e r b i k) l)
-
-      pub read_greater : byte_of e r (get_or b i 0) < byte_of e q (get_or a i 0) → Greater ≡ order_of (read_as e q a) (read_as e r b)
-      read_greater l =
-          byte_greater (read_as e q a) (read_as e r b) i so_far (omega (arith, read_size e q a)) (omega (arith, read_size e r b))
-          (rw (read_at e q a i h, read_at e r b i k) l)
+      pub read_decides : (byte_of e q (get_or a i 0) ≡ byte_of e r (get_or b i 0) → ⊥) → (o : Ordering)
+          → o ≡ nat_cmp (byte_of e q (get_or a i 0)) (byte_of e r (get_or b i 0)) → o ≡ order_of (read_as e q a) (read_as e r b)
+      read_decides differ o told =
+          go o (ranked (byte_of e q (get_or a i 0)) (byte_of e r (get_or b i 0)) o told) (read_size e q a) (read_size e r b)
+        where
+          go : (o : Ordering)
+              → MatchOrdering o (byte_of e q (get_or a i 0) < byte_of e r (get_or b i 0)) (byte_of e q (get_or a i 0) ≡ byte_of e r (get_or b i 0))
+              (byte_of e r (get_or b i 0) < byte_of e q (get_or a i 0))
+              → length (read_as e q a) ≡ length a → length (read_as e r b) ≡ length b → o ≡ order_of (read_as e q a) (read_as e r b)
+          go Less l n m = byte_less (read_as e q a) (read_as e r b) i so_far (omega arith) (omega arith) (rw (read_at e q a i h, read_at e r b i k) l)
+          go Equal l n m = absurd (differ l)
+          go Greater l n m = byte_greater (read_as e q a) (read_as e r b) i so_far (omega arith) (omega arith) (rw (read_at e q a i h, read_at e r b i k) l)
 
       pub read_level : byte_of e q (get_or a i 0) ≡ byte_of e r (get_or b i 0) → OrderFrom (i + 1)
       read_level g =
@@ -254,18 +260,8 @@ module _ (x : Label) (i : ℕ) where
   unfolding written_byte
   plain_other h n = sym (plain_at h ∙ rw (ne_eqb (get_or x i 0) blank_byte n) refl)
 
--- an underscore looked for from the front
-module _ (x : Label) (i : ℕ) (so_far : holds_underscore (drop i x) ≡ holds_underscore x) where
-  pub under_none : length x ≤ i → false ≡ holds_underscore x
-  unfolding holds_underscore
-  under_none h = rw (← so_far, drop_of_length-le x h) refl
-
-  here : i < length x → holds_underscore x ≡ (eqb (get_or x i 0) underscore_byte || holds_underscore (drop (suc i) x))
-  unfolding holds_underscore
-  here h = sym so_far ∙ rw (drop-cons x i 0 h) refl
-
-  pub under_found : i < length x → get_or x i 0 ≡ underscore_byte → true ≡ holds_underscore x
-  under_found h e = sym (here h ∙ rw (eq-eqb (get_or x i 0) underscore_byte e) refl)
-
-  pub under_later : i < length x → (get_or x i 0 ≡ underscore_byte → ⊥) → holds_underscore (drop (i + 1) x) ≡ holds_underscore x
-  under_later h n = rw (add-one i) (sym (here h ∙ rw (ne_eqb (get_or x i 0) underscore_byte n) refl))
+-- an underscore looked for by the library
+pub under_any : (x : Label) → list_any (λ b. eqb b underscore_byte) x ≡ holds_underscore x
+unfolding holds_underscore
+under_any [] = refl
+under_any (b ∷ x) = ap (◌||◌ (eqb b underscore_byte)) (under_any x)

@@ -9,6 +9,7 @@ use native.Mathlib.Omega.{arith}
 use lib.Dec.{eqb, leb}
 use lib.ListN.{length, get_or, take, drop, length-map}
 use borrow.Author.Tests.{le-leb, leb-true, ne_eqb}
+use Rattle.std.specs.Char.{LowercasesTo}
 use Rattle.trees.specs.declared.Edition.{Edition}
 use Rattle.trees.specs.declared.Edition.TheVariants.{One, Two}
 use Rattle.trees.specs.Bytes.{between, is_label_byte, is_inner_byte, kind_of, quote_byte, blank_byte, underscore_byte}
@@ -82,6 +83,11 @@ fold_other e b h = go h (fold_view e b)
 pub fold_capital : (e : Edition) (b : ℕ) → e ≡ Two → 65 ≤ b → b ≤ 90 → b + 32 ≡ fold_byte e b
 unfolding fold_byte
 fold_capital e b h l m = rw (h, le-leb 65 b l, le-leb b 90 m) refl
+
+-- the library's small letters are those of the second edition
+pub fold_lower : (b r : ℕ) → LowercasesTo b r → r ≡ fold_byte Two b
+fold_lower b r (inl ((low, high), e)) = e ∙ fold_capital Two b refl low high
+fold_lower b r (inr (out, e)) = e ∙ fold_other Two b out
 
 -- a byte outside both alphabets
 abbrev pub Unlettered : ℕ → Type 0

@@ -2,7 +2,7 @@
 -- definitions. Assumes nothing.
 use Prim.Native.Nat.{ℕ, suc, ◌+◌, ◌<◌, ◌≤◌}
 use mathlib.Core.Path.{◌≡◌, refl, sym, ◌∙◌, ap, ap₂}
-use mathlib.Core.Bool.{true, false, ◌&&◌, ◌||◌}
+use mathlib.Core.Bool.{Bool, true, false, cond, ◌&&◌, ◌||◌}
 use mathlib.Core.Logic.{◌⊎◌, inl, inr, ⊎_elim}
 use mathlib.Core.List.{[], ◌∷◌}
 use native.Mathlib.Omega.{arith}
@@ -12,7 +12,8 @@ use lib.Seq.{drop-cons}
 use native.Mathlib.Numerals.{add-one}
 use borrow.Author.Tests.{ltb-true, ltb-false, eqb-true, lt-ltb, le-ltb, eq-eqb}
 use Rattle.trees.specs.Label.{Label, same_label, label_less, order_of}
-use Rattle.trees.specs.declared.Order.TheVariants.{Less, Equal, Greater}
+use Rattle.std.specs.declared.cmp.Ordering.TheVariants.{Less, Equal, Greater}
+use Rattle.std.specs.Ordering.{is_lt}
 use Rattle.trees.proofs.Bools.{bool_cases, clash, and_left, and_right, and_intro, or_cases, or_inl, or_inr}
 
 pub same_refl : (x : Label) → same_label x x ≡ true
@@ -131,35 +132,14 @@ pub greater_order : (x y : Label) → label_less y x ≡ true → order_of x y �
 unfolding order_of
 greater_order x y h = rw (less_asym y x h, h) refl
 
-pub order_less : (x y : Label) → order_of x y ≡ Less → label_less x y ≡ true
-order_less x y h = go (less_total x y)
+pub order_before : (x y : Label) → is_lt (order_of x y) ≡ label_less x y
+unfolding order_of
+order_before x y = go (label_less x y) (label_less y x)
   where
-    go : (label_less x y ≡ true) ⊎ ((x ≡ y) ⊎ (label_less y x ≡ true)) → label_less x y ≡ true
-    go (inl k) = k
-    go (inr (inl e)) = cc (h, equal_order x y e)
-    go (inr (inr k)) = cc (h, greater_order x y k)
-
-pub order_equal : (x y : Label) → order_of x y ≡ Equal → x ≡ y
-order_equal x y h = go (less_total x y)
-  where
-    go : (label_less x y ≡ true) ⊎ ((x ≡ y) ⊎ (label_less y x ≡ true)) → x ≡ y
-    go (inl k) = cc (h, less_order x y k)
-    go (inr (inl e)) = e
-    go (inr (inr k)) = cc (h, greater_order x y k)
-
-pub order_greater : (x y : Label) → order_of x y ≡ Greater → label_less y x ≡ true
-order_greater x y h = go (less_total x y)
-  where
-    go : (label_less x y ≡ true) ⊎ ((x ≡ y) ⊎ (label_less y x ≡ true)) → label_less y x ≡ true
-    go (inl k) = cc (h, less_order x y k)
-    go (inr (inl e)) = cc (h, equal_order x y e)
-    go (inr (inr k)) = k
-
-pub equal_before : (x y : Label) → order_of x y ≡ Equal → label_less x y ≡ false
-equal_before x y h = rw (order_equal x y h) (less_irrefl y)
-
-pub greater_before : (x y : Label) → order_of x y ≡ Greater → label_less x y ≡ false
-greater_before x y h = less_asym y x (order_greater x y h)
+    go : (a b : Bool) → is_lt (cond a Less (cond b Greater Equal)) ≡ a
+    go true b = refl
+    go false true = refl
+    go false false = refl
 
 -- a comparison byte by byte: the first byte that differs decides
 pub heads_less : (a b : ℕ) (x y : Label) → a < b → order_of (a ∷ x) (b ∷ y) ≡ Less

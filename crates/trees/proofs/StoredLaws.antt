@@ -11,11 +11,9 @@ use lib.Dec.{leb}
 use lib.ListN.{length, get_or, take, set, replicate}
 use lib.Seq.{set_at, take_at, take-suc, length-take-le, take_all, take-length}
 use borrow.Author.Tests.{leb-true, leb-false}
-use Rattle.trees.specs.declared.ShownLabel.{ShownLabel}
-use Rattle.trees.specs.declared.StoredLabel.{StoredLabel}
 use Rattle.trees.specs.Label.{Label, label_limit}
 use Rattle.trees.specs.Token.{token_of, token_limit}
-use Rattle.trees.specs.Stored.{stored_bytes, stored_of, shown_of, shown_bytes}
+use Rattle.trees.specs.Stored.{StoredLabel, ShownLabel, stored_bytes, stored_of, shown_of, shown_bytes}
 use Rattle.trees.proofs.Bools.{bool_cases}
 use Rattle.trees.proofs.TokenLaws.{token_short}
 

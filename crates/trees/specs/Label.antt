@@ -1,8 +1,8 @@
 -- Labels as lists of decoded bytes, and their order. 01, "Tree text"; C-12: "Label order reads the decoded bytes". Token.antt has labels as
 -- they are written in a text.
 use Rattle.std.specs.Prelude.{ℕ, Bool, true, false, cond, ◌&&◌, ◌||◌, List, [], ◌∷◌, eqb, ltb}
-use Rattle.trees.specs.declared.Order.{Order}
-use Rattle.trees.specs.declared.Order.TheVariants.{Less, Equal, Greater}
+use Rattle.std.specs.declared.cmp.Ordering.{Ordering}
+use Rattle.std.specs.declared.cmp.Ordering.TheVariants.{Less, Equal, Greater}
 
 abbrev pub Label : Type 0
 Label = List ℕ
@@ -26,7 +26,7 @@ label_less (a ∷ x) [] = false
 label_less (a ∷ x) (b ∷ y) = ltb a b || (eqb a b && label_less x y)
 
 -- the three outcomes of a comparison
-unfoldable pub order_of : Label → Label → Order
+unfoldable pub order_of : Label → Label → Ordering
 order_of x y = cond (label_less x y) Less (cond (label_less y x) Greater Equal)
 
 unfoldable pub is_in : Label → List Label → Bool

@@ -14,6 +14,8 @@ ghost use Rattle.trees.specs.Stored.{byte_of, inner_bytes, read_as, form_of};
 ghost use Rattle.trees.specs.Token.{spelling, holds_underscore, token_limit};
 ghost use Rattle.trees.specs.Slots.{slot_of, is_marked, first_marks};
 
+use std::cmp::Ordering;
+
 // The most bytes of a label.
 pub const LABEL_LIMIT: usize = 32;
 
@@ -40,7 +42,7 @@ const BLANK: u8 = 32;
 const UNDERSCORE: u8 = 95;
 
 // What a byte of a tree text can be. Each of the 256 byte values has one kind.
-#[derive(Clone, Copy)]
+#[derive(Clone, Copy, PartialEq, Eq)]
 pub enum Kind {
     Label,
     Open,
@@ -52,23 +54,15 @@ pub enum Kind {
     Other,
 }
 
-// Where one label stands against another in label order.
-#[derive(Clone, Copy)]
-pub enum Order {
-    Less,
-    Equal,
-    Greater,
-}
-
 // The edition by which labels are compared. Under the second, capital and small letters of A to Z are equal.
-#[derive(Clone, Copy)]
+#[derive(Clone, Copy, PartialEq, Eq)]
 pub enum Edition {
     One,
     Two,
 }
 
 // Why a job is refused; the numbers are in specs/Refusals.antt.
-#[derive(Clone, Copy)]
+#[derive(Clone, Copy, PartialEq, Eq)]
 pub enum Reason {
     BadByte,
     EndsTooSoon,
@@ -88,7 +82,7 @@ pub enum Reason {
 }
 
 // The body that a refusal speaks of.
-#[derive(Clone, Copy)]
+#[derive(Clone, Copy, PartialEq, Eq)]
 pub enum Body {
     S,
     T,
@@ -106,18 +100,26 @@ pub struct Refusal {
     pub place: usize,
 }
 
-// A label kept apart from its text, as decoded: the first `len` bytes count.
+// The bytes of a label, kept apart from any text: the first `len` of them count.
 #[derive(Clone, Copy)]
-pub struct StoredLabel {
-    pub bytes: [u8; LABEL_LIMIT],
+pub struct LabelBytes<const N: usize> {
+    pub bytes: [u8; N],
     pub len: usize,
 }
 
-// A label as it is printed, with quotes where it needs them: the first `len` bytes count.
-#[derive(Clone, Copy)]
-pub struct ShownLabel {
-    pub bytes: [u8; TOKEN_LIMIT],
-    pub len: usize,
+// A label as decoded.
+pub type StoredLabel = LabelBytes<LABEL_LIMIT>;
+
+// A label as it is printed, with quotes where it needs them.
+pub type ShownLabel = LabelBytes<TOKEN_LIMIT>;
+
+impl<const N: usize> LabelBytes<N> {
+    // The bytes that count: the first `len`, or all of them where they are fewer.
+    pub fn as_slice(&self) -> &[u8]
+        ensures { result.now ≡ take self.now.len self.now.bytes }
+    {
+        &self.bytes[..self.len.min(N)]
+    }
 }
 
 // A tree as arrays: children before parents, the root last, a leaf its own left child.
@@ -228,26 +230,13 @@ fn inner<'a>(token: &'a [u8]) -> &'a [u8]
     &token[1..token.len() - 1]
 }
 
-// A byte as the second edition reads it: a capital is the small letter 32 further.
-fn lowered(b: u8) -> u8
-    ensures { result ≡ fold_byte Edition.Two b }
-{
-    if b < b'A' {
-        return b;
-    }
-    if b'Z' < b {
-        return b;
-    }
-    b + 32
-}
-
-// A byte as an edition reads it.
+// A byte as an edition reads it: under the second a capital is the small letter.
 fn fold(edition: Edition, b: u8) -> u8
     ensures { result ≡ fold_byte edition b }
 {
     match edition {
         Edition::One => b,
-        Edition::Two => lowered(b),
+        Edition::Two => b.to_ascii_lowercase(),
     }
 }
 
@@ -270,33 +259,21 @@ pub fn spelled_size(token: &[u8]) -> usize
 }
 
 // Where `a` stands against `b` in label order, each byte decoded: the first one that differs decides, else the length.
-fn compare_read(edition: Edition, a: &[u8], aquoted: bool, b: &[u8], bquoted: bool) -> Order
+fn compare_read(edition: Edition, a: &[u8], aquoted: bool, b: &[u8], bquoted: bool) -> Ordering
     ensures { result ≡ order_of (read_as edition aquoted a.now) (read_as edition bquoted b.now) }
 {
-    let mut i: usize = 0;
-    while i < a.len() {
-        if b.len() <= i {
-            return Order::Greater;
-        }
+    for i in 0..a.len().min(b.len()) {
         let x = decode(edition, aquoted, a[i]);
         let y = decode(edition, bquoted, b[i]);
-        if x < y {
-            return Order::Less;
+        if x != y {
+            return x.cmp(&y);
         }
-        if y < x {
-            return Order::Greater;
-        }
-        i += 1;
     }
-    if i < b.len() {
-        Order::Less
-    } else {
-        Order::Equal
-    }
+    a.len().cmp(&b.len())
 }
 
 // Where label `a` stands against label `b` in label order; both are decoded already.
-pub fn compare(a: &[u8], b: &[u8]) -> Order
+pub fn compare(a: &[u8], b: &[u8]) -> Ordering
     ensures { result ≡ order_of a.now b.now }
 {
     compare_read(Edition::One, a, true, b, true)
@@ -307,11 +284,7 @@ pub fn comes_before(edition: Edition, a: &[u8], b: &[u8]) -> bool
     ensures { result ≡ label_less (key edition a.now) (key edition b.now) }
 {
     let order = compare_read(edition, inner(a), is_quoted(a), inner(b), is_quoted(b));
-    match order {
-        Order::Less => true,
-        Order::Equal => false,
-        Order::Greater => false,
-    }
+    order.is_lt()
 }
 
 // A byte as a number.
@@ -366,12 +339,10 @@ fn same_all(edition: Edition, a: &[u8], aquoted: bool, b: &[u8], bquoted: bool) 
     requires { length a.now ≡ length b.now }
     ensures { result ≡ same_label (read_as edition aquoted a.now) (read_as edition bquoted b.now) }
 {
-    let mut i: usize = 0;
-    while i < a.len() {
+    for i in 0..a.len() {
         if !same_byte(edition, a[i], aquoted, b[i], bquoted) {
             return false;
         }
-        i += 1;
     }
     true
 }
@@ -412,12 +383,10 @@ pub fn first_bytes<'a>(bytes: &'a [u8], len: usize) -> &'a [u8]
 }
 
 // Where `a` stands against `b` in label order, for labels kept apart from their text.
-pub fn compare_stored(a: StoredLabel, b: StoredLabel) -> Order
+pub fn compare_stored(a: StoredLabel, b: StoredLabel) -> Ordering
     ensures { result ≡ order_of (stored_bytes a) (stored_bytes b) }
 {
-    let x = a.bytes;
-    let y = b.bytes;
-    compare(first_bytes(&x, a.len), first_bytes(&y, b.len))
+    compare(a.as_slice(), b.as_slice())
 }
 
 // The `size` bytes from `start` as a part of the caller's text, or nothing where they run past the end.
@@ -433,25 +402,28 @@ pub fn part<'a>(text: &'a [u8], start: usize, size: usize) -> &'a [u8]
     &text[start..start + size]
 }
 
-// An entry of an array, 0 past its end: no index has to be trusted.
-pub fn entry(xs: &[usize], i: usize) -> usize
-    ensures { result ≡ get_or xs.now i 0 }
+// An entry of an array as a number, 0 past its end: no index has to be trusted.
+pub fn entry<T: Copy + Into<usize>>(xs: &[T], i: usize) -> usize
+    ensures { (d : T) → T.Into.converts d 0 → T.Into.converts (get_or xs.now i d) result }
 {
-    if i < xs.len() { xs[i] } else { 0 }
+    match xs.get(i) {
+        Some(x) => (*x).into(),
+        None => 0,
+    }
 }
 
 // An entry of an array of bytes, 0 past its end.
 pub fn byte_entry(xs: &[u8], i: usize) -> usize
     ensures { result ≡ get_or xs.now i 0 }
 {
-    if i < xs.len() { wide(xs[i]) } else { 0 }
+    entry(xs, i)
 }
 
 // An entry of an array of places, 0 past its end.
 pub fn place_entry(xs: &[u16], i: usize) -> usize
     ensures { result ≡ get_or xs.now i 0 }
 {
-    if i < xs.len() { wide_place(xs[i]) } else { 0 }
+    entry(xs, i)
 }
 
 // A leaf's label as the part of the caller's text that holds it, by the arrays' starts and sizes; nothing for an inner node,
@@ -459,7 +431,7 @@ pub fn place_entry(xs: &[u16], i: usize) -> usize
 pub fn leaf_label<'a>(text: &'a [u8], start: &[u16], size: &[u8], u: usize) -> &'a [u8]
     ensures { result.now ≡ leaf_label text.now start.now size.now u }
 {
-    part(text, place_entry(start, u), byte_entry(size, u))
+    part(text, entry(start, u), entry(size, u))
 }
 
 // Whether one of the first `count` parts that starts and sizes name stands for the same label as the token, as an edition reads them.
@@ -474,9 +446,7 @@ pub fn is_among(
     ensures { result ≡ is_among (in_edition edition text.now) start.now size.now count
         (in_edition edition token.now) }
 {
-    let mut u = count;
-    while 0 < u {
-        u -= 1;
+    for u in (0..count).rev() {
         if same_label(edition, token, leaf_label(text, start, size, u)) {
             return true;
         }
@@ -492,11 +462,9 @@ pub fn slot(edition: Edition, token: &[u8]) -> usize
     let x = inner(token);
     let quoted = is_quoted(token);
     let mut n: usize = 0;
-    let mut i: usize = 0;
-    while i < x.len() {
-        let b = decode(edition, quoted, x[i]);
-        n = (n * 139 + wide(b)) % SLOTS;
-        i += 1;
+    for b in x {
+        let c = decode(edition, quoted, *b);
+        n = (n * 139 + usize::from(c)) % SLOTS;
     }
     n
 }
@@ -541,14 +509,12 @@ pub fn stored(edition: Edition, token: &[u8]) -> StoredLabel
 {
     let x = inner(token);
     let quoted = is_quoted(token);
-    let len = least(x.len(), LABEL_LIMIT);
+    let len = x.len().min(LABEL_LIMIT);
     let mut bytes = [0u8; LABEL_LIMIT];
-    let mut i: usize = 0;
-    while i < len {
+    for i in 0..len {
         bytes[i] = decode(edition, quoted, x[i]);
-        i += 1;
     }
-    StoredLabel { bytes, len }
+    LabelBytes { bytes, len }
 }
 
 // A leaf's label, as an edition reads it, kept apart from the text.
@@ -568,14 +534,7 @@ pub fn stored_leaf(
 fn holds_underscore(label: &[u8]) -> bool
     ensures { result ≡ holds_underscore label.now }
 {
-    let mut i: usize = 0;
-    while i < label.len() {
-        if label[i] == UNDERSCORE {
-            return true;
-        }
-        i += 1;
-    }
-    false
+    label.contains(&UNDERSCORE)
 }
 
 // Byte i of a label between quotes; 0 past its end.
@@ -613,24 +572,21 @@ fn form_size(label: &[u8], quoted: bool) -> usize
     ensures { result ≡ min (length (form_of quoted label.now)) token_limit }
 {
     if quoted {
-        return least(label.len(), LABEL_LIMIT) + 2;
+        return label.len().min(LABEL_LIMIT) + 2;
     }
-    least(label.len(), TOKEN_LIMIT)
+    label.len().min(TOKEN_LIMIT)
 }
 
 // A label as it is printed: its written form, 0 after its last byte.
 pub fn shown(label: StoredLabel) -> ShownLabel
     ensures { result ≡ shown_of (stored_bytes label) }
 {
-    let own = label.bytes;
-    let x = first_bytes(&own, label.len);
+    let x = label.as_slice();
     let quoted = holds_underscore(x);
     let len = form_size(x, quoted);
     let mut bytes = [0u8; TOKEN_LIMIT];
-    let mut i: usize = 0;
-    while i < len {
+    for i in 0..len {
         bytes[i] = form_byte(x, quoted, i);
-        i += 1;
     }
-    ShownLabel { bytes, len }
+    LabelBytes { bytes, len }
 }

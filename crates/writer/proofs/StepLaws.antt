@@ -11,14 +11,12 @@ use lib.ListN.{length, get_or, take, replicate, length-append, length-take, leng
 use borrow.Author.Tests.{le-leb, lt-leb, lt-ltb, le-ltb, eq-eqb, ne_eqb}
 use Rattle.trees.specs.declared.Edition.{Edition}
 use Rattle.trees.specs.declared.Edition.TheVariants.{One}
-use Rattle.trees.specs.declared.ShownLabel.{ShownLabel}
-use Rattle.trees.specs.declared.StoredLabel.{StoredLabel}
 use Rattle.trees.specs.declared.TreeArrays.{TreeArrays}
 use Rattle.trees.specs.Label.{Label, label_limit, label_less}
 use Rattle.trees.specs.Token.{Token, spelling, token_of, token_limit}
 use Rattle.trees.specs.Arrays.{is_leaf, label_at, good_node, good_nodes}
 use Rattle.trees.specs.Edition.{in_edition, key}
-use Rattle.trees.specs.Stored.{stored_bytes, stored_of, shown_bytes, shown_of, part_of, leaf_label}
+use Rattle.trees.specs.Stored.{StoredLabel, ShownLabel, stored_bytes, stored_of, shown_bytes, shown_of, part_of, leaf_label}
 use Rattle.trees.proofs.Bools.{bool_cases, clash, and_intro}
 use Rattle.trees.proofs.ArrayLaws.{good_at}
 use Rattle.trees.proofs.FoldLaws.{fold_part, one_itself}

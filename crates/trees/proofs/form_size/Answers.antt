@@ -5,8 +5,8 @@ use Rattle.trees.proofs.form_size.Goals as goal
 
 pub returns-then-quoted : goal.returns-then-quoted
 returns-then-quoted c =
-    let x = c.args.label.now in let e = c.least.ensures in rw c.if-quoted.true (omega (arith, quoted_size x))
+    rw c.if-quoted.true (omega (arith, quoted_size c.args.label.now))
 
 pub returns : goal.returns
 returns c =
-    let x = c.args.label.now in let e = c.least-2.ensures in rw c.if-quoted.false (omega (arith, plain_size x))
+    rw c.if-quoted.false (omega (arith, plain_size c.args.label.now))

@@ -1,4 +1,4 @@
--- `is_among` meets its contract: the loop's count is the definition's. Assumes nothing.
+-- `is_among`: the loop's count is the definition's. Assumes nothing.
 use mathlib.Core.Path.{◌≡◌}
 use Rattle.trees.specs.Stored.{is_among}
 use Rattle.trees.specs.Edition.{in_edition}
@@ -6,6 +6,3 @@ use Rattle.trees.proofs.is_among.Given as goal
 
 abbrev pub invariant-loop-u : goal.invariant-loop-u
 invariant-loop-u l = is_among (in_edition l.edition l.text) l.start l.size l.u (in_edition l.edition l.token) ≡ is_among (in_edition l.edition l.text) l.start l.size l.count (in_edition l.edition l.token)
-
-abbrev pub decreases-loop-u : goal.decreases-loop-u
-decreases-loop-u l = l.u

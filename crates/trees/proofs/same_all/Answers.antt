@@ -1,4 +1,4 @@
--- `same_all` meets its contract. The loop keeps that the rests from place i on are the same exactly if the wholes are. Assumes nothing.
+-- `same_all` meets its contract. Assumes nothing.
 use mathlib.Core.Path.{sym, ◌∙◌}
 use native.Mathlib.Omega.{arith}
 use borrow.Author.Tests.{eqb-true, eqb-false}
@@ -13,8 +13,8 @@ returns-then-not-same_byte c =
 pub loop-i-preserved : goal.loop-i-preserved
 loop-i-preserved c =
     let a = c.args in let l = c.loop-i in let told = sym c.same_byte.ensures ∙ c.if-not-same_byte.false in
-    (omega arith, read_agrees a.edition a.aquoted a.bquoted a.a.now a.b.now l.i l.invariant.1 (omega arith) (omega arith) (eqb-true _ _ told))
+    read_agrees a.edition a.aquoted a.bquoted a.a.now a.b.now l.i l.invariant (omega arith) (omega arith) (eqb-true _ _ told)
 
 pub returns : goal.returns
 returns c =
-    let a = c.args in let l = c.loop-i in read_same a.edition a.aquoted a.bquoted a.a.now a.b.now l.i l.invariant.1 (omega arith) (omega arith)
+    let a = c.args in let l = c.loop-i in read_same a.edition a.aquoted a.bquoted a.a.now a.b.now l.i l.invariant (omega arith) (omega arith)
