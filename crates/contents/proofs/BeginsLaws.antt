@@ -1,34 +1,30 @@
 -- A text that begins with these bytes, or with one of some bytes. Assumes nothing.
-use Prim.Native.Nat.{ℕ, ◌+◌, ◌≤◌, ◌<◌}
-use mathlib.Core.Path.{◌≡◌, refl, ◌∙◌, ap, ap₂, subst}
+use Prim.Native.Nat.{ℕ, ◌+◌, ◌≤◌}
+use mathlib.Core.Path.{◌≡◌, refl, sym, ◌∙◌, ap, ap₂, subst}
 use mathlib.Core.Bool.{Bool, true, false, ◌&&◌, ◌||◌}
 use mathlib.Core.Logic.{◌⊎◌, inl, inr}
 use mathlib.Core.List.{List, [], ◌∷◌, ◌++◌}
 use native.Mathlib.Omega.{arith}
 use lib.Dec.{eqb}
-use lib.ListN.{length, get_or, drop, length-append, length-drop, drop_of_length-le}
-use borrow.Author.Tests.{eq-eqb, ne_eqb, eqb-true}
+use lib.ListN.{length, take, drop, length-append, length-drop}
+use borrow.Author.Tests.{eq-eqb, eqb-true}
+use Rattle.std.specs.Cmp.Lexicographic.{pointwise}
+use Rattle.std.proofs.lemmas.Bool.Decides.{nat_tests}
 use Rattle.trees.proofs.Bools.{bool_cases, clash, and_left, and_right, or_inl, or_inr}
 use Rattle.contents.specs.Contents.{begins}
-use Rattle.contents.proofs.RunLaws.{at_place}
 
-module _ (word text : List ℕ) (i k : ℕ) where
-  pub begins_same : i < length word → k < length text → get_or text k 0 ≡ get_or word i 0
-      → begins (drop i word) (drop k text) ≡ begins (drop (i + 1) word) (drop (k + 1) text)
-  unfolding begins
-  begins_same h l e = rw (at_place word i h, at_place text k l, eq-eqb (get_or text k 0) (get_or word i 0) e) refl
+eqb_turned : (b x : ℕ) → eqb b x ≡ eqb x b
+eqb_turned b x = grind (arith, nat_tests)
 
-  pub begins_other : i < length word → k < length text → (get_or text k 0 ≡ get_or word i 0 → ⊥) → begins (drop i word) (drop k text) ≡ false
-  unfolding begins
-  begins_other h l e = rw (at_place word i h, at_place text k l, ne_eqb (get_or text k 0) (get_or word i 0) e) refl
+starts_begins : (word text : List ℕ) → pointwise eqb word (take (length word) text) ≡ begins word text
+unfolding begins
+starts_begins [] text = refl
+starts_begins (b ∷ word) [] = refl
+starts_begins (b ∷ word) (x ∷ text) = ap₂ (λ (p q : Bool). p && q) (eqb_turned b x) (starts_begins word text)
 
-  pub begins_past : i < length word → length text ≤ k → begins (drop i word) (drop k text) ≡ false
-  unfolding begins
-  begins_past h l = rw (at_place word i h, drop_of_length-le text l) refl
-
-  pub begins_done : length word ≤ i → begins (drop i word) (drop k text) ≡ true
-  unfolding begins
-  begins_done h = rw (drop_of_length-le word h) refl
+-- as `starts_with` tests what is left of a text
+pub begins_tested : (word text left : List ℕ) (r : Bool) → r ≡ pointwise eqb word (take (length word) left) → left ≡ text → begins word text ≡ r
+begins_tested word text left r e f = sym (e ∙ starts_begins word left ∙ ap (begins word) f)
 
 pub begins_own : (word rest : List ℕ) → begins word (word ++ rest) ≡ true
 unfolding begins

@@ -11,20 +11,14 @@ use lib.Dec.{eqb}
 use lib.ListN.{length, drop, length-append, length-drop}
 use lib.Seq.{drop-length}
 use borrow.Author.Tests.{eq-eqb, eqb-true}
+use Rattle.std.specs.Prelude.{Some, None}
 use Rattle.trees.specs.declared.Body.{Body}
 use Rattle.trees.specs.Refusals.{letter_of}
 use Rattle.trees.specs.Words.{Within}
 use Rattle.trees.proofs.Bools.{bool_cases, clash}
 use Rattle.contents.specs.declared.Head.{Head}
-use Rattle.contents.specs.declared.Layout.{Layout}
-use Rattle.contents.specs.declared.Layout.TheVariants as layout
-use Rattle.contents.specs.declared.BodyLength.{BodyLength}
-use Rattle.contents.specs.declared.BodyLength.TheVariants as listed
-use Rattle.contents.specs.declared.Next.{Next}
-use Rattle.contents.specs.declared.Next.TheVariants as next
-use Rattle.contents.specs.declared.Span.{Span}
-use Rattle.contents.specs.declared.Span.TheVariants as span
 use Rattle.contents.specs.declared.Table.{Table}
+use Rattle.contents.specs.Contents.{BodyLength, BodySpan, Next, Layout}
 use Rattle.contents.specs.Contents.{Bodies, Entry, entries, lookup, part, bytes, line, entry_line, listed_text, head_lines, lines_then, headed, sizes, lined}
 use Rattle.contents.specs.Contents.{table_text, joined_parts, job_of, FitsEntries, compatible, WellFormed}
 use Rattle.contents.specs.Contents.{head_at, word_after, sizes_after, lines_after, spans_after, bodies_after}
@@ -60,8 +54,8 @@ table_text_lem b =
 pub entries_open : (vs : List BodyLength) (rest : List ℕ) → FitsEntries entries vs → Opens (83 ∷ []) (lined entries vs rest)
 unfolding entries listed_text entry_line line letter_of among
 entries_open [] rest f = absurd f
-entries_open (listed.Absent ∷ vs) rest f = clash refl f.0
-entries_open (listed.Bytes n ∷ vs) rest f = refl
+entries_open (None ∷ vs) rest f = clash refl f.0
+entries_open (Some n ∷ vs) rest f = refl
 
 -- no two lines begin alike, nor one like the empty line
 pub entries_apart : Apart entries (10 ∷ [])
@@ -80,7 +74,7 @@ four job h start from = refl
 
 -- the layout, if these lines and bodies go together
 abbrev layout_if : List ℕ → Head → List BodyLength → Next → Layout
-layout_if job h vs from = cond (compatible h vs) (laid_out job (table_of h (spans_after job from vs)) (bodies_after job from vs)) layout.Broken
+layout_if job h vs from = cond (compatible h vs) (laid_out job (table_of h (spans_after job from vs)) (bodies_after job from vs)) None
 
 -- ---- what is written is read
 
@@ -92,7 +86,7 @@ module _ (b : Bodies) (good : WellFormed b) where
   lines = lined entries (sizes b) (10 ∷ joined_parts b.parts)
 
   abbrev start : Next
-  start = next.At (head_at job).next
+  start = Some (head_at job).next
 
   abbrev from : Next
   from = word_after job (lines_after job start entries) (10 ∷ [])
@@ -114,17 +108,17 @@ module _ (b : Bodies) (good : WellFormed b) where
   spans_of_lem : SpansAre job from b.parts bodies_here.at
   spans_of_lem = spans_written job b.parts from bodies_here
 
-  layout_is : layout_of job ≡ layout.Laid (table_of b.head (spans_after job from (sizes b)))
+  layout_is : layout_of job ≡ Some (table_of b.head (spans_after job from (sizes b)))
   unfolding layout_of line
   layout_is =
       let end = spans_of_lem.next in
       let t : Table = table_of b.head (spans_after job from (sizes b)) in
       let at_end : end.at ≡ length job = omega (arith, end.inside, ap (length {A = ℕ}) end.rest, length-drop end.at job) in
       ap₂ (λ (h : Head) (vs : List BodyLength). layout_if job h vs from) head_of.head_is lines_of.listed
-      ∙ ap (λ (c : Bool). cond c (laid_out job t (bodies_after job from (sizes b))) layout.Broken) good.together
+      ∙ ap (λ (c : Bool). cond c (laid_out job t (bodies_after job from (sizes b))) None) good.together
       ∙ sym (laid_if job t (bodies_after job from (sizes b)) end.at end.is true (eq-eqb end.at (length job) at_end))
 
-  pub layout_written : layout_of job ≡ layout.Laid (table_of b.head (spans_from (length (table_text b)) (sizes b)))
+  pub layout_written : layout_of job ≡ Some (table_of b.head (spans_from (length (table_text b)) (sizes b)))
   unfolding job_of
   layout_written =
       let place : bodies_here.at ≡ length (table_text b) =
@@ -136,7 +130,7 @@ module _ (b : Bodies) (good : WellFormed b) where
         length-append (table_text b) (joined_parts b.parts),
       ) in
       layout_is
-      ∙ ap (λ (ss : List Span). layout.Laid (table_of b.head ss))
+      ∙ ap (λ (ss : List BodySpan). Some (table_of b.head ss))
       (spans_of_lem.spans ∙ ap (λ (n : ℕ). spans_from n (sizes b)) place)
 
   pub contents_written : bodies_of job ≡ some b
@@ -150,28 +144,28 @@ module _ (b : Bodies) (good : WellFormed b) where
 
 -- ---- what is read is written
 
-not_laid : {t : Table} → layout.Broken ≡ layout.Laid t → ⊥
+not_laid : {t : Table} → None ≡ Some t → ⊥
 not_laid e = let z : ◌≡◌ {A = ℕ} 0 1 = cc in omega arith
 
-settled : (c : Bool) (l : Layout) (t : Table) → cond c l layout.Broken ≡ layout.Laid t → (c ≡ true) × (l ≡ layout.Laid t)
+settled : (c : Bool) (l : Layout) (t : Table) → cond c l None ≡ Some t → (c ≡ true) × (l ≡ Some t)
 settled true l t e = (refl, e)
 settled false l t e = absurd (not_laid e)
 
 -- the last body ends where the job does
 record Ended (job : List ℕ) (made t : Table) (end : Next) : Type 0 where
   same : made ≡ t
-  is : end ≡ next.At (length job)
+  is : end ≡ Some (length job)
 
-ended : (job : List ℕ) (made t : Table) (end : Next) → laid_out job made end ≡ layout.Laid t → Ended job made t end
+ended : (job : List ℕ) (made t : Table) (end : Next) → laid_out job made end ≡ Some t → Ended job made t end
 unfolding laid_out
-ended job made t next.Broken e = absurd (not_laid e)
-ended job made t (next.At at) e = go (bool_cases (eqb at (length job)))
+ended job made t None e = absurd (not_laid e)
+ended job made t (Some at) e = go (bool_cases (eqb at (length job)))
   where
-    go : (eqb at (length job) ≡ true) ⊎ (eqb at (length job) ≡ false) → Ended job made t (next.At at)
+    go : (eqb at (length job) ≡ true) ⊎ (eqb at (length job) ≡ false) → Ended job made t (Some at)
     go (inr h) = absurd (not_laid (rw h at e))
     go (inl h) =
-        let g : layout.Laid made ≡ layout.Laid t = rw h at e in
-        record { same = cc; is = ap (λ (n : ℕ). next.At n) (eqb-true at (length job) h) }
+        let g : Some made ≡ Some t = rw h at e in
+        record { same = cc; is = ap (λ (n : ℕ). Some n) (eqb-true at (length job) h) }
 
 -- the bodies of a job that was laid out
 pub record Read (job : List ℕ) (t : Table) : Type 0 where
@@ -179,9 +173,9 @@ pub record Read (job : List ℕ) (t : Table) : Type 0 where
   pub fits : WellFormed (bodies_in job t)
   pub inside : AllInside job (spans_of t)
 
-module _ (job : List ℕ) (t : Table) (e : layout_of job ≡ layout.Laid t) where
+module _ (job : List ℕ) (t : Table) (e : layout_of job ≡ Some t) where
   abbrev first_line : Next
-  first_line = next.At (head_at job).next
+  first_line = Some (head_at job).next
 
   abbrev vs : List BodyLength
   vs = sizes_after job first_line entries
@@ -189,13 +183,13 @@ module _ (job : List ℕ) (t : Table) (e : layout_of job ≡ layout.Laid t) wher
   abbrev first_body : Next
   first_body = word_after job (lines_after job first_line entries) (10 ∷ [])
 
-  abbrev ss : List Span
+  abbrev ss : List BodySpan
   ss = spans_after job first_body vs
 
   abbrev made : Table
   made = table_of (head_at job).head ss
 
-  allowed : (compatible (head_at job).head vs ≡ true) × (laid_out job made (bodies_after job first_body vs) ≡ layout.Laid t)
+  allowed : (compatible (head_at job).head vs ≡ true) × (laid_out job made (bodies_after job first_body vs) ≡ Some t)
   unfolding layout_of line
   allowed = settled (compatible (head_at job).head vs) (laid_out job made (bodies_after job first_body vs)) t e
 
@@ -227,7 +221,7 @@ module _ (job : List ℕ) (t : Table) (e : layout_of job ≡ layout.Laid t) wher
   made_read =
       let b : Bodies = record { head = (head_at job).head; parts = parts } in
       let whole : bodies_in job made ≡ b =
-      ap (λ (xs : List Span). record { head = (head_at job).head; parts = map (span_in job) xs }) (four job (head_at job).head first_line first_body) in
+      ap (λ (xs : List BodySpan). record { head = (head_at job).head; parts = map (span_in job) xs }) (four job (head_at job).head first_line first_body) in
       let sized : sizes b ≡ vs = bodies_took.sizes in
       let text : job ≡ job_of b =
       made_text ∙ ap (λ (xs : List BodyLength). headed (head_at job).head (lined entries xs (10 ∷ joined_parts parts))) (sym sized) ∙ sym (table_text_lem b) in
@@ -252,8 +246,8 @@ unfolding bodies_of bodies_from
 contents_read job b e = go (layout_of job) refl e
   where
     go : (l : Layout) → layout_of job ≡ l → bodies_from job l ≡ some b → (job ≡ job_of b) × WellFormed b
-    go layout.Broken k h = absurd (none_some b h)
-    go (layout.Laid t) k h =
+    go None k h = absurd (none_some b h)
+    go (Some t) k h =
         let w = laid_read job t k in
         let m : bodies_in job t ≡ b = cc in
         subst (λ (c : Bodies). (job ≡ job_of c) × WellFormed c) m (w.text, w.fits)
@@ -267,16 +261,16 @@ contents_exactly job b =
 pub contents_once : (b c : Bodies) → WellFormed b → WellFormed c → job_of b ≡ job_of c → b ≡ c
 contents_once b c p q e = let h = sym (contents_written b p) ∙ ap bodies_of e ∙ contents_written c q in cc
 
-pub laid_exactly : (job : List ℕ) (t : Table) → (layout_of job ≡ layout.Laid t) ↔ LaidAs job t
+pub laid_exactly : (job : List ℕ) (t : Table) → (layout_of job ≡ Some t) ↔ LaidAs job t
 laid_exactly job t = (
-  λ (e : layout_of job ≡ layout.Laid t).
+  λ (e : layout_of job ≡ Some t).
       let w = laid_read job t e in
       let b : Bodies = bodies_in job t in
-      let k : layout.Laid t ≡ layout.Laid (table_of b.head (spans_from (length (table_text b)) (sizes b))) =
+      let k : Some t ≡ Some (table_of b.head (spans_from (length (table_text b)) (sizes b))) =
       sym e ∙ ap layout_of w.text ∙ layout_written b w.fits in
       record { bodies = b; text = w.text; fits = w.fits; table = cc },
   λ (w : LaidAs job t).
-      ap layout_of w.text ∙ layout_written w.bodies w.fits ∙ ap (λ (u : Table). layout.Laid u) (sym w.table),
+      ap layout_of w.text ∙ layout_written w.bodies w.fits ∙ ap (λ (u : Table). Some u) (sym w.table),
 )
 
 -- each body stands where its place says
@@ -285,29 +279,29 @@ unfolding bodies_of bodies_from body_place part
 body_stands job b e body = go (layout_of job) refl e
   where
     go : (l : Layout) → layout_of job ≡ l → bodies_from job l ≡ some b → Within job (body_place body l) (bytes (lookup none body entries b.parts))
-    go layout.Broken k h = absurd (none_some b h)
-    go (layout.Laid t) k h =
+    go None k h = absurd (none_some b h)
+    go (Some t) k h =
         let m : bodies_in job t ≡ b = cc in
-        let s : Span = lookup span.Absent body entries (spans_of t) in
+        let s : BodySpan = lookup None body entries (spans_of t) in
         subst (λ (c : Bodies). Within job (place_of s) (bytes (lookup none body entries c.parts))) m
         (subst (λ (p : Option (List ℕ)). Within job (place_of s) (bytes p)) (sym (lookup_part job body entries (spans_of t)))
         (span_within job s (lookup_inside job body entries (spans_of t) (laid_read job t k).inside)))
 
 -- and ends in the job
-pub body_ends : (job : List ℕ) (t : Table) → layout_of job ≡ layout.Laid t → (body : Body)
-    → place_of (lookup span.Absent body entries (spans_of t)) + length (bytes (span_in job (lookup span.Absent body entries (spans_of t)))) ≤ length job
+pub body_ends : (job : List ℕ) (t : Table) → layout_of job ≡ Some t → (body : Body)
+    → place_of (lookup None body entries (spans_of t)) + length (bytes (span_in job (lookup None body entries (spans_of t)))) ≤ length job
 body_ends job t e body =
-    span_ends job (lookup span.Absent body entries (spans_of t)) (lookup_inside job body entries (spans_of t) (laid_read job t e).inside)
+    span_ends job (lookup None body entries (spans_of t)) (lookup_inside job body entries (spans_of t) (laid_read job t e).inside)
 
 -- no bodies are those of a job whose contents break their rules
-pub broken_exactly : (job : List ℕ) → (layout_of job ≡ layout.Broken) ↔ ((b : Bodies) → job ≡ job_of b → WellFormed b → ⊥)
+pub broken_exactly : (job : List ℕ) → (layout_of job ≡ None) ↔ ((b : Bodies) → job ≡ job_of b → WellFormed b → ⊥)
 unfolding bodies_of bodies_from
 broken_exactly job = (
-  λ (e : layout_of job ≡ layout.Broken) (b : Bodies) (t : job ≡ job_of b) (f : WellFormed b).
+  λ (e : layout_of job ≡ None) (b : Bodies) (t : job ≡ job_of b) (f : WellFormed b).
       none_some b (sym (ap (bodies_from job) e) ∙ (contents_exactly job b).1 (t, f)),
   λ (never : (b : Bodies) → job ≡ job_of b → WellFormed b → ⊥). go never (layout_of job) refl,
 )
   where
-    go : ((b : Bodies) → job ≡ job_of b → WellFormed b → ⊥) → (l : Layout) → layout_of job ≡ l → l ≡ layout.Broken
-    go never layout.Broken k = refl
-    go never (layout.Laid t) k = let w = laid_read job t k in absurd (never (bodies_in job t) w.text w.fits)
+    go : ((b : Bodies) → job ≡ job_of b → WellFormed b → ⊥) → (l : Layout) → layout_of job ≡ l → l ≡ None
+    go never None k = refl
+    go never (Some t) k = let w = laid_read job t k in absurd (never (bodies_in job t) w.text w.fits)

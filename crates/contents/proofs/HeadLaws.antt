@@ -7,13 +7,13 @@ use mathlib.Core.List.{List, [], ◌∷◌, ◌++◌}
 use native.Mathlib.Omega.{arith}
 use lib.ListN.{length, drop}
 use lib.Seq.{drop-drop}
+use Rattle.trees.specs.declared.Edition.TheVariants as edition
+use Rattle.std.specs.Prelude.{Some, None}
 use Rattle.trees.specs.Words.{bytes_of}
 use Rattle.trees.proofs.Bools.{bool_cases, clash}
-use Rattle.contents.specs.declared.Flag.{Flag}
 use Rattle.contents.specs.declared.Head.{Head}
-use Rattle.contents.specs.declared.Stated.{Stated}
-use Rattle.contents.specs.declared.Stated.TheVariants as states
 use Rattle.contents.specs.declared.StatedAt.{StatedAt}
+use Rattle.contents.specs.Contents.{Stated, Flag}
 use Rattle.contents.specs.Contents.{line, line_if, strict_text, edition_text, pieces_text, headed, begins, flag_at, stated_at, head_at}
 use Rattle.contents.proofs.BeginsLaws.{begins_own, begins_split, begins_inside, among, Opens, opens_more, opens_own, opens_other}
 use Rattle.contents.proofs.PlaceLaws.{rest_past, inside_past}
@@ -27,14 +27,14 @@ pub record NoEdition (rest : List ℕ) : Type 0 where
 -- after these lines none stands that could still be taken
 pub record Past (h : Head) (rest : List ℕ) : Type 0 where
   pub strict : h.strict ≡ false → begins (line (bytes_of "strict")) (edition_text h.stated ++ (pieces_text h.pieces ++ rest)) ≡ false
-  pub edition : h.stated ≡ states.Nothing → NoEdition (pieces_text h.pieces ++ rest)
+  pub edition : h.stated ≡ None → NoEdition (pieces_text h.pieces ++ rest)
   pub pieces : h.pieces ≡ false → begins (line (bytes_of "pieces")) rest ≡ false
 
 opens_edition : (stated : Stated) (bs rest : List ℕ) → Opens bs rest → Opens (69 ∷ bs) (edition_text stated ++ rest)
 unfolding edition_text line bytes_of
-opens_edition states.Nothing bs rest o = opens_more 69 bs rest o
-opens_edition states.One bs rest o = opens_own 69 bs []
-opens_edition states.Two bs rest o = opens_own 69 bs []
+opens_edition None bs rest o = opens_more 69 bs rest o
+opens_edition (Some edition.One) bs rest o = opens_own 69 bs []
+opens_edition (Some edition.Two) bs rest o = opens_own 69 bs []
 
 opens_pieces : (on : Bool) (bs rest : List ℕ) → Opens bs rest → Opens (112 ∷ bs) (pieces_text on ++ rest)
 unfolding pieces_text line bytes_of
@@ -53,15 +53,15 @@ opens_past h rest o =
       pieces = λ e. opens_other 112 _ rest (83 ∷ []) o refl;
     }
 
-edition_not_strict : (stated : Stated) (rest : List ℕ) → (stated ≡ states.Nothing → ⊥)
+edition_not_strict : (stated : Stated) (rest : List ℕ) → (stated ≡ None → ⊥)
     → begins (line (bytes_of "strict")) (edition_text stated ++ rest) ≡ false
 unfolding begins line bytes_of edition_text
-edition_not_strict states.Nothing rest said = absurd (said refl)
-edition_not_strict states.One rest said = refl
-edition_not_strict states.Two rest said = refl
+edition_not_strict None rest said = absurd (said refl)
+edition_not_strict (Some edition.One) rest said = refl
+edition_not_strict (Some edition.Two) rest said = refl
 
 -- and after a line of the edition
-pub stated_past : (h : Head) (rest : List ℕ) → (h.stated ≡ states.Nothing → ⊥) → begins (line (bytes_of "pieces")) rest ≡ false → Past h rest
+pub stated_past : (h : Head) (rest : List ℕ) → (h.stated ≡ None → ⊥) → begins (line (bytes_of "pieces")) rest ≡ false → Past h rest
 stated_past h rest said other =
     record {
       strict = λ e. edition_not_strict h.stated (pieces_text h.pieces ++ rest) said;
@@ -72,9 +72,9 @@ stated_past h rest said other =
 pieces_not_strict : (stated : Stated) (rest : List ℕ)
     → begins (line (bytes_of "strict")) (edition_text stated ++ (line (bytes_of "pieces") ++ rest)) ≡ false
 unfolding begins line bytes_of edition_text
-pieces_not_strict states.Nothing rest = refl
-pieces_not_strict states.One rest = refl
-pieces_not_strict states.Two rest = refl
+pieces_not_strict None rest = refl
+pieces_not_strict (Some edition.One) rest = refl
+pieces_not_strict (Some edition.Two) rest = refl
 
 pieces_not_edition : (rest : List ℕ) → NoEdition (line (bytes_of "pieces") ++ rest)
 unfolding begins line bytes_of
@@ -142,25 +142,25 @@ module _ (job : List ℕ) where
     abbrev second : List ℕ
     second = line (bytes_of "E 2")
 
-    one_read : begins first (drop at job) ≡ true → ◌≡◌ {A = StatedAt} (record { stated = states.One; next = at + length first }) (stated_at job at)
+    one_read : begins first (drop at job) ≡ true → ◌≡◌ {A = StatedAt} (record { stated = Some edition.One; next = at + length first }) (stated_at job at)
     one_read e = stated_one job at (record { on = true; next = at + length first }) (flag_if job at first true e) refl
 
     other_read : (b : Bool) → begins first (drop at job) ≡ false → begins second (drop at job) ≡ b
-        → cond b (record { stated = states.Two; next = cond b (at + length second) at }) (record { stated = states.Nothing; next = cond b (at + length second) at })
+        → cond b (record { stated = Some edition.Two; next = cond b (at + length second) at }) (record { stated = None; next = cond b (at + length second) at })
         ≡ stated_at job at
     other_read b e f =
         stated_other job at (record { on = false; next = at }) (flag_if job at first false e) (record { on = b; next = cond b (at + length second) at })
         (flag_if job at second b f) refl b refl
 
-  stated_written : (at : ℕ) (stated : Stated) (rest : List ℕ) → (stated ≡ states.Nothing → NoEdition rest) → LeftAt at (edition_text stated ++ rest)
+  stated_written : (at : ℕ) (stated : Stated) (rest : List ℕ) → (stated ≡ None → NoEdition rest) → LeftAt at (edition_text stated ++ rest)
       → StatedIs at stated rest
   unfolding edition_text
-  stated_written at states.One rest past h =
+  stated_written at (Some edition.One) rest past h =
       stated_as at rest _ (one_read at (ap (begins (first at)) h.rest ∙ begins_own (first at) rest)) (left_past at (first at) rest h)
-  stated_written at states.Two rest past h =
+  stated_written at (Some edition.Two) rest past h =
       stated_as at rest _ (other_read at true (ap (begins (first at)) h.rest ∙ two_not_one rest) (ap (begins (second at)) h.rest ∙ begins_own (second at) rest))
       (left_past at (second at) rest h)
-  stated_written at states.Nothing rest past h =
+  stated_written at None rest past h =
       stated_as at rest _ (other_read at false (ap (begins (first at)) h.rest ∙ (past refl).one) (ap (begins (second at)) h.rest ∙ (past refl).two)) h
 
   pub record HeadIs (h : Head) (rest : List ℕ) : Type 0 where

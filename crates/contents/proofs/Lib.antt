@@ -1,5 +1,6 @@
 pub mod BeginsLaws
 pub mod BrokenLaws
+pub mod ChainLaws
 pub mod ContentsLaws
 pub mod HeadLaws
 pub mod NumberLaws

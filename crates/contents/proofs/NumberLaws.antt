@@ -10,11 +10,12 @@ use lib.Dec.{eqb, leb}
 use lib.ListN.{length, get_or, drop, take-append-drop}
 use lib.Seq.{drop-drop}
 use borrow.Author.Tests.{eqb-true, leb-true, le-leb, ne_eqb, eqb-false, not-true}
+use Rattle.std.specs.Prelude.{Some, None}
 use Rattle.trees.proofs.Bools.{bool_cases, and_left, and_right, and_intro, or_cases}
-use Rattle.contents.specs.declared.decimal.Digits.TheVariants as digits
+use Rattle.contents.specs.declared.decimal.Number.{Number}
 use Rattle.decimals.specs.Decimal.{decimal_from, decimal_of, is_digit, digit_run, value_from}
 use Rattle.decimals.proofs.DecimalLaws.{all_digits, from_small, from_digits, from_some, from_few, no_leading_zero, decimal_value, from_read, value_below, digit_small}
-use Rattle.contents.specs.Contents.{digit_limit, good_digits, number_of_run, number_at}
+use Rattle.contents.specs.Contents.{Digits, digit_limit, good_digits, number_of_run, number_at}
 use Rattle.contents.proofs.RunLaws.{run_first}
 
 -- ---- what is written is read
@@ -53,12 +54,12 @@ good_written n small =
         rw (e, ne_eqb (get_or (decimal_of n) 0 0) 48 (decimal_first n small (eqb-false (length (decimal_of n)) 1 e))) refl
 
 pub number_written : (job : List ℕ) (at n : ℕ) (rest : List ℕ) → n < 10 ^ digit_limit → drop at job ≡ decimal_of n ++ (10 ∷ rest)
-    → number_at job at ≡ digits.Value n (at + length (decimal_of n))
+    → number_at job at ≡ Some (record { value = n; next = (at + length (decimal_of n)) })
 unfolding number_at number_of_run
 number_written job at n rest small here =
     let run : digit_run (drop at job) ≡ decimal_of n =
     ap digit_run here ∙ run_all (decimal_of n) 10 rest (unfold decimal_of in from_digits 20 n) line_end_plain in
-    rw (run, good_written n small) (ap (λ (v : ℕ). digits.Value v (at + length (decimal_of n))) (decimal_value n (omega arith)))
+    rw (run, good_written n small) (ap (λ (v : ℕ). Some (record { value = v; next = (at + length (decimal_of n)) })) (decimal_value n (omega arith)))
 
 -- ---- what is read is written
 
@@ -125,11 +126,11 @@ pub record NumberTook (job : List ℕ) (at n end : ℕ) : Type 0 where
   pub text : drop at job ≡ decimal_of n ++ drop end job
   pub small : n < 10 ^ digit_limit
 
-pub number_took : (job : List ℕ) (at n end : ℕ) → number_at job at ≡ digits.Value n end → NumberTook job at n end
+pub number_took : (job : List ℕ) (at n end : ℕ) → number_at job at ≡ Some (record { value = n; next = end }) → NumberTook job at n end
 unfolding number_at number_of_run
 number_took job at n end h = go (bool_cases (good_digits (digit_run (drop at job))))
   where
-    broken : digits.Broken ≡ digits.Value n end → ⊥
+    broken : ◌≡◌ {A = Digits} None (Some (record { value = n; next = end })) → ⊥
     broken e = let z : ◌≡◌ {A = ℕ} 0 1 = cc in omega arith
 
     go : (good_digits (digit_run (drop at job)) ≡ true) ⊎ (good_digits (digit_run (drop at job)) ≡ false) → NumberTook job at n end
@@ -137,9 +138,10 @@ number_took job at n end h = go (bool_cases (good_digits (digit_run (drop at job
     go (inl e) =
         let r : List ℕ = digit_run (drop at job) in
         let g = good_run r e in
-        let k : digits.Value (value_from 0 r) (at + length r) ≡ digits.Value n end = rw e at h in
-        let v : value_from 0 r ≡ n = cc in
-        let p : at + length r ≡ end = cc in
+        let k : ◌≡◌ {A = Digits} (Some (record { value = value_from 0 r; next = at + length r })) (Some (record { value = n; next = end })) = rw e at h in
+        let same : ◌≡◌ {A = Number} (record { value = value_from 0 r; next = at + length r }) (record { value = n; next = end }) = cc in
+        let v : value_from 0 r ≡ n = ap (λ (d : Number). d.value) same in
+        let p : at + length r ≡ end = ap (λ (d : Number). d.next) same in
         record {
           text =
               sym (take-append-drop (length r) (drop at job))

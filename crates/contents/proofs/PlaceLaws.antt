@@ -7,37 +7,32 @@ use mathlib.Core.List.{List, [], ◌∷◌, ◌++◌, append_assoc}
 use native.Mathlib.Omega.{arith}
 use lib.ListN.{length, drop, length-append, length-drop}
 use lib.Seq.{drop-append_seam, drop-drop}
+use Rattle.std.specs.Prelude.{Some, None}
 use Rattle.trees.specs.Refusals.{letter_of}
 use Rattle.trees.proofs.Bools.{bool_cases}
 use Rattle.decimals.specs.Decimal.{decimal_of}
-use Rattle.contents.specs.declared.Line.{Line}
-use Rattle.contents.specs.declared.BodyLength.{BodyLength}
-use Rattle.contents.specs.declared.BodyLength.TheVariants as listed
-use Rattle.contents.specs.declared.Next.{Next}
-use Rattle.contents.specs.declared.Next.TheVariants as next
-use Rattle.contents.specs.declared.decimal.Digits.{Digits}
-use Rattle.contents.specs.declared.decimal.Digits.TheVariants as digits
+use Rattle.contents.specs.Contents.{BodyLength, Next, Digits, Listing}
 use Rattle.contents.specs.Contents.{digit_limit, Entry, line, entry_line, listed_text, lined, FitsLine, FitsEntries, begins, number_at}
 use Rattle.contents.specs.Contents.{word_after, counted, line_after, sizes_after, lines_after}
 use Rattle.contents.proofs.BeginsLaws.{begins_own, begins_split, begins_inside, among, Opens, opens_more, opens_own, opens_other}
 use Rattle.contents.proofs.NumberLaws.{number_written, number_took}
 use Rattle.contents.proofs.StepLaws.{word_if, line_broken, line_other, line_own, counted_value}
 
-pub not_broken : {at : ℕ} → next.Broken ≡ next.At at → ⊥
+pub not_broken : {at : ℕ} → None ≡ Some at → ⊥
 not_broken e = let z : ◌≡◌ {A = ℕ} 0 1 = cc in omega arith
 
 module _ (job : List ℕ) where
   -- reading has come to a place of the job, and this text is what is left
   pub record Here (from : Next) (text : List ℕ) : Type 0 where
     pub at : ℕ
-    pub is : from ≡ next.At at
+    pub is : from ≡ Some at
     pub rest : drop at job ≡ text
     pub inside : at ≤ length job
 
   -- reading that came to a place has come from one with this text
   pub record Took (from : Next) (text : List ℕ) (end : ℕ) : Type 0 where
     pub at : ℕ
-    pub is : from ≡ next.At at
+    pub is : from ≡ Some at
     pub rest : drop at job ≡ text
     pub inside : at ≤ length job → end ≤ length job
 
@@ -66,12 +61,12 @@ module _ (job : List ℕ) where
     pub listed : (line_after job from e).listed ≡ v
     pub next : Here (line_after job from e).next rest
 
-  line_is : (from : Next) (e : Entry) (v : BodyLength) (rest : List ℕ) (l : Line) → l ≡ line_after job from e → l.listed ≡ v → Here l.next rest
+  line_is : (from : Next) (e : Entry) (v : BodyLength) (rest : List ℕ) (l : Listing) → l ≡ line_after job from e → l.listed ≡ v → Here l.next rest
       → LineIs from e v rest
-  line_is from e v rest l i a h = record { listed = ap (λ (x : Line). x.listed) (sym i) ∙ a; next = subst (λ (x : Line). Here x.next rest) i h }
+  line_is from e v rest l i a h = record { listed = ap (λ (x : Listing). x.listed) (sym i) ∙ a; next = subst (λ (x : Listing). Here x.next rest) i h }
 
   pub entry_written : (from : Next) (e : Entry) (n : ℕ) (rest : List ℕ) → n < 10 ^ digit_limit → Here from (entry_line e.body n ++ rest)
-      → LineIs from e (listed.Bytes n) rest
+      → LineIs from e (Some n) rest
   unfolding entry_line line
   entry_written from e n rest small h =
       let opening : List ℕ = letter_of e.body ∷ 32 ∷ [] in
@@ -81,13 +76,13 @@ module _ (job : List ℕ) where
       let two : drop (h.at + 2) job ≡ after = rest_past h.at opening after text in
       let number = number_written job (h.at + 2) n rest small two in
       let last : ℕ = h.at + 2 + length (decimal_of n) in
-      line_is from e (listed.Bytes n) rest
-      (record { listed = listed.Bytes n; next = word_after job (next.At last) (10 ∷ []) })
-      (counted_value job (number_at job (h.at + 2)) n last number (word_after job (next.At last) (10 ∷ [])) refl
+      line_is from e (Some n) rest
+      (record { listed = Some n; next = word_after job (Some last) (10 ∷ []) })
+      (counted_value job (number_at job (h.at + 2)) n last number (word_after job (Some last) (10 ∷ [])) refl
       ∙ line_own job from e h.at h.is (letter_of e.body) refl (ap (begins opening) text ∙ begins_own opening after)
       (number_at job (h.at + 2)) refl)
       refl
-      (word_written (10 ∷ []) rest (next.At last)
+      (word_written (10 ∷ []) rest (Some last)
       (record {
         at = last;
         is = refl;
@@ -96,9 +91,9 @@ module _ (job : List ℕ) where
       }))
 
   lack_written : (from : Next) (e : Entry) (rest : List ℕ) → e.needed ≡ false → begins (letter_of e.body ∷ 32 ∷ []) rest ≡ false → Here from rest
-      → LineIs from e listed.Absent rest
+      → LineIs from e None rest
   lack_written from e rest needed other h =
-      line_is from e listed.Absent rest (record { listed = listed.Absent; next = next.At h.at })
+      line_is from e None rest (record { listed = None; next = Some h.at })
       (line_other job from e h.at h.is (letter_of e.body) refl (ap (begins (letter_of e.body ∷ 32 ∷ [])) h.rest ∙ other) false needed)
       refl (record { at = h.at; is = refl; rest = h.rest; inside = h.inside })
 
@@ -116,9 +111,9 @@ unfolding listed_text entry_line line
 opens_lined [] [] rest bs f o = o
 opens_lined [] (v ∷ vs) rest bs f o = absurd f
 opens_lined (e ∷ es) [] rest bs f o = absurd f
-opens_lined (e ∷ es) (listed.Absent ∷ vs) rest bs f o =
+opens_lined (e ∷ es) (None ∷ vs) rest bs f o =
     opens_more (letter_of e.body) (letters es bs) (lined es vs rest) (opens_lined es vs rest bs f.1 o)
-opens_lined (e ∷ es) (listed.Bytes n ∷ vs) rest bs f o = opens_own (letter_of e.body) (letters es bs) []
+opens_lined (e ∷ es) (Some n ∷ vs) rest bs f o = opens_own (letter_of e.body) (letters es bs) []
 
 module _ (job : List ℕ) where
   -- the lines of the bodies, and what follows them
@@ -138,27 +133,27 @@ module _ (job : List ℕ) where
   lines_written [] [] rest bs from f a o h = record { listed = refl; next = h }
   lines_written [] (v ∷ vs) rest bs from f a o h = absurd f
   lines_written (e ∷ es) [] rest bs from f a o h = absurd f
-  lines_written (e ∷ es) (listed.Absent ∷ vs) rest bs from f a o h =
+  lines_written (e ∷ es) (None ∷ vs) rest bs from f a o h =
       let l = lack_written job from e (lined es vs rest) f.0
       (opens_other (letter_of e.body) (32 ∷ []) (lined es vs rest) (letters es bs) (opens_lined es vs rest bs f.1 o) a.0) h in
-      more_lines from e es listed.Absent vs (lined es vs rest) rest l
+      more_lines from e es None vs (lined es vs rest) rest l
       (lines_written es vs rest bs (line_after job from e).next f.1 a.1 o l.next)
-  lines_written (e ∷ es) (listed.Bytes n ∷ vs) rest bs from f a o h =
+  lines_written (e ∷ es) (Some n ∷ vs) rest bs from f a o h =
       let l = entry_written job from e n (lined es vs rest) f.0 h in
-      more_lines from e es (listed.Bytes n) vs (lined es vs rest) rest l
+      more_lines from e es (Some n) vs (lined es vs rest) rest l
       (lines_written es vs rest bs (line_after job from e).next f.1 a.1 o l.next)
 
   -- ---- what is read is written
 
-  pub word_took : (word : List ℕ) (from : Next) (end : ℕ) → word_after job from word ≡ next.At end → Took job from (word ++ drop end job) end
+  pub word_took : (word : List ℕ) (from : Next) (end : ℕ) → word_after job from word ≡ Some end → Took job from (word ++ drop end job) end
   unfolding word_after
-  word_took word next.Broken end h = absurd (not_broken h)
-  word_took word (next.At at) end h = go (bool_cases (begins word (drop at job)))
+  word_took word None end h = absurd (not_broken h)
+  word_took word (Some at) end h = go (bool_cases (begins word (drop at job)))
     where
-      go : (begins word (drop at job) ≡ true) ⊎ (begins word (drop at job) ≡ false) → Took job (next.At at) (word ++ drop end job) end
+      go : (begins word (drop at job) ≡ true) ⊎ (begins word (drop at job) ≡ false) → Took job (Some at) (word ++ drop end job) end
       go (inr e) = absurd (not_broken (rw e at h))
       go (inl e) =
-          let g : next.At (at + length word) ≡ next.At end = rw e at h in
+          let g : Some (at + length word) ≡ Some end = rw e at h in
           let p : at + length word ≡ end = cc in
           record {
             at = at;
@@ -176,10 +171,10 @@ module _ (job : List ℕ) where
     pub fits : FitsLine e v
 
   module _ (e : Entry) (at end : ℕ) where
-    abbrev LineTold : Line → Type 0
-    LineTold l = l.next ≡ next.At end → LineTook (next.At at) e l.listed end
+    abbrev LineTold : Listing → Type 0
+    LineTold l = l.next ≡ Some end → LineTook (Some at) e l.listed end
 
-    lacking_took : (b : Bool) → e.needed ≡ b → LineTold (record { listed = listed.Absent; next = cond b next.Broken (next.At at) })
+    lacking_took : (b : Bool) → e.needed ≡ b → LineTold (record { listed = None; next = cond b None (Some at) })
     unfolding listed_text
     lacking_took true n h = absurd (not_broken h)
     lacking_took false n h =
@@ -188,10 +183,12 @@ module _ (job : List ℕ) where
 
     counted_took : begins (letter_of e.body ∷ 32 ∷ []) (drop at job) ≡ true → (d : Digits) → number_at job (at + 2) ≡ d → LineTold (counted job d)
     unfolding counted listed_text entry_line line
-    counted_took b digits.Broken n h = absurd (not_broken h)
-    counted_took b (digits.Value m after) n h =
+    counted_took b None n h = absurd (not_broken h)
+    counted_took b (Some d) n h =
+        let m : ℕ = d.value in
+        let after : ℕ = d.next in
         let opening : List ℕ = letter_of e.body ∷ 32 ∷ [] in
-        let w = word_took (10 ∷ []) (next.At after) end h in
+        let w = word_took (10 ∷ []) (Some after) end h in
         let same : after ≡ w.at = let g = w.is in cc in
         let t = number_took job (at + 2) m after n in
         let text : drop at job ≡ opening ++ (decimal_of m ++ (10 ∷ drop end job)) =
@@ -209,18 +206,18 @@ module _ (job : List ℕ) where
           fits = t.small;
         }
 
-  pub line_took : (e : Entry) (from : Next) (end : ℕ) → (line_after job from e).next ≡ next.At end → LineTook from e (line_after job from e).listed end
-  line_took e next.Broken end h =
-      absurd (not_broken (ap (λ (l : Line). l.next) (line_broken job next.Broken e refl) ∙ h))
-  line_took e (next.At at) end h = go (bool_cases (begins (letter_of e.body ∷ 32 ∷ []) (drop at job))) h
+  pub line_took : (e : Entry) (from : Next) (end : ℕ) → (line_after job from e).next ≡ Some end → LineTook from e (line_after job from e).listed end
+  line_took e None end h =
+      absurd (not_broken (ap (λ (l : Listing). l.next) (line_broken job None e refl) ∙ h))
+  line_took e (Some at) end h = go (bool_cases (begins (letter_of e.body ∷ 32 ∷ []) (drop at job))) h
     where
       go : (begins (letter_of e.body ∷ 32 ∷ []) (drop at job) ≡ true) ⊎ (begins (letter_of e.body ∷ 32 ∷ []) (drop at job) ≡ false)
-          → LineTold e at end (line_after job (next.At at) e)
+          → LineTold e at end (line_after job (Some at) e)
       go (inl b) =
-          subst (LineTold e at end) (line_own job (next.At at) e at refl (letter_of e.body) refl b (number_at job (at + 2)) refl)
+          subst (LineTold e at end) (line_own job (Some at) e at refl (letter_of e.body) refl b (number_at job (at + 2)) refl)
           (counted_took e at end b (number_at job (at + 2)) refl)
       go (inr b) =
-          subst (LineTold e at end) (line_other job (next.At at) e at refl (letter_of e.body) refl b e.needed refl)
+          subst (LineTold e at end) (line_other job (Some at) e at refl (letter_of e.body) refl b e.needed refl)
           (lacking_took e at end e.needed refl)
 
   -- the lines that were read
@@ -228,7 +225,7 @@ module _ (job : List ℕ) where
     pub text : Took job from (lined es (sizes_after job from es) (drop end job)) end
     pub fits : FitsEntries es (sizes_after job from es)
 
-  pub lines_took : (es : List Entry) (from : Next) (end : ℕ) → lines_after job from es ≡ next.At end → LinesTook from es end
+  pub lines_took : (es : List Entry) (from : Next) (end : ℕ) → lines_after job from es ≡ Some end → LinesTook from es end
   unfolding sizes_after lines_after
   lines_took [] from end h = record { text = record { at = end; is = h; rest = refl; inside = λ i. i }; fits = tt }
   lines_took (e ∷ es) from end h =

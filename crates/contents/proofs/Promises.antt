@@ -6,17 +6,15 @@ use mathlib.Core.Bool.{Bool, true, false}
 use mathlib.Core.List.{List, [], ◌++◌}
 use mathlib.Core.Option.{Option, some, none}
 use lib.ListN.{length}
+use Rattle.std.specs.Prelude.{Some, None}
 use Rattle.trees.specs.declared.Body.{Body}
 use Rattle.trees.specs.declared.Body.TheVariants.{S, T, K, C}
 use Rattle.trees.specs.declared.Edition.TheVariants as edition
 use Rattle.trees.specs.Refusals.{value, row}
 use Rattle.trees.specs.Words.{bytes_of, Within}
-use Rattle.contents.specs.declared.BodyLength.{BodyLength}
 use Rattle.contents.specs.declared.Head.{Head}
-use Rattle.contents.specs.declared.Layout.TheVariants as layout
-use Rattle.contents.specs.declared.Stated.{Stated}
-use Rattle.contents.specs.declared.Stated.TheVariants as states
 use Rattle.contents.specs.declared.Table.{Table}
+use Rattle.contents.specs.Contents.{Stated, BodyLength}
 use Rattle.contents.specs.Contents.{digit_limit, Bodies, plain, under, edition_of, part, bytes, claim_text, claiming, before_claim, base_bodies, base_text}
 use Rattle.contents.specs.Contents.{line, entry_line, strict_text, edition_text, headed, sizes, lined, job_of, may_claim, compatible}
 use Rattle.contents.specs.Contents.{WellFormed, begins, layout_of, bodies_of, body_place, LaidAs, layout_says}
@@ -71,7 +69,7 @@ pub strict_exactly : (job : List ℕ) (b : Bodies) → bodies_of job ≡ some b 
 strict_exactly = RuleLaws.strict_exactly
 
 -- C-15: "and a job without it has edition 1", as the same job with `E 1` has.
-pub edition_unstated : (edition_of states.Nothing ≡ edition.One) × (edition_of states.Nothing ≡ edition_of states.One)
+pub edition_unstated : (edition_of None ≡ edition.One) × (edition_of None ≡ edition_of (Some edition.One))
 unfolding edition_of
 edition_unstated = (refl, refl)
 
@@ -82,20 +80,20 @@ edition_exactly = RuleLaws.edition_exactly
 
 -- "Any other `E` line is number 10"
 pub other_edition : (strict : Bool) (rest : List ℕ) → begins (line (bytes_of "E 1")) (bytes_of "E" ++ rest) ≡ false
-    → begins (line (bytes_of "E 2")) (bytes_of "E" ++ rest) ≡ false → layout_of (strict_text strict ++ (bytes_of "E" ++ rest)) ≡ layout.Broken
+    → begins (line (bytes_of "E 2")) (bytes_of "E" ++ rest) ≡ false → layout_of (strict_text strict ++ (bytes_of "E" ++ rest)) ≡ None
 other_edition = BrokenLaws.other_edition
 
 -- A second one is number 10.
-pub second_edition : (h : Head) → (h.stated ≡ states.Nothing → ⊥) → (rest : List ℕ) → layout_of (headed h (bytes_of "E" ++ rest)) ≡ layout.Broken
+pub second_edition : (h : Head) → (h.stated ≡ None → ⊥) → (rest : List ℕ) → layout_of (headed h (bytes_of "E" ++ rest)) ≡ None
 second_edition = BrokenLaws.second_edition
 
 -- One before `strict` is number 10.
-pub early_edition : (stated : Stated) → (stated ≡ states.Nothing → ⊥) → (rest : List ℕ)
-    → layout_of (edition_text stated ++ (line (bytes_of "strict") ++ rest)) ≡ layout.Broken
+pub early_edition : (stated : Stated) → (stated ≡ None → ⊥) → (rest : List ℕ)
+    → layout_of (edition_text stated ++ (line (bytes_of "strict") ++ rest)) ≡ None
 early_edition = BrokenLaws.early_edition
 
 -- One after the line of S is number 10.
-pub late_edition : (h : Head) (n : ℕ) → n < 10 ^ digit_limit → (rest : List ℕ) → layout_of (headed h (entry_line S n ++ (bytes_of "E" ++ rest))) ≡ layout.Broken
+pub late_edition : (h : Head) (n : ℕ) → n < 10 ^ digit_limit → (rest : List ℕ) → layout_of (headed h (entry_line S n ++ (bytes_of "E" ++ rest))) ≡ None
 late_edition = BrokenLaws.late_edition
 
 -- C-16: "A body with letter C, listed and read right after K": its line follows that of K, and its bytes follow those of K.
@@ -121,12 +119,12 @@ empty_claim = RuleLaws.empty_claim
 
 -- A line for C before that of K is number 10.
 pub early_claim : (h : Head) (m n : ℕ) → m < 10 ^ digit_limit → n < 10 ^ digit_limit → (rest : List ℕ)
-    → layout_of (headed h (entry_line S m ++ (entry_line T n ++ (bytes_of "C" ++ rest)))) ≡ layout.Broken
+    → layout_of (headed h (entry_line S m ++ (entry_line T n ++ (bytes_of "C" ++ rest)))) ≡ None
 early_claim = BrokenLaws.early_claim
 
 -- A second line for C is number 10.
 pub second_claim : (h : Head) (m n k c : ℕ) → m < 10 ^ digit_limit → n < 10 ^ digit_limit → k < 10 ^ digit_limit → c < 10 ^ digit_limit → (rest : List ℕ)
-    → layout_of (headed h (entry_line S m ++ (entry_line T n ++ (entry_line K k ++ (entry_line C c ++ (bytes_of "C" ++ rest)))))) ≡ layout.Broken
+    → layout_of (headed h (entry_line S m ++ (entry_line T n ++ (entry_line K k ++ (entry_line C c ++ (bytes_of "C" ++ rest)))))) ≡ None
 second_claim = BrokenLaws.second_claim
 
 -- C-17: "A contents line `pieces`, after `strict` and `E`": a job that is read asks for pieces exactly if that line follows these two, or
@@ -136,17 +134,17 @@ pub pieces_exactly : (job : List ℕ) (b : Bodies) → bodies_of job ≡ some b
 pieces_exactly = RuleLaws.pieces_exactly
 
 -- A second one is number 10.
-pub second_pieces : (h : Head) → h.pieces ≡ true → (rest : List ℕ) → layout_of (headed h (bytes_of "pieces" ++ rest)) ≡ layout.Broken
+pub second_pieces : (h : Head) → h.pieces ≡ true → (rest : List ℕ) → layout_of (headed h (bytes_of "pieces" ++ rest)) ≡ None
 second_pieces = BrokenLaws.second_pieces
 
 -- One before `strict` or before the line of the edition is number 10.
 pub early_pieces : (h : Head) → h.pieces ≡ true → (rest : List ℕ)
-    → (layout_of (headed h (bytes_of "strict" ++ rest)) ≡ layout.Broken) × (layout_of (headed h (bytes_of "E" ++ rest)) ≡ layout.Broken)
+    → (layout_of (headed h (bytes_of "strict" ++ rest)) ≡ None) × (layout_of (headed h (bytes_of "E" ++ rest)) ≡ None)
 early_pieces = BrokenLaws.early_pieces
 
 -- One after the line of S is number 10.
 pub late_pieces : (h : Head) (n : ℕ) → n < 10 ^ digit_limit → (rest : List ℕ)
-    → layout_of (headed h (entry_line S n ++ (bytes_of "pieces" ++ rest))) ≡ layout.Broken
+    → layout_of (headed h (entry_line S n ++ (bytes_of "pieces" ++ rest))) ≡ None
 late_pieces = BrokenLaws.late_pieces
 
 -- "A job with both this line and C is number 10": with the line, no job that is read has a claim.
@@ -155,5 +153,5 @@ pieces_no_claim = RuleLaws.pieces_no_claim
 
 -- And with the line, the letter C after the line of K is number 10, whatever follows it: `C 0` too.
 pub pieces_then_claim : (h : Head) → h.pieces ≡ true → (m n k : ℕ) → m < 10 ^ digit_limit → n < 10 ^ digit_limit → k < 10 ^ digit_limit
-    → (rest : List ℕ) → layout_of (headed h (entry_line S m ++ (entry_line T n ++ (entry_line K k ++ (bytes_of "C" ++ rest))))) ≡ layout.Broken
+    → (rest : List ℕ) → layout_of (headed h (entry_line S m ++ (entry_line T n ++ (entry_line K k ++ (bytes_of "C" ++ rest))))) ≡ None
 pieces_then_claim = BrokenLaws.pieces_then_claim

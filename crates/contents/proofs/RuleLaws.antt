@@ -8,19 +8,15 @@ use mathlib.Core.Option.{Option, some, none}
 use native.Mathlib.Omega.{arith}
 use lib.ListN.{length, drop}
 use lib.Seq.{drop-append_seam}
+use Rattle.std.specs.Prelude.{Some, None}
 use Rattle.trees.specs.declared.Body.TheVariants.{S, T, K, C}
 use Rattle.trees.specs.declared.Edition.TheVariants as edition
 use Rattle.trees.specs.Refusals.{letter_of, value, row, row_of, number_of}
 use Rattle.trees.specs.Words.{bytes_of}
 use Rattle.trees.proofs.Bools.{clash}
 use Rattle.contents.specs.declared.Head.{Head}
-use Rattle.contents.specs.declared.Layout.{Layout}
-use Rattle.contents.specs.declared.Layout.TheVariants as layout
-use Rattle.contents.specs.declared.BodyLength.{BodyLength}
-use Rattle.contents.specs.declared.BodyLength.TheVariants as listed
-use Rattle.contents.specs.declared.Stated.{Stated}
-use Rattle.contents.specs.declared.Stated.TheVariants as states
 use Rattle.contents.specs.declared.Table.{Table}
+use Rattle.contents.specs.Contents.{Stated, BodyLength, Layout}
 use Rattle.contents.specs.Contents.{digit_limit, Bodies, plain, under, edition_of, Entry, perhaps, entries, lookup, part, exchanged}
 use Rattle.contents.specs.Contents.{bytes, claim_text, claiming, before_claim, base_bodies, base_text, line, entry_line}
 use Rattle.contents.specs.Contents.{strict_text, edition_text, pieces_text, head_lines, lines_then, headed, listed_of, sizes, listed_text, lined}
@@ -39,9 +35,9 @@ laid_says job t = (
   λ (w : LaidAs job t). ap layout_says ((laid_exactly job t).1 w),
 )
   where
-    go : (l : Layout) → layout_says l ≡ value t → l ≡ layout.Laid t
-    go layout.Broken e = let z : ◌≡◌ {A = ℕ} 0 1 = cc in absurd (omega arith)
-    go (layout.Laid u) e = let same : u ≡ t = cc in ap (λ (v : Table). layout.Laid v) same
+    go : (l : Layout) → layout_says l ≡ value t → l ≡ Some t
+    go None e = let z : ◌≡◌ {A = ℕ} 0 1 = cc in absurd (omega arith)
+    go (Some u) e = let same : u ≡ t = cc in ap (λ (v : Table). Some v) same
 
 pub broken_says : (job : List ℕ) → (layout_says (layout_of job) ≡ row 10 74 0) ↔ ((b : Bodies) → job ≡ job_of b → WellFormed b → ⊥)
 unfolding layout_says row_of number_of letter_of
@@ -50,9 +46,9 @@ broken_says job = (
   λ (w : (b : Bodies) → job ≡ job_of b → WellFormed b → ⊥). ap layout_says ((broken_exactly job).1 w),
 )
   where
-    go : (l : Layout) → layout_says l ≡ row 10 74 0 → l ≡ layout.Broken
-    go layout.Broken e = refl
-    go (layout.Laid u) e = let z : ◌≡◌ {A = ℕ} 0 1 = cc in absurd (omega arith)
+    go : (l : Layout) → layout_says l ≡ row 10 74 0 → l ≡ None
+    go None e = refl
+    go (Some u) e = let z : ◌≡◌ {A = ℕ} 0 1 = cc in absurd (omega arith)
 
 -- ---- the lines before those of the bodies
 
@@ -62,11 +58,11 @@ head_line b = table_text_lem b ∙ ap (headed b.head) (sym (table_text_lem (unde
 
 pub plain_allows : (vs : List BodyLength) → compatible plain vs ≡ true
 unfolding compatible
-plain_allows vs = go (lookup listed.Absent C entries vs)
+plain_allows vs = go (lookup None C entries vs)
   where
     go : (v : BodyLength) → claim_allowed plain v ≡ true
-    go listed.Absent = refl
-    go (listed.Bytes n) = refl
+    go None = refl
+    go (Some n) = refl
 
 pub head_exchanged : (job : List ℕ) (b : Bodies) → bodies_of job ≡ some b → (h : Head) → compatible h (sizes b) ≡ true
     → bodies_of (headed h (job_of (under plain b))) ≡ some (under h b)
@@ -86,9 +82,9 @@ one_not_two e = let z : ◌≡◌ {A = ℕ} 0 1 = cc in omega arith
 two_exactly : (stated : Stated) (rest : List ℕ) → begins (line (bytes_of "E 2")) rest ≡ false
     → (edition_of stated ≡ edition.Two) ↔ (begins (line (bytes_of "E 2")) (edition_text stated ++ rest) ≡ true)
 unfolding edition_of edition_text begins line bytes_of
-two_exactly states.Nothing rest e = (λ h. absurd (one_not_two h), λ h. clash h e)
-two_exactly states.One rest e = (λ h. absurd (one_not_two h), λ h. clash h refl)
-two_exactly states.Two rest e = (λ h. begins_own (line (bytes_of "E 2")) rest, λ h. refl)
+two_exactly None rest e = (λ h. absurd (one_not_two h), λ h. clash h e)
+two_exactly (Some edition.One) rest e = (λ h. absurd (one_not_two h), λ h. clash h refl)
+two_exactly (Some edition.Two) rest e = (λ h. begins_own (line (bytes_of "E 2")) rest, λ h. refl)
 
 pub edition_exactly : (job : List ℕ) (b : Bodies) → bodies_of job ≡ some b
     → (edition_of b.head.stated ≡ edition.Two) ↔ (begins (strict_text b.head.strict ++ line (bytes_of "E 2")) job ≡ true)
@@ -96,7 +92,7 @@ edition_exactly job b e =
     let w = contents_read job b e in
     let rest : List ℕ = lined entries (sizes b) (10 ∷ joined_parts b.parts) in
     let last : List ℕ = pieces_text b.head.pieces ++ rest in
-    let unstated : Head = record { strict = false; stated = states.Nothing; pieces = b.head.pieces } in
+    let unstated : Head = record { strict = false; stated = None; pieces = b.head.pieces } in
     let none-next = (opens_past unstated rest (entries_open (sizes b) (10 ∷ joined_parts b.parts) w.1.fits)).edition refl in
     let two : List ℕ = line (bytes_of "E 2") in
     let h : begins (strict_text b.head.strict ++ two) job ≡ begins two (edition_text b.head.stated ++ last) =

@@ -3,7 +3,8 @@
 -- contents line". C-15: "A contents line `E 1` or `E 2`, after `strict` if that is there, picks the edition". C-16: "A body with letter C,
 -- listed and read right after K and written like K, holds the claimed set". C-17: "A contents line `pieces`, after `strict` and `E`"; "A job
 -- with both this line and C is number 10".
-use Rattle.std.specs.Prelude.{ℕ, ◌+◌, ◌^◌, ◌<◌, ◌≡◌, Bool, true, false, cond, ◌&&◌, ◌||◌, not, List, [], ◌∷◌, ◌++◌, map, eqb, leb, length, drop, get_or}
+use Rattle.std.specs.Prelude.{ℕ, ◌+◌, ◌^◌, ◌<◌, ◌≡◌, Bool, true, false, cond, ◌&&◌, ◌||◌, not, List, [], ◌∷◌, ◌++◌, map, eqb, leb, length, drop, get_or, Some, None, option_map}
+use Rattle.std.specs.Prelude as std
 use Rattle.std.proofs.Math.Option.{Option, some, none}
 use Rattle.trees.specs.declared.Body.{Body}
 use Rattle.trees.specs.declared.Body.TheVariants.{S, T, K, C, J}
@@ -13,30 +14,58 @@ use Rattle.trees.specs.declared.Reason.TheVariants.{Contents}
 use Rattle.trees.specs.Refusals.{letter_of, Said, value, row_of}
 use Rattle.trees.specs.Stored.{part_of}
 use Rattle.trees.specs.Words.{bytes_of}
-use Rattle.contents.specs.declared.Stated.{Stated}
-use Rattle.contents.specs.declared.Stated.TheVariants as states
 use Rattle.contents.specs.declared.Head.{Head}
 use Rattle.contents.specs.declared.HeadAt.{HeadAt}
-use Rattle.contents.specs.declared.StatedAt.{StatedAt}
-use Rattle.contents.specs.declared.Flag.{Flag}
-use Rattle.contents.specs.declared.BodyLength.{BodyLength}
-use Rattle.contents.specs.declared.BodyLength.TheVariants as listed
-use Rattle.contents.specs.declared.Span.{Span}
-use Rattle.contents.specs.declared.Span.TheVariants as span
-use Rattle.contents.specs.declared.Next.{Next}
-use Rattle.contents.specs.declared.Next.TheVariants as next
 use Rattle.contents.specs.declared.Line.{Line}
 use Rattle.contents.specs.declared.Placed.{Placed}
+use Rattle.contents.specs.declared.Span.{Span}
+use Rattle.contents.specs.declared.StatedAt.{StatedAt}
 use Rattle.contents.specs.declared.Table.{Table}
-use Rattle.contents.specs.declared.Layout.{Layout}
-use Rattle.contents.specs.declared.Layout.TheVariants as layout
-use Rattle.contents.specs.declared.decimal.Digits.{Digits}
-use Rattle.contents.specs.declared.decimal.Digits.TheVariants as digits
+use Rattle.contents.specs.declared.decimal.Number.{Number}
 use Rattle.decimals.specs.Decimal.{decimal_of, digit_run, value_from}
 
 -- how many digits a length may have: "contents lengths may have five digits" (C-14), of one to five
 abbrev pub digit_limit : ℕ
 digit_limit = 5
+
+-- what a job states of its edition, if it does
+abbrev pub Stated : Type 0
+Stated = std.Option Edition
+
+-- what a job lists of a body: its length in bytes, or no line
+abbrev pub BodyLength : Type 0
+BodyLength = std.Option ℕ
+
+-- where a body is in a job, if the job has it
+abbrev pub BodySpan : Type 0
+BodySpan = std.Option Span
+
+-- the place of the next byte, or none: the contents break their rules
+abbrev pub Next : Type 0
+Next = std.Option ℕ
+
+-- a number that was read, or none
+abbrev pub Digits : Type 0
+Digits = std.Option Number
+
+-- what a job holds, or none: the contents break their rules
+abbrev pub Layout : Type 0
+Layout = std.Option Table
+
+-- whether a line is there, and the place of the next byte
+pub record Flag : Type 0 where
+  pub on : Bool
+  pub next : ℕ
+
+-- what is listed of a body, and what comes after its line
+pub record Listing : Type 0 where
+  pub listed : BodyLength
+  pub next : Next
+
+-- where a body is, and what comes after it
+pub record Placing : Type 0 where
+  pub span : BodySpan
+  pub next : Next
 
 -- ---- what a job holds
 
@@ -47,7 +76,7 @@ pub record Bodies : Type 0 where
 
 -- no line before those of the bodies
 abbrev pub plain : Head
-plain = record { strict = false; stated = states.Nothing; pieces = false }
+plain = record { strict = false; stated = None; pieces = false }
 
 -- the same bodies under these lines
 abbrev pub under : Head → Bodies → Bodies
@@ -55,9 +84,8 @@ under h b = record { head = h; parts = b.parts }
 
 -- C-15: the line "picks the edition, and a job without it has edition 1"
 unfoldable pub edition_of : Stated → Edition
-edition_of states.Nothing = edition.One
-edition_of states.One = edition.One
-edition_of states.Two = edition.Two
+edition_of None = edition.One
+edition_of (Some e) = e
 
 -- a body in the table of contents: whether each job has it
 pub record Entry : Type 0 where
@@ -156,9 +184,9 @@ strict_text strict = line_if strict (bytes_of "strict")
 -- C-15: "A contents line `E 1` or `E 2`", or none of them
 unfoldable pub edition_text : Stated → List ℕ
 unfolding line bytes_of
-edition_text states.Nothing = []
-edition_text states.One = line (bytes_of "E 1")
-edition_text states.Two = line (bytes_of "E 2")
+edition_text None = []
+edition_text (Some edition.One) = line (bytes_of "E 1")
+edition_text (Some edition.Two) = line (bytes_of "E 2")
 
 -- C-17: "A contents line `pieces`"
 unfoldable pub pieces_text : Bool → List ℕ
@@ -180,8 +208,8 @@ headed h rest = lines_then (head_lines h) rest
 
 -- what a job lists of a body: "Each n is the body's length in bytes"
 abbrev pub listed_of : Option (List ℕ) → BodyLength
-listed_of none = listed.Absent
-listed_of (some x) = listed.Bytes (length x)
+listed_of none = None
+listed_of (some x) = Some (length x)
 
 abbrev pub sizes : Bodies → List BodyLength
 sizes b = map listed_of b.parts
@@ -189,8 +217,8 @@ sizes b = map listed_of b.parts
 -- the line of a body, or none
 unfoldable pub listed_text : Body → BodyLength → List ℕ
 unfolding entry_line
-listed_text body listed.Absent = []
-listed_text body (listed.Bytes n) = entry_line body n
+listed_text body None = []
+listed_text body (Some n) = entry_line body n
 
 -- the lines of the bodies, then these bytes
 abbrev pub lined : List Entry → List BodyLength → List ℕ → List ℕ
@@ -215,8 +243,8 @@ job_of b = table_text b ++ joined_parts b.parts
 
 -- a body that a job needs is listed, and a length has one to five digits
 abbrev pub FitsLine : Entry → BodyLength → Type 0
-FitsLine e listed.Absent = e.needed ≡ false
-FitsLine e (listed.Bytes n) = n < 10 ^ digit_limit
+FitsLine e None = e.needed ≡ false
+FitsLine e (Some n) = n < 10 ^ digit_limit
 
 abbrev pub FitsEntries : List Entry → List BodyLength → Type 0
 FitsEntries [] [] = Prim.Unit {0}
@@ -231,13 +259,13 @@ may_claim h = not h.pieces
 -- whether a job with these lines may list this of the claim; `C 0` lists one
 unfoldable pub claim_allowed : Head → BodyLength → Bool
 unfolding may_claim
-claim_allowed h listed.Absent = true
-claim_allowed h (listed.Bytes n) = may_claim h
+claim_allowed h None = true
+claim_allowed h (Some n) = may_claim h
 
 -- whether a job may have these lines together with bodies of these lengths: a further rule of this kind is a further test here
 unfoldable pub compatible : Head → List BodyLength → Bool
 unfolding claim_allowed lookup entries
-compatible h vs = claim_allowed h (lookup listed.Absent C entries vs)
+compatible h vs = claim_allowed h (lookup None C entries vs)
 
 -- the bodies and lines that a job can have
 pub record WellFormed (b : Bodies) : Type 0 where
@@ -260,8 +288,8 @@ flag_at job at word = record { on = begins word (drop at job); next = cond (begi
 -- the line `E 1`, else the line `E 2`, else nothing: at most one of them is taken
 unfoldable pub stated_of : Flag → Flag → StatedAt
 stated_of one two =
-    cond one.on (record { stated = states.One; next = one.next })
-    (cond two.on (record { stated = states.Two; next = two.next }) (record { stated = states.Nothing; next = two.next }))
+    cond one.on (record { stated = Some edition.One; next = one.next })
+    (cond two.on (record { stated = Some edition.Two; next = two.next }) (record { stated = None; next = two.next }))
 
 unfoldable pub stated_at : List ℕ → ℕ → StatedAt
 unfolding stated_of flag_at line bytes_of
@@ -279,8 +307,8 @@ head_at job =
 -- these bytes, or the contents break their rules
 unfoldable pub word_after : List ℕ → Next → List ℕ → Next
 unfolding begins
-word_after job (next.At at) word = cond (begins word (drop at job)) (next.At (at + length word)) next.Broken
-word_after job next.Broken word = next.Broken
+word_after job (Some at) word = cond (begins word (drop at job)) (Some (at + length word)) None
+word_after job None word = None
 
 -- "decimal, .. no leading zero except `0` itself"
 unfoldable pub good_digits : List ℕ → Bool
@@ -289,29 +317,33 @@ good_digits run = leb 1 (length run) && leb (length run) digit_limit && (eqb (le
 -- a number of these digits, which begin at a place, and the place after it
 unfoldable pub number_of_run : List ℕ → ℕ → Digits
 unfolding good_digits value_from
-number_of_run run at = cond (good_digits run) (digits.Value (value_from 0 run) (at + length run)) digits.Broken
+number_of_run run at = cond (good_digits run) (Some (record { value = value_from 0 run; next = at + length run })) None
 
 unfoldable pub number_at : List ℕ → ℕ → Digits
 unfolding number_of_run digit_run
 number_at job at = number_of_run (digit_run (drop at job)) at
 
 -- no line: the contents break their rules
-abbrev pub broken_line : Line
-broken_line = record { listed = listed.Absent; next = next.Broken }
+abbrev pub broken_line : Listing
+broken_line = record { listed = None; next = None }
 
 -- the number is the length, and ends the line
-unfoldable pub counted : List ℕ → Digits → Line
+unfoldable pub counted : List ℕ → Digits → Listing
 unfolding word_after line
-counted job (digits.Value n end) = record { listed = listed.Bytes n; next = word_after job (next.At end) (line []) }
-counted job digits.Broken = broken_line
+counted job (Some d) = record { listed = Some d.value; next = word_after job (Some d.next) (line []) }
+counted job None = broken_line
 
 -- a line `S n`, or another line where a job may leave the body out
-unfoldable pub line_after : List ℕ → Next → Entry → Line
+unfoldable pub line_after : List ℕ → Next → Entry → Listing
 unfolding begins counted number_at letter_of
-line_after job (next.At at) e =
+line_after job (Some at) e =
     cond (begins (letter_of e.body ∷ 32 ∷ []) (drop at job)) (counted job (number_at job (at + 2)))
-    (record { listed = listed.Absent; next = cond e.needed next.Broken (next.At at) })
-line_after job next.Broken e = broken_line
+    (record { listed = None; next = cond e.needed None (Some at) })
+line_after job None e = broken_line
+
+-- a line whose next byte has a place
+unfoldable pub line_of : Listing → std.Option Line
+line_of l = option_map (λ n. record { listed = l.listed; next = n }) l.next
 
 -- the lines of the bodies one after another: what they list, and the place after them
 unfoldable pub sizes_after : List ℕ → Next → List Entry → List BodyLength
@@ -325,18 +357,22 @@ lines_after job from [] = from
 lines_after job from (e ∷ es) = lines_after job (line_after job from e).next es
 
 -- no body: the contents break their rules
-abbrev pub nowhere : Placed
-nowhere = record { span = span.Absent; next = next.Broken }
+abbrev pub nowhere : Placing
+nowhere = record { span = None; next = None }
 
 -- a body of the listed length, in the job
-unfoldable pub place_after : List ℕ → Next → BodyLength → Placed
-place_after job (next.At at) listed.Absent = record { span = span.Absent; next = next.At at }
-place_after job (next.At at) (listed.Bytes n) =
-    cond (leb (at + n) (length job)) (record { span = span.At at n; next = next.At (at + n) }) nowhere
-place_after job next.Broken v = nowhere
+unfoldable pub place_after : List ℕ → Next → BodyLength → Placing
+place_after job (Some at) None = record { span = None; next = Some at }
+place_after job (Some at) (Some n) =
+    cond (leb (at + n) (length job)) (record { span = Some (record { at = at; len = n }); next = Some (at + n) }) nowhere
+place_after job None v = nowhere
+
+-- a body after which the next byte has a place
+unfoldable pub placed_of : Placing → std.Option Placed
+placed_of p = option_map (λ n. record { span = p.span; next = n }) p.next
 
 -- the bodies one after another: where they are, and the place after them
-unfoldable pub spans_after : List ℕ → Next → List BodyLength → List Span
+unfoldable pub spans_after : List ℕ → Next → List BodyLength → List BodySpan
 unfolding place_after
 spans_after job from [] = []
 spans_after job from (v ∷ vs) = (place_after job from v).span ∷ spans_after job (place_after job from v).next vs
@@ -347,67 +383,67 @@ bodies_after job from [] = from
 bodies_after job from (v ∷ vs) = bodies_after job (place_after job from v).next vs
 
 -- the table of bodies in the order of `entries`, and the list of a table
-abbrev pub table_of : Head → List Span → Table
+abbrev pub table_of : Head → List BodySpan → Table
 table_of h ps =
     record {
       head = h;
-      first = get_or ps 0 span.Absent;
-      second = get_or ps 1 span.Absent;
-      list = get_or ps 2 span.Absent;
-      claim = get_or ps 3 span.Absent;
+      first = get_or ps 0 None;
+      second = get_or ps 1 None;
+      list = get_or ps 2 None;
+      claim = get_or ps 3 None;
     }
 
-abbrev pub spans_of : Table → List Span
+abbrev pub spans_of : Table → List BodySpan
 spans_of t = t.first ∷ t.second ∷ t.list ∷ t.claim ∷ []
 
 -- "The lengths must add up to exactly the rest of the job"
 unfoldable pub laid_out : List ℕ → Table → Next → Layout
-laid_out job t (next.At at) = cond (eqb at (length job)) (layout.Laid t) layout.Broken
-laid_out job t next.Broken = layout.Broken
+laid_out job t (Some at) = cond (eqb at (length job)) (Some t) None
+laid_out job t None = None
 
 -- where the bodies are in a job, if its lines and bodies go together
 unfoldable pub layout_of : List ℕ → Layout
 unfolding head_at entries sizes_after lines_after word_after line spans_after bodies_after laid_out compatible
 layout_of job =
     let h : HeadAt = head_at job in
-    let vs : List BodyLength = sizes_after job (next.At h.next) entries in
-    let from : Next = word_after job (lines_after job (next.At h.next) entries) (line []) in
-    cond (compatible h.head vs) (laid_out job (table_of h.head (spans_after job from vs)) (bodies_after job from vs)) layout.Broken
+    let vs : List BodyLength = sizes_after job (Some h.next) entries in
+    let from : Next = word_after job (lines_after job (Some h.next) entries) (line []) in
+    cond (compatible h.head vs) (laid_out job (table_of h.head (spans_after job from vs)) (bodies_after job from vs)) None
 
 -- the bytes there
-unfoldable pub span_in : List ℕ → Span → Option (List ℕ)
+unfoldable pub span_in : List ℕ → BodySpan → Option (List ℕ)
 unfolding part_of
-span_in job span.Absent = none
-span_in job (span.At at n) = some (part_of at n job)
+span_in job None = none
+span_in job (Some s) = some (part_of s.at s.len job)
 
 abbrev pub bodies_in : List ℕ → Table → Bodies
 bodies_in job t = record { head = t.head; parts = map (span_in job) (spans_of t) }
 
 unfoldable pub bodies_from : List ℕ → Layout → Option Bodies
 unfolding span_in
-bodies_from job (layout.Laid t) = some (bodies_in job t)
-bodies_from job layout.Broken = none
+bodies_from job (Some t) = some (bodies_in job t)
+bodies_from job None = none
 
 -- the bodies, or none where the contents break their rules
 unfoldable pub bodies_of : List ℕ → Option Bodies
 unfolding bodies_from layout_of
 bodies_of job = bodies_from job (layout_of job)
 
-unfoldable pub place_of : Span → ℕ
-place_of span.Absent = 0
-place_of (span.At at n) = at
+unfoldable pub place_of : BodySpan → ℕ
+place_of None = 0
+place_of (Some s) = s.at
 
 -- where a body begins in the job, 0 if there is none
 unfoldable pub body_place : Body → Layout → ℕ
 unfolding place_of lookup entries
-body_place body (layout.Laid t) = place_of (lookup span.Absent body entries (spans_of t))
-body_place body layout.Broken = 0
+body_place body (Some t) = place_of (lookup None body entries (spans_of t))
+body_place body None = 0
 
 -- where bodies of these lengths are, one after another from a place on
-unfoldable pub spans_from : ℕ → List BodyLength → List Span
+unfoldable pub spans_from : ℕ → List BodyLength → List BodySpan
 spans_from at [] = []
-spans_from at (listed.Absent ∷ vs) = span.Absent ∷ spans_from at vs
-spans_from at (listed.Bytes n ∷ vs) = span.At at n ∷ spans_from (at + n) vs
+spans_from at (None ∷ vs) = None ∷ spans_from at vs
+spans_from at (Some n ∷ vs) = Some (record { at = at; len = n }) ∷ spans_from (at + n) vs
 
 -- the layout of a job: its bodies follow the table, one after another
 pub record LaidAs (job : List ℕ) (t : Table) : Type 0 where
@@ -419,5 +455,5 @@ pub record LaidAs (job : List ℕ) (t : Table) : Type 0 where
 -- the paper's number and values for a layout: 10, "the contents break their rules", J 0
 unfoldable pub layout_says : Layout → Said Table
 unfolding row_of
-layout_says (layout.Laid t) = value t
-layout_says layout.Broken = row_of (record { reason = Contents; body = J; place = 0 })
+layout_says (Some t) = value t
+layout_says None = row_of (record { reason = Contents; body = J; place = 0 })

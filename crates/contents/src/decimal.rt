@@ -1,79 +1,51 @@
 // Decimal numbers read from a text.
-ghost use Rattle.std.specs.Prelude.{◌≡◌, ◌+◌, ◌-◌, ◌≤◌, length, take, drop};
-ghost use Rattle.decimals.specs.Decimal.{is_digit, digit_run, value_from};
+ghost use Rattle.std.specs.Prelude.{◌≡◌, ◌-◌, ◌≤◌, length};
+ghost use Rattle.decimals.specs.Decimal.{digit_run, value_from};
 ghost use Rattle.contents.specs.Contents.{number_at, digit_limit};
 
 // One to five digits.
 const DIGIT_LIMIT: usize = 5;
 
-// A number that was read and the place after it, or that there is none.
+// A number that was read, and the place after it.
 #[derive(Clone, Copy)]
-pub enum Digits {
-    Value(usize, usize),
-    Broken,
+pub struct Number {
+    pub value: usize,
+    pub next: usize,
 }
 
-fn is_digit(b: u8) -> bool
-    ensures { result ≡ is_digit b }
+// The digits that a text begins with.
+fn leading_digits(text: &[u8]) -> &[u8]
+    ensures { result.now ≡ digit_run text.now }
 {
-    if 48 <= b { b <= 57 } else { false }
+    let count = text.iter().take_while(|b| b.is_ascii_digit()).count();
+    &text[..count]
 }
 
-// How many digits there are from a place on.
-fn digit_count(job: &[u8], at: usize) -> usize
-    ensures { result ≡ length (digit_run (drop at job.now)) }
+// The value of at most five digits.
+fn value_of(digits: &[u8]) -> usize
+    requires { length digits.now ≤ digit_limit }
+    ensures { result ≡ value_from 0 digits.now }
 {
-    let mut i = at;
-    while i < job.len() {
-        if !is_digit(job[i]) {
-            return i - at;
-        }
-        i += 1;
-    }
-    i - at
-}
-
-// What a digit is worth; 0 for a byte before `0`.
-fn worth(b: u8) -> usize
-    ensures { result ≡ b - 48 }
-{
-    if b < 48 {
-        return 0;
-    }
-    (b - 48) as usize
-}
-
-// The value of n digits from a place on.
-fn value_of(job: &[u8], at: usize, n: usize) -> usize
-    requires n_le_digit_limit { n ≤ digit_limit }
-    requires n_in_bounds { at + n ≤ length job.now }
-    ensures { result ≡ value_from 0 (take n (drop at job.now)) }
-{
-    let mut v: usize = 0;
-    let mut i: usize = 0;
-    while i < n {
-        let d = worth(job[at + i]);
-        v = v * 10 + d;
-        i += 1;
+    let mut v = 0usize;
+    for b in digits {
+        v = v * 10 + usize::from(b.saturating_sub(b'0'));
     }
     v
 }
 
 // A number with at most as many digits as the limit, without a leading zero.
-pub(crate) fn number_at(job: &[u8], at: usize) -> Digits
+pub(crate) fn number_at(job: &[u8], at: usize) -> Option<Number>
     ensures { result ≡ number_at job.now at }
 {
-    let n = digit_count(job, at);
-    if n == 0 {
-        return Digits::Broken;
+    let digits = leading_digits(crate::rest(job, at));
+    if digits.is_empty() || DIGIT_LIMIT < digits.len() {
+        return None;
     }
-    if DIGIT_LIMIT < n {
-        return Digits::Broken;
+    if digits.len() != 1 && digits[0] == b'0' {
+        return None;
     }
-    if n != 1 {
-        if job[at] == b'0' {
-            return Digits::Broken;
-        }
-    }
-    Digits::Value(value_of(job, at, n), at + n)
+    Some(Number {
+        value: value_of(digits),
+        next: at + digits.len(),
+    })
 }

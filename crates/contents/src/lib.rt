@@ -4,73 +4,43 @@
 // No public function has a `requires`. Each line is a step from one place to the next, so a further line is a further step.
 #![tactic(auto)]
 
-ghost use Rattle.std.specs.Prelude.{◌≡◌, drop};
-ghost use Rattle.contents.specs.Contents.{begins, flag_at, stated_at, head_at, word_after, broken_line, line_after, nowhere, place_after, laid_out, layout_of};
+ghost use Rattle.std.specs.Prelude.{◌≡◌, [], ◌∷◌, drop};
+ghost use Rattle.contents.specs.Contents.{word_after, stated_at, head_at, line_after, line_of, place_after, placed_of, spans_after, bodies_after, table_of, laid_out, layout_of};
 ghost use Rattle.contents.specs.Contents.{bytes, span_in, place_of, edition_of, claim_allowed};
 
-use crate::decimal::Digits;
 use trees::{Body, Edition};
 
 mod decimal;
 
-// What a job states of its edition: no line, `E 1` or `E 2`.
-#[derive(Clone, Copy)]
-pub enum Stated {
-    Nothing,
-    One,
-    Two,
-}
-
-// The lines before those of the bodies: whether the job carries `strict`, what it states of its edition, and whether it carries `pieces`.
+// The lines before those of the bodies: whether the job carries `strict`, which edition it states, if any, and whether it carries `pieces`.
 #[derive(Clone, Copy)]
 pub struct Head {
     pub strict: bool,
-    pub stated: Stated,
+    pub stated: Option<Edition>,
     pub pieces: bool,
 }
 
-// Where a body is in the job, its first byte and its length; or that the job has none.
+// Where a body is in the job: its first byte and its length.
 #[derive(Clone, Copy)]
-pub enum Span {
-    Absent,
-    At(usize, usize),
+pub struct Span {
+    pub at: usize,
+    pub len: usize,
 }
 
-// The lines before those of the bodies, and the bodies.
+// The lines before those of the bodies, and the bodies that the job has.
 #[derive(Clone, Copy)]
 pub struct Table {
     pub head: Head,
-    pub first: Span,
-    pub second: Span,
-    pub list: Span,
-    pub claim: Span,
-}
-
-// What a job holds; or that the contents break their rules.
-#[derive(Clone, Copy)]
-pub enum Layout {
-    Laid(Table),
-    Broken,
-}
-
-// The place of the next byte, or that the contents break their rules.
-#[derive(Clone, Copy)]
-pub enum Next {
-    At(usize),
-    Broken,
-}
-
-// Whether a line is there, and the place of the next byte.
-#[derive(Clone, Copy)]
-pub struct Flag {
-    pub on: bool,
-    pub next: usize,
+    pub first: Option<Span>,
+    pub second: Option<Span>,
+    pub list: Option<Span>,
+    pub claim: Option<Span>,
 }
 
 // What a job states of its edition, and the place of the next byte.
 #[derive(Clone, Copy)]
 pub struct StatedAt {
-    pub stated: Stated,
+    pub stated: Option<Edition>,
     pub next: usize,
 }
 
@@ -81,83 +51,66 @@ pub struct HeadAt {
     pub next: usize,
 }
 
-// What a job lists of a body: no line, or its length in bytes.
-#[derive(Clone, Copy)]
-pub enum BodyLength {
-    Absent,
-    Bytes(usize),
-}
-
-// What is listed of a body, and what comes after its line.
+// The length in bytes that a job lists of a body, if it does, and the place of the next byte.
 #[derive(Clone, Copy)]
 pub struct Line {
-    pub listed: BodyLength,
-    pub next: Next,
+    pub listed: Option<usize>,
+    pub next: usize,
 }
 
-// Where a body is, and what comes after it.
+// The lengths that a job lists of its bodies.
+#[derive(Clone, Copy)]
+struct Lengths {
+    first: Option<usize>,
+    second: Option<usize>,
+    list: Option<usize>,
+    claim: Option<usize>,
+}
+
+// Where a body is, if the job has it, and the place of the next byte.
 #[derive(Clone, Copy)]
 pub struct Placed {
-    pub span: Span,
-    pub next: Next,
+    pub span: Option<Span>,
+    pub next: usize,
 }
 
-// Whether these bytes stand in the job from a place on.
-fn begins_at(job: &[u8], at: usize, word: &[u8]) -> bool
-    ensures { result ≡ begins word.now (drop at job.now) }
+// The text from a place on: nothing past its end.
+pub(crate) fn rest(text: &[u8], at: usize) -> &[u8]
+    ensures { result.now ≡ drop at text.now }
 {
-    let mut next = at;
-    let mut i: usize = 0;
-    while i < word.len() {
-        if job.len() <= next {
-            return false;
-        }
-        if job[next] != word[i] {
-            return false;
-        }
-        next += 1;
-        i += 1;
-    }
-    true
+    &text[at.min(text.len())..]
 }
 
-// A line that a job may leave out.
-fn flag_at(job: &[u8], at: usize, line: &[u8]) -> Flag
-    ensures { result ≡ flag_at job.now at line.now }
+// The place after these bytes, if they stand in the job from a place on.
+fn word_after(job: &[u8], at: usize, word: &[u8]) -> Option<usize>
+    ensures { result ≡ word_after job.now (Some at) word.now }
 {
-    if !begins_at(job, at, line) {
-        return Flag {
-            on: false,
-            next: at,
-        };
+    if !rest(job, at).starts_with(word) {
+        return None;
     }
-    Flag {
-        on: true,
-        next: at + line.len(),
-    }
+    Some(at + word.len())
 }
 
 // The line of the edition, which a job may leave out: at most one line is taken.
+#[tactic(auto, unfolding(trees::specs::Words::bytes_of, crate::specs::Contents::line, crate::specs::Contents::word_after, crate::specs::Contents::flag_at, crate::specs::Contents::stated_of, crate::specs::Contents::stated_at))]
 fn stated_at(job: &[u8], at: usize) -> StatedAt
     ensures { result ≡ stated_at job.now at }
 {
-    let one = flag_at(job, at, b"E 1\n");
-    if one.on {
+    if let Some(next) = word_after(job, at, b"E 1\n") {
         return StatedAt {
-            stated: Stated::One,
-            next: one.next,
+            stated: Some(Edition::One),
+            next,
         };
     }
-    let two = flag_at(job, at, b"E 2\n");
-    if two.on {
+    if let Some(next) = word_after(job, at, b"E 2\n") {
         return StatedAt {
-            stated: Stated::Two,
-            next: two.next,
+            stated: Some(Edition::Two),
+            next,
         };
     }
     StatedAt {
-        stated: Stated::Nothing,
-        next: two.next,
+        stated: None,
+        next: at,
     }
 }
 
@@ -165,201 +118,140 @@ fn stated_at(job: &[u8], at: usize) -> StatedAt
 fn head_at(job: &[u8]) -> HeadAt
     ensures { result ≡ head_at job.now }
 {
-    let strict = flag_at(job, 0, b"strict\n");
-    let edition = stated_at(job, strict.next);
-    let pieces = flag_at(job, edition.next, b"pieces\n");
-    let stated = edition.stated;
+    let strict = word_after(job, 0, b"strict\n");
+    let edition = stated_at(job, strict.unwrap_or(0));
+    let pieces = word_after(job, edition.next, b"pieces\n");
     let head = Head {
-        strict: strict.on,
-        stated,
-        pieces: pieces.on,
+        strict: strict.is_some(),
+        stated: edition.stated,
+        pieces: pieces.is_some(),
     };
     HeadAt {
         head,
-        next: pieces.next,
+        next: pieces.unwrap_or(edition.next),
     }
 }
 
-// These bytes, which have to be next.
-fn word_after(job: &[u8], from: Next, word: &[u8]) -> Next
-    ensures { result ≡ word_after job.now from word.now }
+// The line of a body, from a place on; `needed`: whether each job has it.
+#[tactic(auto, unfolding(crate::specs::Contents::line, crate::specs::Contents::word_after, crate::specs::Contents::counted, crate::specs::Contents::line_after, crate::specs::Contents::line_of))]
+fn line_after(job: &[u8], at: usize, body: Body, needed: bool) -> Option<Line>
+    ensures { result ≡ line_of (line_after job.now (Some at) (record { body = body; needed = needed })) }
 {
-    let Next::At(at) = from else {
-        return Next::Broken;
-    };
-    if !begins_at(job, at, word) {
-        return Next::Broken;
-    }
-    Next::At(at + word.len())
-}
-
-// No line: the contents break their rules.
-fn broken_line() -> Line
-    ensures { result ≡ broken_line }
-{
-    Line {
-        listed: BodyLength::Absent,
-        next: Next::Broken,
-    }
-}
-
-// The line of a body, after another line; `needed`: whether each job has it.
-fn line_after(job: &[u8], from: Line, body: Body, needed: bool) -> Line
-    ensures { result ≡ line_after job.now from.next (record { body = body; needed = needed }) }
-{
-    let place = from.next;
-    let Next::At(at) = place else {
-        return broken_line();
-    };
-    let letter = trees::letter(body);
-    let opening = [letter, b' '];
-    if !begins_at(job, at, &opening) {
+    let opening = [trees::letter(body), b' '];
+    let Some(digits) = word_after(job, at, &opening) else {
         if needed {
-            return broken_line();
+            return None;
         }
-        return Line {
-            listed: BodyLength::Absent,
-            next: Next::At(at),
-        };
-    }
-    let number = decimal::number_at(job, at + 2);
-    let Digits::Value(n, end) = number else {
-        return broken_line();
+        return Some(Line {
+            listed: None,
+            next: at,
+        });
     };
-    Line {
-        listed: BodyLength::Bytes(n),
-        next: word_after(job, Next::At(end), b"\n"),
-    }
-}
-
-// Whether a job with these lines may list this of the claim: pieces are for jobs that ask for a set, so not with a claim.
-fn claim_allowed(head: Head, claim: BodyLength) -> bool
-    ensures { result ≡ claim_allowed head claim }
-{
-    match claim {
-        BodyLength::Absent => true,
-        BodyLength::Bytes(_) => !head.pieces,
-    }
-}
-
-// No body: the contents break their rules.
-fn nowhere() -> Placed
-    ensures { result ≡ nowhere }
-{
-    Placed {
-        span: Span::Absent,
-        next: Next::Broken,
-    }
-}
-
-// A body of the length that its line lists, after another body.
-fn place_after(job: &[u8], from: Placed, line: Line) -> Placed
-    ensures { result ≡ place_after job.now from.next line.listed }
-{
-    let place = from.next;
-    let Next::At(at) = place else {
-        return nowhere();
-    };
-    let listed = line.listed;
-    let BodyLength::Bytes(n) = listed else {
-        return Placed {
-            span: Span::Absent,
-            next: Next::At(at),
-        };
-    };
-    if job.len() < at {
-        return nowhere();
-    }
-    if job.len() - at < n {
-        return nowhere();
-    }
-    Placed {
-        span: Span::At(at, n),
-        next: Next::At(at + n),
-    }
-}
-
-// The table of a job whose last body ends where the job does.
-fn laid_out(job: &[u8], head: Head, s: Placed, t: Placed, k: Placed, c: Placed) -> Layout
-    ensures { result ≡ laid_out job.now (record { head = head; first = s.span; second = t.span; list = k.span; claim = c.span }) c.next }
-{
-    let place = c.next;
-    let Next::At(at) = place else {
-        return Layout::Broken;
-    };
-    if at != job.len() {
-        return Layout::Broken;
-    }
-    let first = s.span;
-    let second = t.span;
-    let list = k.span;
-    let claim = c.span;
-    Layout::Laid(Table {
-        head,
-        first,
-        second,
-        list,
-        claim,
+    let number = decimal::number_at(job, digits)?;
+    let next = word_after(job, number.next, b"\n")?;
+    Some(Line {
+        listed: Some(number.value),
+        next,
     })
 }
 
-// Where the bodies are in a job.
-pub fn contents(job: &[u8]) -> Layout
+// Whether a job with these lines may list this of the claim: pieces are for jobs that ask for a set, so not with a claim.
+#[tactic(auto, unfolding(crate::specs::Contents::may_claim, crate::specs::Contents::claim_allowed))]
+fn claim_allowed(head: Head, claim: Option<usize>) -> bool
+    ensures { result ≡ claim_allowed head claim }
+{
+    claim.is_none() || !head.pieces
+}
+
+// A body of the length that its line lists, from a place on.
+#[tactic(auto, unfolding(crate::specs::Contents::place_after, crate::specs::Contents::placed_of))]
+fn place_after(job: &[u8], at: usize, listed: Option<usize>) -> Option<Placed>
+    ensures { result ≡ placed_of (place_after job.now (Some at) listed) }
+{
+    let Some(len) = listed else {
+        return Some(Placed {
+            span: None,
+            next: at,
+        });
+    };
+    let next = at.checked_add(len)?;
+    if job.len() < next {
+        return None;
+    }
+    Some(Placed {
+        span: Some(Span { at, len }),
+        next,
+    })
+}
+
+// Bodies of these lengths, from a place on to the end of the job.
+#[tactic(auto, using(crate::proofs::ChainLaws::bodies_steps), unfolding(crate::proofs::ChainLaws::bodies_of_lengths))]
+fn bodies_at(job: &[u8], at: usize, head: Head, lengths: Lengths) -> Option<Table>
+    ensures { let vs = lengths.first ∷ lengths.second ∷ lengths.list ∷ lengths.claim ∷ [] in
+        result ≡ laid_out job.now (table_of head (spans_after job.now (Some at) vs)) (bodies_after job.now (Some at) vs) }
+{
+    let first = place_after(job, at, lengths.first)?;
+    let second = place_after(job, first.next, lengths.second)?;
+    let list = place_after(job, second.next, lengths.list)?;
+    let claim = place_after(job, list.next, lengths.claim)?;
+    if claim.next != job.len() {
+        return None;
+    }
+    Some(Table {
+        head,
+        first: first.span,
+        second: second.span,
+        list: list.span,
+        claim: claim.span,
+    })
+}
+
+// Where the bodies are in a job; none where the contents break their rules.
+#[tactic(auto, using(crate::proofs::ChainLaws::contents_steps), unfolding(crate::proofs::ChainLaws::contents_of))]
+pub fn contents(job: &[u8]) -> Option<Table>
     ensures { result ≡ layout_of job.now }
 {
     let front = head_at(job);
-    let start = Line {
-        listed: BodyLength::Absent,
-        next: Next::At(front.next),
-    };
-    let first = line_after(job, start, Body::S, true);
-    let second = line_after(job, first, Body::T, true);
-    let list = line_after(job, second, Body::K, true);
-    let claim = line_after(job, list, Body::C, false);
-    let head = front.head;
-    let claimed = claim.listed;
-    if !claim_allowed(head, claimed) {
-        return Layout::Broken;
+    let first = line_after(job, front.next, Body::S, true)?;
+    let second = line_after(job, first.next, Body::T, true)?;
+    let list = line_after(job, second.next, Body::K, true)?;
+    let claim = line_after(job, list.next, Body::C, false)?;
+    if !claim_allowed(front.head, claim.listed) {
+        return None;
     }
-    let lines_end = claim.next;
-    let begin = Placed {
-        span: Span::Absent,
-        next: word_after(job, lines_end, b"\n"),
+    let begin = word_after(job, claim.next, b"\n")?;
+    let lengths = Lengths {
+        first: first.listed,
+        second: second.listed,
+        list: list.listed,
+        claim: claim.listed,
     };
-    let s = place_after(job, begin, first);
-    let t = place_after(job, s, second);
-    let k = place_after(job, t, list);
-    let c = place_after(job, k, claim);
-    laid_out(job, head, s, t, k, c)
+    bodies_at(job, begin, front.head, lengths)
 }
 
 // The bytes of a body: none where the job has none.
-pub fn bytes_of<'a>(job: &'a [u8], span: Span) -> &'a [u8]
+#[tactic(auto, unfolding(crate::specs::Contents::span_in))]
+pub fn bytes_of<'a>(job: &'a [u8], span: Option<Span>) -> &'a [u8]
     ensures { result.now ≡ bytes (span_in job.now span) }
 {
     match span {
-        Span::Absent => trees::part(job, 0, 0),
-        Span::At(at, n) => trees::part(job, at, n),
+        None => &job[..0],
+        Some(s) => trees::part(job, s.at, s.len),
     }
 }
 
-// Where a body begins in the job.
-pub fn place_of(span: Span) -> usize
+// Where a body begins in the job: 0 where the job has none.
+#[tactic(auto, unfolding(crate::specs::Contents::place_of))]
+pub fn place_of(span: Option<Span>) -> usize
     ensures { result ≡ place_of span }
 {
-    match span {
-        Span::Absent => 0,
-        Span::At(at, _) => at,
-    }
+    span.map_or(0, |s| s.at)
 }
 
 // The edition that a job has by what it states: the first one if it states nothing.
-pub fn edition_of(stated: Stated) -> Edition
+#[tactic(auto, unfolding(crate::specs::Contents::edition_of))]
+pub fn edition_of(stated: Option<Edition>) -> Edition
     ensures { result ≡ edition_of stated }
 {
-    match stated {
-        Stated::Nothing => Edition::One,
-        Stated::One => Edition::One,
-        Stated::Two => Edition::Two,
-    }
+    stated.unwrap_or(Edition::One)
 }

@@ -8,6 +8,7 @@ use native.Mathlib.Omega.{arith}
 use lib.ListN.{length, take, drop, replicate, length-append, length-replicate}
 use lib.Seq.{take_at}
 use borrow.Author.Tests.{le-leb, lt-leb, eq-eqb, ne_eqb}
+use Rattle.std.specs.Prelude.{Some, None}
 use Rattle.trees.specs.declared.Reason.TheVariants.{Contents, JobTooLong}
 use Rattle.trees.specs.declared.Body.{Body}
 use Rattle.trees.specs.declared.Body.TheVariants.{S, K, C, J}
@@ -40,11 +41,8 @@ use Rattle.claims.specs.declared.ClaimAnswer.TheVariants as said
 use Rattle.claims.specs.Judge.{judge, claim_of}
 use Rattle.job.specs.declared.JobAnswer.TheVariants as job-answer
 use Rattle.contents.specs.declared.Table.{Table}
-use Rattle.contents.specs.declared.Layout.{Layout}
-use Rattle.contents.specs.declared.Layout.TheVariants as layout
 use Rattle.contents.specs.declared.Span.{Span}
-use Rattle.contents.specs.declared.Span.TheVariants as span
-use Rattle.contents.specs.Contents.{Bodies, entries, lookup, part, bytes, first_text, second_text, list_text, claim_text, edition_of, layout_of, span_in, bodies_from, bodies_of, place_of, body_place}
+use Rattle.contents.specs.Contents.{BodySpan, Layout, Bodies, entries, lookup, part, bytes, first_text, second_text, list_text, claim_text, edition_of, layout_of, span_in, bodies_from, bodies_of, place_of, body_place}
 use Rattle.contents.proofs.ContentsLaws.{body_ends}
 use Rattle.job.specs.Printed.{Reply, solved, set_reply, claim_reply, reply_lines, solve_task, solve_bodies, solve_job, job_limit}
 use Rattle.lines.specs.Lines.{record_lines, labels_in}
@@ -277,7 +275,7 @@ job_bodies : (job : List ℕ) (b : Option Bodies) → length job ≤ job_limit �
 unfolding solve_job
 job_bodies job b h e = rw (le-leb (length job) job_limit h) (ap solve_bodies e)
 
-pub job_broken : (job : List ℕ) → length job ≤ job_limit → layout.Broken ≡ layout_of job
+pub job_broken : (job : List ℕ) → length job ≤ job_limit → None ≡ layout_of job
     → solve_job job ≡ refused (record { reason = Contents; body = J; place = 0 })
 unfolding solve_bodies bodies_of bodies_from
 job_broken job h e = job_bodies job none h (ap (bodies_from job) (sym e))
@@ -286,7 +284,7 @@ pub begin_is : {a b c x y z : ℕ} → a ≡ x → b ≡ y → c ≡ z
     → ◌≡◌ {A = Begin} (record { tree = a; list = b; claim = c }) (record { tree = x; list = y; claim = z })
 begin_is d f g = rw (d, f, g) refl
 
-module _ (job : List ℕ) (t : Table) (e : layout.Laid t ≡ layout_of job) where
+module _ (job : List ℕ) (t : Table) (e : Some t ≡ layout_of job) where
   -- the parts of the job that the contents name
   pub first_ends : place_of t.first + length (bytes (span_in job t.first)) ≤ length job
   unfolding lookup entries letter_of
@@ -314,16 +312,16 @@ module _ (job : List ℕ) (t : Table) (e : layout.Laid t ≡ layout_of job) wher
     unfolding solve_bodies bodies_of bodies_from first_text second_text list_text claim_text part lookup entries letter_of
     parts_solved = rw (d, ef, es, el) (sym (job_bodies job _ fits (ap (bodies_from job) (sym e))))
 
-    pub job_solved : t.claim ≡ span.Absent → solve_task t.head.pieces parts_task none ≡ solve_job job
+    pub job_solved : t.claim ≡ None → solve_task t.head.pieces parts_task none ≡ solve_job job
     unfolding span_in
-    job_solved k = ap (λ (s : Span). solve_task t.head.pieces parts_task (span_in job s)) (sym k) ∙ parts_solved
+    job_solved k = ap (λ (s : BodySpan). solve_task t.head.pieces parts_task (span_in job s)) (sym k) ∙ parts_solved
 
-    pub job_judged : (at n : ℕ) → t.claim ≡ span.At at n → (claim : List ℕ) → claim ≡ bytes (span_in job t.claim)
+    pub job_judged : (s : Span) → t.claim ≡ Some s → (claim : List ℕ) → claim ≡ bytes (span_in job t.claim)
         → solve_task false parts_task (some claim) ≡ solve_job job
     unfolding span_in solve_task
-    job_judged at n k claim c =
-        ap (λ (x : List ℕ). solve_task t.head.pieces parts_task (some x)) (c ∙ ap (λ (s : Span). bytes (span_in job s)) k)
-        ∙ ap (λ (s : Span). solve_task t.head.pieces parts_task (span_in job s)) (sym k)
+    job_judged s k claim c =
+        ap (λ (x : List ℕ). solve_task t.head.pieces parts_task (some x)) (c ∙ ap (λ (s : BodySpan). bytes (span_in job s)) k)
+        ∙ ap (λ (s : BodySpan). solve_task t.head.pieces parts_task (span_in job s)) (sym k)
         ∙ parts_solved
 
 -- the answer to bodies is that to their job

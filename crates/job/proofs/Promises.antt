@@ -6,6 +6,8 @@ use mathlib.Core.Logic.{◌↔◌}
 use mathlib.Core.List.{List, [], ◌∷◌, ◌++◌, map}
 use mathlib.Core.Option.{some, none}
 use lib.ListN.{length, take}
+use Rattle.std.specs.Prelude.{Some, None}
+use Rattle.trees.specs.declared.Edition.TheVariants as edition
 use Rattle.trees.specs.declared.Refusal.{Refusal}
 use Rattle.trees.specs.Refusals.{value, row, row_naming, number_of, letter_of}
 use Rattle.trees.specs.Label.{Label, label_limit, is_in}
@@ -24,7 +26,6 @@ use Rattle.agreement.specs.Restrict.{restrict}
 use Rattle.agreement.specs.Sets.{keep, common, set_of}
 use Rattle.agreement.specs.Strict.{SameLeaves}
 use Rattle.pieces.specs.Pieces.{place_of, clades_of, Piece, listed, pieces, total, joined_sets}
-use Rattle.contents.specs.declared.Stated.TheVariants as states
 use Rattle.contents.specs.Contents.{Bodies, digit_limit, edition_of, part, first_text, second_text, list_text, claim_text, under}
 use Rattle.mast.specs.declared.Named.{Named}
 use Rattle.pairs.specs.Outcome.{Outcome, refused, naming, and_then, trio}
@@ -228,8 +229,8 @@ fourteen_places = ClashLaws.fourteen_shown
 
 -- C-15, "a job without it has edition 1": the same job with the line `E 1`, or without it, has the same answer.
 pub edition_one_written : (b : Bodies)
-    → solve_bodies (some (under (record { strict = b.head.strict; stated = states.Nothing; pieces = b.head.pieces }) b))
-    ≡ solve_bodies (some (under (record { strict = b.head.strict; stated = states.One; pieces = b.head.pieces }) b))
+    → solve_bodies (some (under (record { strict = b.head.strict; stated = None; pieces = b.head.pieces }) b))
+    ≡ solve_bodies (some (under (record { strict = b.head.strict; stated = Some edition.One; pieces = b.head.pieces }) b))
 unfolding solve_bodies edition_of first_text second_text list_text claim_text part
 edition_one_written b = refl
 

@@ -4,7 +4,6 @@
 #![tactic(auto)]
 
 ghost use Rattle.std.specs.Prelude.{◌≡◌, length, replicate, ◌+◌, ◌≤◌, false};
-ghost use Rattle.contents.specs.declared.Layout.TheVariants as layout;
 ghost use Rattle.contents.specs.Contents.{layout_of};
 ghost use Rattle.std.proofs.Math.Option.{some, none};
 ghost use Rattle.queries.specs.Query.{task};
@@ -17,7 +16,7 @@ ghost use Rattle.lines.specs.PieceLines.{lines_at};
 ghost use Rattle.job.specs.Answered.{lines_answer, base_of, moved_by, answered, answer_to, job_output};
 
 use claims::ClaimAnswer;
-use contents::{Layout, Span, Table};
+use contents::Table;
 use mast::{DividedResult, LargestAnswer, Named, NamedLabel};
 use pairs::Options;
 use trees::{Body, Reason, Refusal, TREE_ROOM};
@@ -197,7 +196,7 @@ fn answer_claim(
 // The answer to a job with these contents: the verdict on its claim, or the set if it has none.
 fn answer_laid(job: &[u8], table: Table, out: &mut [u8]) -> JobAnswer
     requires job_len_bound { length job.now ≤ job_limit }
-    requires table_value { layout.Laid table ≡ layout_of job.now }
+    requires table_value { Some table ≡ layout_of job.now }
     ensures answer { result ≡ answer_to job.now (length out.old) }
     ensures output { out.new ≡ job_output (solve_job job.now) out.old }
 {
@@ -220,10 +219,8 @@ fn answer_laid(job: &[u8], table: Table, out: &mut [u8]) -> JobAnswer
     let t = contents::bytes_of(job, second);
     let k = contents::bytes_of(job, list);
     match claim {
-        Span::Absent => answer_bodies(head.pieces, options, s, t, k, at, out),
-        Span::At(_, _) => {
-            answer_claim(options, s, t, k, contents::bytes_of(job, claim), at, out)
-        }
+        None => answer_bodies(head.pieces, options, s, t, k, at, out),
+        Some(_) => { answer_claim(options, s, t, k, contents::bytes_of(job, claim), at, out) }
     }
 }
 
@@ -235,8 +232,7 @@ pub fn answer_job(job: &[u8], out: &mut [u8]) -> JobAnswer
     if JOB_LIMIT < job.len() {
         return job_refusal(Reason::JobTooLong);
     }
-    let layout = contents::contents(job);
-    let Layout::Laid(table) = layout else {
+    let Some(table) = contents::contents(job) else {
         return job_refusal(Reason::Contents);
     };
     answer_laid(job, table, out)

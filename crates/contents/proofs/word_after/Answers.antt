@@ -1,20 +1,20 @@
--- `contents::word_after` meets its contract: nothing to go on from, other bytes, or these. Assumes nothing.
-use mathlib.Core.Path.{sym, ◌∙◌}
-use native.Mathlib.Omega.{arith}
-use Rattle.contents.proofs.StepLaws.{begins_room, word_broken, word_if}
+-- `contents::word_after` meets its contract: other bytes, or these. Assumes nothing.
+use Rattle.std.proofs.Common.{◌≡◌, true, drop, refl, ◌∙◌, arith}
+use Rattle.contents.specs.Contents.{begins}
+use Rattle.contents.proofs.BeginsLaws.{begins_tested}
+use Rattle.contents.proofs.StepLaws.{begins_room, word_if}
 use Rattle.contents.proofs.word_after.Goals as goal
 
-pub returns-in_default : goal.returns-in_default
-returns-in_default c = word_broken _ _ _ c.in_default.is
-
-pub returns-then-not-begins_at : goal.returns-then-not-begins_at
-returns-then-not-begins_at c =
-    word_if _ _ _ c.in-At.at c.in-At.is _ (sym c.begins_at.ensures ∙ c.if-not-begins_at.true)
+pub returns-then-not-starts_with : goal.returns-then-not-starts_with
+returns-then-not-starts_with c =
+    word_if _ _ _ c.args.at refl _ (begins_tested _ _ _ _ c.starts_with.ensures.value c.rest.ensures ∙ c.if-not-starts_with.true)
 
 pub overflow_add-result : goal.overflow_add-result
 overflow_add-result c =
-    let a = c.args in omega (arith, begins_room a.word.now a.job.now c.in-At.at 18446744073709551615 (sym c.begins_at.ensures ∙ c.if-not-begins_at.false) (omega arith) (omega arith))
+    let a = c.args in
+    let there : begins a.word.now (drop a.at a.job.now) ≡ true = begins_tested _ _ _ _ c.starts_with.ensures.value c.rest.ensures ∙ c.if-not-starts_with.false in
+    omega (arith, begins_room a.word.now a.job.now a.at 18446744073709551615 there (omega arith) (omega arith))
 
 pub returns : goal.returns
 returns c =
-    word_if _ _ _ c.in-At.at c.in-At.is _ (sym c.begins_at.ensures ∙ c.if-not-begins_at.false)
+    word_if _ _ _ c.args.at refl _ (begins_tested _ _ _ _ c.starts_with.ensures.value c.rest.ensures ∙ c.if-not-starts_with.false)

@@ -21,12 +21,12 @@ pub returns-in_default-clause-answer : goal.returns-in_default-clause-answer
 unfolding answer_to
 returns-in_default-clause-answer c =
     let f = job_broken c.args.job.now (omega arith) (sym
-    c.in_default.is ∙ c.contents-layout.ensures) in
+    c.in_default.is ∙ c.contents.ensures) in
     c.job_refusal-in_default.ensures ∙ answered_refused _ _ _ _ f
 
 pub returns-in_default-clause-output : goal.returns-in_default-clause-output
 unfolding answer_to
 returns-in_default-clause-output c =
     let f = job_broken c.args.job.now (omega arith) (sym
-    c.in_default.is ∙ c.contents-layout.ensures) in
+    c.in_default.is ∙ c.contents.ensures) in
     output_refused _ _ _ f
