@@ -28,10 +28,8 @@ use Rattle.trees.proofs.TokenForms.{inner_of, opening_of, so_far, form_spelling,
 use Rattle.trees.proofs.ReadingLaws.{Plain, plain_label, KindView, is_label, is_open, is_close, is_comma, is_semicolon, is_quote, is_blank}
 use Rattle.trees.proofs.ReadingLaws.{is_other, kind_view, kind_label, kind_inner, run_none, run_end, Begun, quote_first_lem, other_first}
 use Rattle.trees.proofs.ReadingLaws.{none_first, repeats_ended, repeats_long, repeats_unclosed, repeats_empty}
-use Rattle.lists.specs.declared.Stage.{Stage}
-use Rattle.lists.specs.declared.Stage.TheVariants.{Start, Due, Bare, Quoted, Closed}
-use Rattle.lists.specs.declared.Move.{Move}
-use Rattle.lists.specs.declared.Move.TheVariants.{Next, Stop}
+use Rattle.lists.specs.ListMachine.{Stage, Start, Due, Bare, Quoted, Closed}
+use Rattle.lists.specs.ListMachine.{Move, Next, Stop}
 use Rattle.lists.specs.declared.ListRead.{ListRead}
 use Rattle.lists.specs.ReadList.{label_due, in_bare, in_quotes, after_quote, next, stop, begins, goes_on, step_due, step_after}
 use Rattle.lists.specs.ReadList.{step_bare, step_quotes, step, end_of, read_from, read_list, list_limit, list_read, padded, places_of}

@@ -17,10 +17,8 @@ use Rattle.trees.specs.declared.Refusal.{Refusal}
 use Rattle.trees.specs.Bytes.{kind_of}
 use Rattle.trees.specs.Label.{label_limit}
 use Rattle.trees.specs.Reading.{refused}
-use Rattle.lists.specs.declared.Stage.{Stage}
-use Rattle.lists.specs.declared.Stage.TheVariants.{Start, Due, Bare, Quoted, Closed}
-use Rattle.lists.specs.declared.Move.{Move}
-use Rattle.lists.specs.declared.Move.TheVariants.{Next, Stop}
+use Rattle.lists.specs.ListMachine.{Stage, Start, Due, Bare, Quoted, Closed}
+use Rattle.lists.specs.ListMachine.{Move, Next, Stop}
 use Rattle.lists.specs.declared.ListRead.{ListRead}
 use Rattle.lists.specs.ReadList.{list_limit, list_read}
 use Rattle.lists.specs.ListMachine.{After, after, ended, token_room, Room, repeat_of, begin_of, due_of, close_of, more_of, bare_of, quote_of, quoted_of}
@@ -169,10 +167,18 @@ module _ (text : List ℕ) (body : Body) (stage : Stage) (start size : List ℕ)
     unfolding run_from branch
     run_next stage' start' size' e = sym (ap branch e)
 
+    -- a refusal, whatever is in the arrays
+    halted : Move → ListRead
+    halted o = branch (after o (step_of text (kind_of b) at stage start size).start (step_of text (kind_of b) at stage start size).size)
+
+    pub run_halt : (r : Reason) (place : ℕ) → Stop r place ≡ (step_of text (kind_of b) at stage start size).outcome
+        → run_from text body stage start size at (b ∷ rest) ≡ list_read body (refused r place)
+    unfolding run_from branch halted
+    run_halt r place e = sym (ap halted e)
+
     pub run_stop : (r : Reason) (place : ℕ) (start' size' : List ℕ) → after (Stop r place) start' size' ≡ step_of text (kind_of b) at stage start size
         → run_from text body stage start size at (b ∷ rest) ≡ list_read body (refused r place)
-    unfolding run_from branch
-    run_stop r place start' size' e = sym (ap branch e)
+    run_stop r place start' size' e = run_halt r place (ap (λ (a : After). a.outcome) e)
 
   pub run_end : (a : Result ℕ Refusal) (start' size' : List ℕ) → ended a start' size' ≡ end_at text body stage at start size
       → run_from text body stage start size at [] ≡ answer_of a start' size'

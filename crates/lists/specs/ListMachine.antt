@@ -1,22 +1,54 @@
 -- Intermediate: nothing public rests on this text. The list reader as its loop goes: stages, places in arrays, a repeat found at a label's
 -- end. proofs/ListSimulation.antt relates it to `read_list`.
-use Rattle.std.specs.Prelude.{ℕ, ◌+◌, ◌*◌, ◌≤◌, ◌<◌, Bool, cond, List, [], ◌∷◌, eqb, ltb, set, Result, Ok, Err}
+use Rattle.std.specs.Prelude.{ℕ, ◌+◌, ◌*◌, ◌≤◌, ◌<◌, ◌≡◌, Bool, true, false, cond, List, [], ◌∷◌, eqb, ltb, set, Result, Ok, Err}
 use Rattle.trees.specs.declared.Kind.{Kind}
 use Rattle.trees.specs.declared.Kind.TheVariants.{Label as LabelByte, Open, Close, Comma, Semicolon, Quote, Blank, Other}
+use Rattle.trees.specs.declared.Reason.{Reason}
 use Rattle.trees.specs.declared.Reason.TheVariants.{BadByte, EndsTooSoon, LabelTooLong, TooMany, Repeated}
 use Rattle.trees.specs.declared.Body.{Body}
+use Rattle.trees.specs.declared.Edition.{Edition}
 use Rattle.trees.specs.declared.Refusal.{Refusal}
 use Rattle.trees.specs.Bytes.{kind_of}
+use Rattle.trees.specs.Edition.{in_edition}
 use Rattle.trees.specs.Label.{label_limit}
 use Rattle.trees.specs.Token.{token_limit}
 use Rattle.trees.specs.Stored.{part_of, is_among}
 use Rattle.trees.specs.Reading.{refused}
-use Rattle.lists.specs.declared.Stage.{Stage}
-use Rattle.lists.specs.declared.Stage.TheVariants.{Start, Due, Bare, Quoted, Closed}
-use Rattle.lists.specs.declared.Move.{Move}
-use Rattle.lists.specs.declared.Move.TheVariants.{Next, Stop}
+use Rattle.lists.specs.declared.Mode.{Mode}
+use Rattle.lists.specs.declared.Mode.TheVariants as In
+use Rattle.lists.specs.declared.Fault.{Fault}
+use Rattle.lists.specs.declared.Reader.{Reader}
+use Rattle.lists.specs.declared.LabelPlaces.{LabelPlaces}
 use Rattle.lists.specs.declared.ListRead.{ListRead}
 use Rattle.lists.specs.ReadList.{list_limit, list_read, places_of}
+
+-- where the reader stands, with `count` labels complete
+pub data Stage : Type 0 where
+  Start : Stage
+  Due : (count : ℕ) → Stage
+  Bare : (first len count : ℕ) → Stage
+  Quoted : (first len count : ℕ) → Stage
+  Closed : (count : ℕ) → Stage
+
+-- what a byte leads to: the next stage, or a refusal's reason and place
+pub data Move : Type 0 where
+  Next : Stage → Move
+  Stop : Reason → ℕ → Move
+
+-- what a reader has
+abbrev pub text_in : Reader → List ℕ
+text_in r = in_edition r.edition r.text.now
+
+abbrev pub mode_in : Mode → LabelPlaces → Stage
+mode_in In.Start p = Start
+mode_in In.Due p = Due p.count
+mode_in (In.Bare first len) p = Bare first len p.count
+mode_in (In.Quoted first len) p = Quoted first len p.count
+mode_in In.Closed p = Closed p.count
+
+abbrev pub move_in : Result Mode Fault → LabelPlaces → Move
+move_in (Ok m) p = Next (mode_in m p)
+move_in (Err f) p = Stop f.0 f.1
 
 -- a step's outcome with the arrays after it
 pub record After : Type 0 where
@@ -26,6 +58,17 @@ pub record After : Type 0 where
 
 abbrev pub after : Move → List ℕ → List ℕ → After
 after o start size = record { outcome = o; start = start; size = size }
+
+-- a reader's step leads where the machine's does; what a refusal leaves in the arrays is free
+abbrev pub Leads : Result Mode Fault → LabelPlaces → After → Type 0
+Leads (Ok m) p a = after (Next (mode_in m p)) p.start p.size ≡ a
+Leads (Err f) p a = Stop f.0 f.1 ≡ a.outcome
+
+-- a step leads from one reader to another, of the same text
+pub record Steps (old new : Reader) (result : Result Mode Fault) (a : After) : Type 0 where
+  pub leads : Leads result new.places a
+  pub edition_kept : new.edition ≡ old.edition
+  pub text_kept : new.text ≡ old.text
 
 -- the end's answer with the arrays after it
 pub record AtEnd : Type 0 where
@@ -55,9 +98,37 @@ Room (Bare first len count) at = Fits first len count × (at ≤ first + len)
 Room (Quoted first len count) at = Fits first (len + 2) count × (at ≤ first + len + 1)
 Room (Closed count) at = (count ≤ list_limit) × (at + 1 ≤ token_room * count)
 
+-- what a step in this mode may rely on
+abbrev pub Ready : Mode → LabelPlaces → (at : ℕ) → Type 0
+Ready In.Start p at = (p.count ≡ 0) × (at ≤ 0)
+Ready In.Due p at = Room (Due p.count) at
+Ready (In.Bare first len) p at = Room (Bare first len p.count) at
+Ready (In.Quoted first len) p at = Room (Quoted first len p.count) at
+Ready In.Closed p at = Room (Closed p.count) at
+
+-- nothing is read yet
+pub record Fresh (e : Edition) (text : List ℕ) (r : Reader) : Type 0 where
+  pub edition_is : r.edition ≡ e
+  pub text_is : r.text.now ≡ text
+  pub places_are : r.places ≡ places_of []
+
 -- the token of len bytes at first decodes to the same label as one of the `count` before it
 unfoldable pub repeat_of : List ℕ → List ℕ → List ℕ → (count first len : ℕ) → Bool
 repeat_of text start size count first len = is_among text start size count (part_of first len text)
+
+-- with one label more
+abbrev pub grown : LabelPlaces → (first len : ℕ) → LabelPlaces
+grown p first len = record { count = p.count + 1; start = set p.start p.count first; size = set p.size p.count len }
+
+-- a label has ended: `repeats` is told, or its place is kept
+abbrev pub Kept : (repeats : Bool) → (first len : ℕ) → (old new : LabelPlaces) → Result (Unit {0}) Fault → Type 0
+Kept repeats first len old new (Ok _) = (repeats ≡ false) × (new ≡ grown old first len)
+Kept repeats first len old new (Err f) = (repeats ≡ true) × (f ≡ record { 0 = Repeated; 1 = first })
+
+pub record Ends (old new : Reader) (first len : ℕ) (result : Result (Unit {0}) Fault) : Type 0 where
+  pub kept : Kept (repeat_of (text_in old) old.places.start old.places.size old.places.count first len) first len old.places new.places result
+  pub edition_kept : new.edition ≡ old.edition
+  pub text_kept : new.text ≡ old.text
 
 -- a label begins here
 unfoldable pub begin_of : (at count : ℕ) → Stage → Move
@@ -147,6 +218,17 @@ end_at text body (Bare first len count) at start size =
 end_at text body (Quoted first len count) at start size =
     ended (Err (record { reason = EndsTooSoon; body = body; place = at })) start size
 end_at text body (Closed count) at start size = ended (Ok count) start size
+
+-- a reader's answer where the text ends, about the given body, is the machine's
+abbrev pub EndsAs : Body → Result ℕ Fault → LabelPlaces → AtEnd → Type 0
+EndsAs body (Ok n) p a = (ended (Ok n) p.start p.size ≡ a) × (p.count ≡ n)
+EndsAs body (Err f) p a = Err (record { reason = f.0; body = body; place = f.1 }) ≡ a.answer
+
+-- with the places of a list that was read
+unfoldable pub told_read : Body → Result ℕ Fault → LabelPlaces → ListRead
+unfolding places_of
+told_read body (Ok n) p = record { answer = Ok n; places = p }
+told_read body (Err f) p = record { answer = Err (record { reason = f.0; body = body; place = f.1 }); places = places_of [] }
 
 -- the answer with the places; a refusal has none
 unfoldable pub answer_of : Result ℕ Refusal → List ℕ → List ℕ → ListRead

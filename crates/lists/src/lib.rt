@@ -3,14 +3,11 @@
 // No public function has a `requires`: a text of any length and any bytes is answered.
 #![tactic(auto)]
 
-ghost use Rattle.std.specs.Prelude.{◌≡◌, ◌+◌, length, set};
-ghost use Rattle.lists.specs.ReadList.{list_limit, list_read, read_list_in};
+ghost use Rattle.std.specs.Prelude.{◌≡◌, ◌+◌, [], length};
+ghost use Rattle.trees.specs.declared.Body.{Body};
 ghost use Rattle.trees.specs.Edition.{in_edition};
 ghost use Rattle.trees.specs.Slots.{SlotMarks};
-ghost use Rattle.trees.specs.declared.Reason.TheVariants.{EndsTooSoon};
-ghost use Rattle.lists.specs.declared.Stage.TheVariants.{Quoted};
-ghost use Rattle.lists.specs.ListMachine.{Fits, Room, after, answer_of, bare_of, begin_of, close_of, closed_of, due_of, end_at, ended};
-ghost use Rattle.lists.specs.ListMachine.{more_of, quote_of, quoted_of, repeat_of, step_of};
+ghost use Rattle.lists.specs.ReadList.{list_limit, list_read, places_of, read_list_in};
 
 use trees::{Body, Edition, Kind, LABEL_LIMIT, Reason, Refusal, SLOTS};
 
@@ -25,387 +22,230 @@ pub struct LabelPlaces {
     pub size: [u8; LIST_LIMIT],
 }
 
-// How many labels were read, or why the text was turned down, with the places beside it; those of a refusal hold no label.
+// How many labels were read, or why the text was turned down. The places stand beside it; those of a refusal hold no label.
 #[derive(Clone, Copy)]
 pub struct ListRead {
     pub answer: Result<usize, Refusal>,
     pub places: LabelPlaces,
 }
 
-// Where the reader stands, with `count` labels complete: at the start, where a label must begin,
-// inside a label without quotes whose `len` bytes from `first` on have been read, between the quotes
-// of a label that opened at `first` with `len` bytes so far, or just after a closing quote.
+// Where the reader stands: at the start; where a label must begin; inside a bare label, with its first byte and its length so far; after
+// an opening quote, with its place and how many bytes stand since; just after a closing quote.
 #[derive(Clone, Copy)]
-enum Stage {
+enum Mode {
     Start,
-    Due {
-        count: usize,
-    },
-    Bare {
-        first: usize,
-        len: usize,
-        count: usize,
-    },
-    Quoted {
-        first: usize,
-        len: usize,
-        count: usize,
-    },
-    Closed {
-        count: usize,
-    },
+    Due,
+    Bare(usize, usize),
+    Quoted(usize, usize),
+    Closed,
 }
 
-// What a byte leads to: the next stage, or a refusal's reason and place.
+// Why a text is turned down, and the place.
 #[derive(Clone, Copy)]
-enum Move {
-    Next(Stage),
-    Stop(Reason, usize),
+struct Fault(Reason, usize);
+
+// A text and what is read of it so far: the labels that are complete, and marks for them.
+#[derive(Drop)]
+struct Reader<'a> {
+    edition: Edition,
+    text: &'a [u8],
+    places: LabelPlaces,
+    seen: [u8; SLOTS],
+    ghost marked: { SlotMarks list_limit (in_edition edition text.now) places.start places.size seen },
 }
 
-// A label begins with this byte. The 81st is refused before it is compared.
-fn begin(at: usize, count: usize, stage: Stage) -> Move
-    ensures { result ≡ begin_of at count stage }
+// The places of no label.
+#[tactic(auto, unfolding(crate::specs::ReadList::places_of))]
+fn no_labels() -> LabelPlaces
+    ensures { result ≡ places_of [] }
 {
-    if count < LIST_LIMIT {
-        Move::Next(stage)
-    } else {
-        Move::Stop(Reason::TooMany, at)
+    LabelPlaces {
+        count: 0,
+        start: [0; LIST_LIMIT],
+        size: [0; LIST_LIMIT],
     }
 }
 
-// A byte where a label must begin: a quote opens one.
-fn due(kind: Kind, at: usize, count: usize) -> Move
-    ensures { result ≡ due_of kind at count }
-{
-    match kind {
-        Kind::Label => begin(
-            at,
-            count,
-            Stage::Bare {
-                first: at,
-                len: 1,
-                count,
-            },
-        ),
-        Kind::Quote => begin(
-            at,
-            count,
-            Stage::Quoted {
-                first: at,
-                len: 0,
-                count,
-            },
-        ),
-        Kind::Open => Move::Stop(Reason::BadByte, at),
-        Kind::Close => Move::Stop(Reason::BadByte, at),
-        Kind::Comma => Move::Stop(Reason::BadByte, at),
-        Kind::Semicolon => Move::Stop(Reason::BadByte, at),
-        Kind::Blank => Move::Stop(Reason::BadByte, at),
-        Kind::Other => Move::Stop(Reason::BadByte, at),
-    }
-}
+impl<'a> Reader<'a> {
+    ghost use Rattle.lists.specs.ListMachine.{text_in, mode_in, move_in, Steps, Ends, EndsAs, Fits, Ready, Fresh, repeat_of};
+    ghost use Rattle.lists.specs.ListMachine.{begin_of, due_of, more_of, bare_of, quoted_of, closed_of, step_of, end_at, told_read};
 
-// Keeps the place of a label that has ended, and says whether one of the `count` before it is the same.
-// A label whose slot has no mark is compared with nothing.
-fn keep(
-    edition: Edition,
-    text: &[u8],
-    first: usize,
-    len: usize,
-    count: usize,
-    start: &mut [u16; LIST_LIMIT],
-    size: &mut [u8; LIST_LIMIT],
-    seen: &mut [u8; SLOTS],
-) -> bool
-    requires fits { Fits first len count }
-    requires slot_marks { SlotMarks list_limit (in_edition edition text.now) start.old size.old seen.old }
-    ensures value { result ≡ repeat_of (in_edition edition text.now) start.old size.old count first len }
-    ensures start_after { start.new ≡ set start.old count first }
-    ensures size_after { size.new ≡ set size.old count len }
-    ensures slot_marks_2 { SlotMarks list_limit (in_edition edition text.now) start.new size.new seen.new }
-{
-    let token = trees::part(text, first, len);
-    let slot = trees::slot(edition, token);
-    let found = trees::is_met(edition, text, start, size, count, token, seen, slot);
-    seen[slot] = 1;
-    start[count] = trees::narrow_place(first);
-    size[count] = trees::narrow(len);
-    found
-}
-
-// The label that began at `first` has ended: a repeat is told at its first byte, a new label leaves what follows.
-fn close(
-    edition: Edition,
-    text: &[u8],
-    first: usize,
-    len: usize,
-    count: usize,
-    start: &mut [u16; LIST_LIMIT],
-    size: &mut [u8; LIST_LIMIT],
-    seen: &mut [u8; SLOTS],
-    following: Move,
-) -> Move
-    requires fits { Fits first len count }
-    requires slot_marks { SlotMarks list_limit (in_edition edition text.now) start.old size.old seen.old }
-    ensures size_after { after result start.new size.new
-        ≡ close_of (in_edition edition text.now) start.old size.old count first len following }
-    ensures slot_marks_2 { SlotMarks list_limit (in_edition edition text.now) start.new size.new seen.new }
-{
-    if keep(edition, text, first, len, count, start, size, seen) {
-        return Move::Stop(Reason::Repeated, first);
-    }
-    following
-}
-
-// A byte inside a label without quotes or just after it. The byte past a label's limit is refused before the label is compared.
-fn bare(
-    edition: Edition,
-    text: &[u8],
-    kind: Kind,
-    at: usize,
-    first: usize,
-    len: usize,
-    count: usize,
-    start: &mut [u16; LIST_LIMIT],
-    size: &mut [u8; LIST_LIMIT],
-    seen: &mut [u8; SLOTS],
-) -> Move
-    requires fits { Fits first len count }
-    requires slot_marks { SlotMarks list_limit (in_edition edition text.now) start.old size.old seen.old }
-    ensures size_after { after result start.new size.new
-        ≡ bare_of (in_edition edition text.now) kind at first len count start.old size.old }
-    ensures slot_marks_2 { SlotMarks list_limit (in_edition edition text.now) start.new size.new seen.new }
-{
-    let bad = Move::Stop(Reason::BadByte, at);
-    match kind {
-        Kind::Label => {
-            if len < LABEL_LIMIT {
-                Move::Next(Stage::Bare {
-                    first,
-                    len: len + 1,
-                    count,
-                })
-            } else {
-                Move::Stop(Reason::LabelTooLong, at)
-            }
-        }
-        Kind::Comma => close(
+    // Where each reading starts: no label is read.
+    fn new(edition: Edition, text: &'a [u8]) -> Reader<'a>
+        ensures { Fresh edition text.now result }
+    {
+        Reader {
             edition,
             text,
-            first,
-            len,
-            count,
-            start,
-            size,
-            seen,
-            Move::Next(Stage::Due { count: count + 1 }),
-        ),
-        Kind::Quote => close(edition, text, first, len, count, start, size, seen, bad),
-        Kind::Open => close(edition, text, first, len, count, start, size, seen, bad),
-        Kind::Close => close(edition, text, first, len, count, start, size, seen, bad),
-        Kind::Semicolon => close(edition, text, first, len, count, start, size, seen, bad),
-        Kind::Blank => close(edition, text, first, len, count, start, size, seen, bad),
-        Kind::Other => close(edition, text, first, len, count, start, size, seen, bad),
-    }
-}
-
-// One more byte between quotes.
-fn more(at: usize, first: usize, len: usize, count: usize) -> Move
-    ensures { result ≡ more_of at len (Quoted first (len + 1) count) }
-{
-    if len < LABEL_LIMIT {
-        Move::Next(Stage::Quoted {
-            first,
-            len: len + 1,
-            count,
-        })
-    } else {
-        Move::Stop(Reason::LabelTooLong, at)
-    }
-}
-
-// The second quote of a label: a byte at least stands before it, and only now is the label compared.
-fn quote(
-    edition: Edition,
-    text: &[u8],
-    at: usize,
-    first: usize,
-    len: usize,
-    count: usize,
-    start: &mut [u16; LIST_LIMIT],
-    size: &mut [u8; LIST_LIMIT],
-    seen: &mut [u8; SLOTS],
-) -> Move
-    requires fits { Fits first (len + 2) count }
-    requires slot_marks { SlotMarks list_limit (in_edition edition text.now) start.old size.old seen.old }
-    ensures size_after { after result start.new size.new
-        ≡ quote_of (in_edition edition text.now) at first len count start.old size.old }
-    ensures slot_marks_2 { SlotMarks list_limit (in_edition edition text.now) start.new size.new seen.new }
-{
-    if len == 0 {
-        return Move::Stop(Reason::BadByte, at);
-    }
-    let next = Move::Next(Stage::Closed { count: count + 1 });
-    close(
-        edition,
-        text,
-        first,
-        len + 2,
-        count,
-        start,
-        size,
-        seen,
-        next,
-    )
-}
-
-// A byte after an opening quote. Nothing but label bytes, blanks and a quote may stand there, also where a label is too long.
-fn quoted(
-    edition: Edition,
-    text: &[u8],
-    kind: Kind,
-    at: usize,
-    first: usize,
-    len: usize,
-    count: usize,
-    start: &mut [u16; LIST_LIMIT],
-    size: &mut [u8; LIST_LIMIT],
-    seen: &mut [u8; SLOTS],
-) -> Move
-    requires fits { Fits first (len + 2) count }
-    requires slot_marks { SlotMarks list_limit (in_edition edition text.now) start.old size.old seen.old }
-    ensures size_after { after result start.new size.new
-        ≡ quoted_of (in_edition edition text.now) kind at first len count start.old size.old }
-    ensures slot_marks_2 { SlotMarks list_limit (in_edition edition text.now) start.new size.new seen.new }
-{
-    match kind {
-        Kind::Label => more(at, first, len, count),
-        Kind::Blank => more(at, first, len, count),
-        Kind::Quote => quote(edition, text, at, first, len, count, start, size, seen),
-        Kind::Open => Move::Stop(Reason::BadByte, at),
-        Kind::Close => Move::Stop(Reason::BadByte, at),
-        Kind::Comma => Move::Stop(Reason::BadByte, at),
-        Kind::Semicolon => Move::Stop(Reason::BadByte, at),
-        Kind::Other => Move::Stop(Reason::BadByte, at),
-    }
-}
-
-// A byte just after a closing quote.
-fn after_quote(kind: Kind, at: usize, count: usize) -> Move
-    ensures { result ≡ closed_of kind at count }
-{
-    match kind {
-        Kind::Comma => Move::Next(Stage::Due { count }),
-        Kind::Label => Move::Stop(Reason::BadByte, at),
-        Kind::Quote => Move::Stop(Reason::BadByte, at),
-        Kind::Open => Move::Stop(Reason::BadByte, at),
-        Kind::Close => Move::Stop(Reason::BadByte, at),
-        Kind::Semicolon => Move::Stop(Reason::BadByte, at),
-        Kind::Blank => Move::Stop(Reason::BadByte, at),
-        Kind::Other => Move::Stop(Reason::BadByte, at),
-    }
-}
-
-// What the byte of this kind at place `at` leads to.
-fn step(
-    edition: Edition,
-    text: &[u8],
-    kind: Kind,
-    at: usize,
-    stage: Stage,
-    start: &mut [u16; LIST_LIMIT],
-    size: &mut [u8; LIST_LIMIT],
-    seen: &mut [u8; SLOTS],
-) -> Move
-    requires room { Room stage at }
-    requires slot_marks { SlotMarks list_limit (in_edition edition text.now) start.old size.old seen.old }
-    ensures size_after { after result start.new size.new
-        ≡ step_of (in_edition edition text.now) kind at stage start.old size.old }
-    ensures slot_marks_2 { SlotMarks list_limit (in_edition edition text.now) start.new size.new seen.new }
-{
-    match stage {
-        Stage::Start => due(kind, at, 0),
-        Stage::Due { count } => due(kind, at, count),
-        Stage::Bare { first, len, count } => bare(
-            edition, text, kind, at, first, len, count, start, size, seen,
-        ),
-        Stage::Quoted { first, len, count } => quoted(
-            edition, text, kind, at, first, len, count, start, size, seen,
-        ),
-        Stage::Closed { count } => after_quote(kind, at, count),
-    }
-}
-
-// The text ends too soon.
-fn too_soon(text: &[u8], body: Body) -> Result<usize, Refusal>
-    ensures { result ≡ Err (record { reason = EndsTooSoon; body = body; place = length text.now }) }
-{
-    Err(Refusal {
-        reason: Reason::EndsTooSoon,
-        body,
-        place: text.len(),
-    })
-}
-
-// The text ends, which also completes a label without quotes.
-fn at_end(
-    edition: Edition,
-    text: &[u8],
-    body: Body,
-    stage: Stage,
-    start: &mut [u16; LIST_LIMIT],
-    size: &mut [u8; LIST_LIMIT],
-    seen: &mut [u8; SLOTS],
-) -> Result<usize, Refusal>
-    requires room { Room stage (length text.now) }
-    requires slot_marks { SlotMarks list_limit (in_edition edition text.now) start.old size.old seen.old }
-    ensures { ended result start.new size.new
-        ≡ end_at (in_edition edition text.now) body stage (length text.now) start.old size.old }
-{
-    match stage {
-        Stage::Start => Ok(0),
-        Stage::Due { count: _ } => too_soon(text, body),
-        Stage::Bare { first, len, count } => {
-            if keep(edition, text, first, len, count, start, size, seen) {
-                return Err(Refusal {
-                    reason: Reason::Repeated,
-                    body,
-                    place: first,
-                });
-            }
-            Ok(count + 1)
+            places: no_labels(),
+            seen: trees::first_marks(),
         }
-        Stage::Quoted {
-            first: _,
-            len: _,
-            count: _,
-        } => too_soon(text, body),
-        Stage::Closed { count } => Ok(count),
     }
-}
 
-// The answer with the places of its labels.
-fn told(
-    answer: Result<usize, Refusal>,
-    start: [u16; LIST_LIMIT],
-    size: [u8; LIST_LIMIT],
-) -> ListRead
-    ensures { result ≡ answer_of answer start size }
-{
-    match answer {
-        Ok(count) => ListRead {
-            answer,
-            places: LabelPlaces { count, start, size },
-        },
-        Err(_) => ListRead {
-            answer,
-            places: LabelPlaces {
-                count: 0,
-                start: [0; LIST_LIMIT],
-                size: [0; LIST_LIMIT],
-            },
-        },
+    // A label begins with the byte at `at`. The 81st is refused before it is compared.
+    #[tactic(auto, unfolding(crate::specs::ListMachine::begin_of))]
+    fn begin(&self, mode: Mode, at: usize) -> Result<Mode, Fault>
+        ensures { move_in result self.now.places ≡ begin_of at self.now.places.count (mode_in mode self.now.places) }
+    {
+        if self.places.count < LIST_LIMIT {
+            Ok(mode)
+        } else {
+            Err(Fault(Reason::TooMany, at))
+        }
+    }
+
+    // A byte where a label must begin: a quote opens one.
+    #[tactic(auto, unfolding(crate::specs::ListMachine::due_of))]
+    fn due(&self, kind: Kind, at: usize) -> Result<Mode, Fault>
+        ensures { move_in result self.now.places ≡ due_of kind at self.now.places.count }
+    {
+        match kind {
+            Kind::Label => self.begin(Mode::Bare(at, 1), at),
+            Kind::Quote => self.begin(Mode::Quoted(at, 0), at),
+            _ => Err(Fault(Reason::BadByte, at)),
+        }
+    }
+
+    // The label of `len` bytes from `first` has ended: a repeat is told at its first byte, else its place is kept. A label whose slot has no
+    // mark is compared with nothing.
+    fn keep(&mut self, first: usize, len: usize) -> Result<(), Fault>
+        requires { Fits first len self.old.places.count }
+        ensures { Ends self.old self.new first len result }
+    {
+        let count = self.places.count;
+        let token = trees::part(self.text, first, len);
+        let slot = trees::slot(self.edition, token);
+        if trees::is_met(
+            self.edition,
+            self.text,
+            &self.places.start,
+            &self.places.size,
+            count,
+            token,
+            &self.seen,
+            slot,
+        ) {
+            return Err(Fault(Reason::Repeated, first));
+        }
+        self.seen[slot] = 1;
+        self.places.start[count] = trees::narrow_place(first);
+        self.places.size[count] = trees::narrow(len);
+        self.places.count += 1;
+        Ok(())
+    }
+
+    // One more byte of a label that has `len`.
+    #[tactic(auto, unfolding(crate::specs::ListMachine::more_of))]
+    fn more(&self, mode: Mode, len: usize, at: usize) -> Result<Mode, Fault>
+        ensures { move_in result self.now.places ≡ more_of at len (mode_in mode self.now.places) }
+    {
+        if len < LABEL_LIMIT {
+            Ok(mode)
+        } else {
+            Err(Fault(Reason::LabelTooLong, at))
+        }
+    }
+
+    // A byte inside or just after a bare label. The byte past a label's limit is refused before the label is compared.
+    #[tactic(auto, unfolding(crate::specs::ListMachine::bare_of))]
+    fn bare(&mut self, first: usize, len: usize, kind: Kind, at: usize) -> Result<Mode, Fault>
+        requires { Fits first len self.old.places.count }
+        ensures { Steps self.old self.new result
+            (bare_of (text_in self.old) kind at first len self.old.places.count self.old.places.start self.old.places.size) }
+    {
+        match kind {
+            Kind::Label => self.more(Mode::Bare(first, len + 1), len, at),
+            Kind::Comma => {
+                self.keep(first, len)?;
+                Ok(Mode::Due)
+            }
+            _ => {
+                self.keep(first, len)?;
+                Err(Fault(Reason::BadByte, at))
+            }
+        }
+    }
+
+    // A byte after the opening quote at `first` and `len` bytes. A closing quote ends the label, which is compared only now.
+    #[tactic(auto, unfolding(crate::specs::ListMachine::quoted_of))]
+    fn quoted(&mut self, first: usize, len: usize, kind: Kind, at: usize) -> Result<Mode, Fault>
+        requires { Fits first (len + 2) self.old.places.count }
+        ensures { Steps self.old self.new result
+            (quoted_of (text_in self.old) kind at first len self.old.places.count self.old.places.start self.old.places.size) }
+    {
+        match kind {
+            Kind::Label => self.more(Mode::Quoted(first, len + 1), len, at),
+            Kind::Blank => self.more(Mode::Quoted(first, len + 1), len, at),
+            Kind::Quote => {
+                if len == 0 {
+                    return Err(Fault(Reason::BadByte, at));
+                }
+                self.keep(first, len + 2)?;
+                Ok(Mode::Closed)
+            }
+            _ => Err(Fault(Reason::BadByte, at)),
+        }
+    }
+
+    // A byte just after a closing quote.
+    #[tactic(auto, unfolding(crate::specs::ListMachine::closed_of))]
+    fn after_quote(&self, kind: Kind, at: usize) -> Result<Mode, Fault>
+        ensures { move_in result self.now.places ≡ closed_of kind at self.now.places.count }
+    {
+        match kind {
+            Kind::Comma => Ok(Mode::Due),
+            _ => Err(Fault(Reason::BadByte, at)),
+        }
+    }
+
+    // One byte, by where the reader stands.
+    #[tactic(auto, unfolding(crate::specs::ListMachine::step_of))]
+    fn step(&mut self, mode: Mode, kind: Kind, at: usize) -> Result<Mode, Fault>
+        requires { Ready mode self.old.places at }
+        ensures { Steps self.old self.new result
+            (step_of (text_in self.old) kind at (mode_in mode self.old.places) self.old.places.start self.old.places.size) }
+    {
+        match mode {
+            Mode::Start => self.due(kind, at),
+            Mode::Due => self.due(kind, at),
+            Mode::Bare(first, len) => self.bare(first, len, kind, at),
+            Mode::Quoted(first, len) => self.quoted(first, len, kind, at),
+            Mode::Closed => self.after_quote(kind, at),
+        }
+    }
+
+    // The text ends, which also completes a bare label: how many labels it has.
+    #[tactic(auto, unfolding(crate::specs::ListMachine::end_at))]
+    fn at_end(&mut self, mode: Mode) -> Result<usize, Fault>
+        requires { Ready mode self.old.places (length self.old.text.now) }
+        ensures { (body : Body) → EndsAs body result self.new.places
+            (end_at (text_in self.old) body (mode_in mode self.old.places) (length self.old.text.now) self.old.places.start
+            self.old.places.size) }
+    {
+        match mode {
+            Mode::Start => Ok(0),
+            Mode::Bare(first, len) => {
+                self.keep(first, len)?;
+                Ok(self.places.count)
+            }
+            Mode::Closed => Ok(self.places.count),
+            _ => Err(Fault(Reason::EndsTooSoon, self.text.len())),
+        }
+    }
+
+    // Reads the whole text: how many labels it has, or the fault with the smallest place.
+    fn read(&mut self) -> Result<usize, Fault>
+        requires { self.old.places ≡ places_of [] }
+        ensures { (body : Body) → told_read body result self.new.places
+            ≡ list_read body (read_list_in self.old.edition self.old.text.now) }
+    {
+        let table = trees::classes();
+        let text = self.text;
+        let mut mode = Mode::Start;
+        for (at, b) in text.iter().enumerate() {
+            mode = self.step(mode, trees::kind_in(&table, *b), at)?;
+        }
+        self.at_end(mode)
     }
 }
 
@@ -413,34 +253,19 @@ fn told(
 pub fn read_list(edition: Edition, text: &[u8], body: Body) -> ListRead
     ensures { result ≡ list_read body (read_list_in edition text.now) }
 {
-    let table = trees::classes();
-    let mut start = [0u16; LIST_LIMIT];
-    let mut size = [0u8; LIST_LIMIT];
-    let mut seen = trees::first_marks();
-    let mut stage = Stage::Start;
-    let mut i: usize = 0;
-    while i < text.len() {
-        let kind = trees::kind_in(&table, text[i]);
-        match step(
-            edition, text, kind, i, stage, &mut start, &mut size, &mut seen,
-        ) {
-            Move::Next(next) => {
-                stage = next;
-            }
-            Move::Stop(reason, place) => {
-                return told(
-                    Err(Refusal {
-                        reason,
-                        body,
-                        place,
-                    }),
-                    start,
-                    size,
-                );
-            }
-        }
-        i += 1;
+    let mut reader = Reader::new(edition, text);
+    match reader.read() {
+        Ok(count) => ListRead {
+            answer: Ok(count),
+            places: reader.places,
+        },
+        Err(Fault(reason, place)) => ListRead {
+            answer: Err(Refusal {
+                reason,
+                body,
+                place,
+            }),
+            places: no_labels(),
+        },
     }
-    let answer = at_end(edition, text, body, stage, &mut start, &mut size, &mut seen);
-    told(answer, start, size)
 }
