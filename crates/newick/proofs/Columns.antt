@@ -163,12 +163,12 @@ module _ {s : List Opened} {l r p z : List ℕ} where
       }
 
   pub node_columns : {c t : Tree} (n v : ℕ) → Columns (second c ∷ s) (after_node t) l r p z → n ≡ nodes_in (second c ∷ s) + nodes_of t → n < node_limit
-      → v ≡ nodes_in s + nodes_of c
-      → Columns s (after_node (node c t)) (set l n (v - 1)) (set r n (nodes_in (second c ∷ s) + nodes_of t - 1)) p z
+      → v ≡ nodes_in s + nodes_of c - 1
+      → Columns s (after_node (node c t)) (set l n v) (set r n (nodes_in (second c ∷ s) + nodes_of t - 1)) p z
   unfolding nodes_in
   node_columns {c = c} {t = t} n v C e h q =
       record {
-        left = node_stored left_column _ _ left_columnar s c t n (v - 1) e h (ap (λ (w : ℕ). w - 1) q) C.left;
+        left = node_stored left_column _ _ left_columnar s c t n v e h q C.left;
         right = node_stored right_column _ _ right_columnar s c t n (nodes_in s + nodes_of c + nodes_of t - 1) e h refl C.right;
         start = node_kept start_column _ _ start_columnar s c t n e h refl C.start;
         size = node_kept size_column _ _ size_columnar s c t n e h refl C.size;

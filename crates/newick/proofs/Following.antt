@@ -5,6 +5,7 @@ use mathlib.Core.Path.{◌≡◌, refl, ap, sym, ◌∙◌}
 use mathlib.Core.Bool.{true}
 use mathlib.Core.List.{List, [], ◌∷◌, ◌++◌, map, append_assoc, map-append}
 use native.Mathlib.Omega.{arith}
+use Rattle.std.specs.Prelude.{Option, Some, None}
 use lib.ListN.{length, get_or, set, length-append, length-set}
 use lib.Seq.{get_or-set_same, get_or-set_other}
 use Rattle.trees.specs.Bytes.{is_label_byte, is_inner_byte, open_byte, close_byte, comma_byte, semicolon_byte, quote_byte}
@@ -17,7 +18,7 @@ use Rattle.trees.proofs.ListLaws.{bytes_one, bytes_snoc}
 use Rattle.trees.proofs.ArrayLaws.{nodes_pos, node_length}
 use Rattle.newick.specs.declared.Mode.{Mode}
 use Rattle.newick.specs.declared.Mode.TheVariants.{Due, Inside, Quoted, After, Done}
-use Rattle.newick.specs.declared.Scan.{Scan}
+use Rattle.newick.specs.Machine.{Scan}
 use Rattle.newick.specs.ReadTree.{Opened, first, second, Phase, node_due, in_label, in_quotes, after_node, ended}
 use Rattle.newick.specs.Machine.{open_limit, Arrays, arrays, scan, leaf_scan, leaf_arrays}
 use Rattle.newick.proofs.OpenNodes.{inner, nodes_inner, text_in, nodes_in, leaves_in, opens_in, second_place, nodes_bound}
@@ -32,22 +33,22 @@ pub record Counts (s : List Opened) (h k : ℕ) (d o n : ℕ) : Type 0 where
   pub few : o ≤ open_limit
   pub nodes : n ≡ nodes_in s + k
 
--- the code's stack: 0 for a `(` that lacks its first child, else one more than that child's number
-abbrev pub StackHolds : List Opened → List ℕ → Type 0
+-- the code's stack: each `(` with its first child's number, if it has one
+abbrev pub StackHolds : List Opened → List (Option ℕ) → Type 0
 StackHolds [] k = Unit {0}
-StackHolds (first ∷ s) k = (get_or k (length s) 0 ≡ 0) × StackHolds s k
-StackHolds (second t ∷ s) k = (get_or k (length s) 0 ≡ nodes_in s + nodes_of t) × StackHolds s k
+StackHolds (first ∷ s) k = (get_or k (length s) None ≡ None) × StackHolds s k
+StackHolds (second t ∷ s) k = (get_or k (length s) None ≡ Some (nodes_in s + nodes_of t - 1)) × StackHolds s k
 
-pub record Stacked (s : List Opened) (k : List ℕ) : Type 0 where
+pub record Stacked (s : List Opened) (k : List (Option ℕ)) : Type 0 where
   pub wide : length k ≡ open_limit
   pub holds : StackHolds s k
 
-stack_kept : (s : List Opened) (k : List ℕ) (i v : ℕ) → length s ≤ i → StackHolds s k → StackHolds s (set k i v)
+stack_kept : (s : List Opened) (k : List (Option ℕ)) (i : ℕ) (v : Option ℕ) → length s ≤ i → StackHolds s k → StackHolds s (set k i v)
 stack_kept [] k i v h f = f
 stack_kept (first ∷ s) k i v h f =
-    (get_or-set_other k i (length s) v 0 (omega arith) ∙ f.0, stack_kept s k i v (omega arith) f.1)
+    (get_or-set_other k i (length s) v None (omega arith) ∙ f.0, stack_kept s k i v (omega arith) f.1)
 stack_kept (second t ∷ s) k i v h f =
-    (get_or-set_other k i (length s) v 0 (omega arith) ∙ f.0, stack_kept s k i v (omega arith) f.1)
+    (get_or-set_other k i (length s) v None (omega arith) ∙ f.0, stack_kept s k i v (omega arith) f.1)
 
 -- the code's mode
 abbrev pub ModeIs : Phase → List Opened → Mode → Type 0
@@ -191,7 +192,7 @@ module _ {text : List ℕ} {s : List Opened} {seen : List Label} {st : Scan} {a 
   -- `(` begins a node
   pub open_follows : {b : ℕ} → b ≡ open_byte → st.opens < open_limit → Follows text node_due s seen st a i (b ∷ rest)
       → Follows text node_due (first ∷ s) seen (scan Due (st.depth + 1) (st.opens + 1) st.nodes)
-      (arrays (set a.stack st.depth 0) a.left a.right a.start a.size) (i + 1) rest
+      (arrays (set a.stack st.depth None) a.left a.right a.start a.size) (i + 1) rest
   unfolding filled text_in nodes_in leaves_in opens_in column_in
   open_follows eb l F =
       let C = F.counts in
@@ -204,10 +205,10 @@ module _ {text : List ℕ} {s : List Opened} {seen : List Label} {st : Scan} {a 
         labels = F.labels;
         columns = refilled (λ (f : Column). refl) F.columns;
         stack = record {
-          wide = length-set a.stack st.depth 0 ∙ F.stack.wide;
+          wide = length-set a.stack st.depth None ∙ F.stack.wide;
           holds = (
-            rw C.depth (get_or-set_same a.stack (length s) 0 0 inside),
-            stack_kept s a.stack st.depth 0 (omega (arith, C.depth)) F.stack.holds,
+            rw C.depth (get_or-set_same a.stack (length s) None None inside),
+            stack_kept s a.stack st.depth None (omega (arith, C.depth)) F.stack.holds,
           );
         };
         mode = refl;
@@ -216,12 +217,11 @@ module _ {text : List ℕ} {s : List Opened} {seen : List Label} {st : Scan} {a 
   -- `,` after the first child
   pub comma_follows : {t : Tree} {b : ℕ} → b ≡ comma_byte → Follows text (after_node t) (first ∷ s) seen st a i (b ∷ rest)
       → Follows text node_due (second t ∷ s) seen (scan Due st.depth st.opens st.nodes)
-      (arrays (set a.stack (st.depth - 1) (nodes_in s + nodes_of t - 1 + 1)) a.left a.right a.start a.size) (i + 1) rest
+      (arrays (set a.stack (st.depth - 1) (Some (nodes_in s + nodes_of t - 1))) a.left a.right a.start a.size) (i + 1) rest
   unfolding text_in nodes_in leaves_in opens_in
   comma_follows {t = t} eb F =
       let C = F.counts in
       let d : st.depth - 1 ≡ length s = omega (arith, C.depth) in
-      let m : nodes_in s + nodes_of t - 1 + 1 ≡ nodes_in s + nodes_of t = omega (arith, nodes_pos t) in
       let inside : length s < length a.stack = omega (arith, F.stack.wide, C.few, C.opens, depth_bound s) in
       record {
         parted = F.parted ∙ rw eb (simp append_assoc);
@@ -231,10 +231,10 @@ module _ {text : List ℕ} {s : List Opened} {seen : List Label} {st : Scan} {a 
         labels = F.labels;
         columns = refilled (λ (f : Column). comma_filled f s t) F.columns;
         stack = record {
-          wide = length-set a.stack (st.depth - 1) (nodes_in s + nodes_of t - 1 + 1) ∙ F.stack.wide;
+          wide = length-set a.stack (st.depth - 1) (Some (nodes_in s + nodes_of t - 1)) ∙ F.stack.wide;
           holds = (
-            rw (d, m) (get_or-set_same a.stack (length s) (nodes_in s + nodes_of t) 0 inside),
-            stack_kept s a.stack (st.depth - 1) (nodes_in s + nodes_of t - 1 + 1) (omega (arith, d)) F.stack.holds.1,
+            rw d (get_or-set_same a.stack (length s) (Some (nodes_in s + nodes_of t - 1)) None inside),
+            stack_kept s a.stack (st.depth - 1) (Some (nodes_in s + nodes_of t - 1)) (omega (arith, d)) F.stack.holds.1,
           );
         };
         mode = refl;
@@ -243,7 +243,7 @@ module _ {text : List ℕ} {s : List Opened} {seen : List Label} {st : Scan} {a 
   -- `)` after the second child: a node
   pub close_follows : {c t : Tree} {b : ℕ} → b ≡ close_byte → Follows text (after_node t) (second c ∷ s) seen st a i (b ∷ rest)
       → Follows text (after_node (node c t)) s seen (scan (After st.nodes) (st.depth - 1) st.opens (st.nodes + 1))
-      (arrays a.stack (set a.left st.nodes (get_or a.stack (st.depth - 1) 0 - 1))
+      (arrays a.stack (set a.left st.nodes (nodes_in s + nodes_of c - 1))
       (set a.right st.nodes (nodes_in (second c ∷ s) + nodes_of t - 1)) a.start a.size) (i + 1) rest
   unfolding text_in nodes_in leaves_in opens_in inner nodes_of written leaves
   close_follows {c = c} {t = t} eb F =
@@ -256,7 +256,7 @@ module _ {text : List ℕ} {s : List Opened} {seen : List Label} {st : Scan} {a 
         near = omega (arith, F.near);
         counts = record { depth = d; opens = omega (arith, C.opens); few = C.few; nodes = omega (arith, C.nodes) };
         labels = F.labels ∙ ap (map spelling) (append_assoc (leaves_in s) (leaves c) (leaves t));
-        columns = node_columns st.nodes (get_or a.stack (st.depth - 1) 0) F.columns C.nodes room (rw d F.stack.holds.0);
+        columns = node_columns st.nodes (nodes_in s + nodes_of c - 1) F.columns C.nodes room refl;
         stack = record { wide = F.stack.wide; holds = F.stack.holds.1 };
         mode = ap After (omega (arith, C.nodes, nodes_pos t));
       }

@@ -1,21 +1,21 @@
 -- The reading machine where its mode is known. Assumes nothing.
 use Prim.Native.Nat.{ℕ, ◌+◌, ◌*◌, ◌≤◌, ◌<◌}
-use mathlib.Core.Path.{◌≡◌, refl, ap, sym, ◌∙◌, subst}
+use mathlib.Core.Path.{◌≡◌, refl, ap, ◌∙◌, subst}
 use mathlib.Core.Bool.{Bool, true, false, cond}
 use mathlib.Core.List.{List}
 use native.Mathlib.Omega.{arith}
 use Rattle.trees.specs.declared.Kind.{Kind}
-use Rattle.trees.specs.Arrays.{node_limit}
+use Rattle.trees.specs.Tree.{leaf_limit}
 use Rattle.trees.specs.declared.Body.{Body}
-use Rattle.trees.specs.declared.Reason.{Reason}
 use Rattle.trees.specs.declared.Reason.TheVariants.{BadByte, Repeated}
 use Rattle.newick.specs.declared.Mode.{Mode}
 use Rattle.newick.specs.declared.Mode.TheVariants.{Due, Inside, Quoted, After, Done}
-use Rattle.newick.specs.declared.Scan.{Scan}
-use Rattle.newick.specs.declared.Move.{Move}
-use Rattle.newick.specs.declared.Move.TheVariants.{On, Stop}
+use Rattle.newick.specs.Machine.{Scan}
+use Rattle.newick.specs.declared.Fault.{Fault}
+use Rattle.newick.specs.declared.Reader.{Reader}
+use Rattle.std.specs.Prelude.{Ok}
 use Rattle.newick.specs.Machine.{Arrays, Progress, on, halt, progress_of, repeat_of, due_of, after_of, leaf_scan, leaf_arrays, leaf_of, after_leaf}
-use Rattle.newick.specs.Machine.{label_end, inside_of, quoted_of, move_of, answer_of, Room, Ready}
+use Rattle.newick.specs.Machine.{label_end, inside_of, quoted_of, move_of, answer_of, scan, scan_in, arrays_in, Ready}
 
 -- a step where the mode is known
 pub move_due : (m : Mode) (text : List ℕ) (st : Scan) (a : Arrays) (i : ℕ) (k : Kind) → m ≡ Due
@@ -43,6 +43,10 @@ pub move_done : (m : Mode) (text : List ℕ) (st : Scan) (a : Arrays) (i : ℕ) 
 unfolding move_of
 move_done m text st a i k e = ap (λ (x : Mode). move_of x text st a i k) e
 
+pub moved_as : {m n : Mode} (text : List ℕ) (d o k : ℕ) (a : Arrays) (i : ℕ) (b : Kind) → m ≡ n
+    → move_of m text (scan m d o k) a i b ≡ move_of n text (scan n d o k) a i b
+moved_as text d o k a i b e = ap (λ (x : Mode). move_of x text (scan x d o k) a i b) e
+
 -- what a step may rely on where the mode is known
 pub ready_as : {m n : Mode} (st : Scan) → m ≡ n → Ready m st → Ready n st
 ready_as st e h = subst (λ (x : Mode). Ready x st) e h
@@ -51,6 +55,10 @@ ready_as st e h = subst (λ (x : Mode). Ready x st) e h
 pub answer_as : {m n : Mode} (text : List ℕ) (body : Body) (st : Scan) (start size : List ℕ) → m ≡ n
     → answer_of m text body st start size ≡ answer_of n text body st start size
 answer_as text body st start size e = ap (λ (x : Mode). answer_of x text body st start size) e
+
+pub answered_as : {m n : Mode} (text : List ℕ) (body : Body) (d o k : ℕ) (start size : List ℕ) → m ≡ n
+    → answer_of m text body (scan m d o k) start size ≡ answer_of n text body (scan n d o k) start size
+answered_as text body d o k start size e = ap (λ (x : Mode). answer_of x text body (scan x d o k) start size) e
 
 -- a label that is complete, where the test for a repeat is known
 module _ (text : List ℕ) (st : Scan) (a : Arrays) (first len : ℕ) (q : Bool)
@@ -71,34 +79,34 @@ module _ (text : List ℕ) (st : Scan) (a : Arrays) (first len : ℕ) (q : Bool)
       go true = refl
       go false = refl
 
--- what the end of a label leads to
-module _ (m : Move) (text : List ℕ) (st : Scan) (a b : Arrays) (first len : ℕ) (h : progress_of m b ≡ leaf_of text st a first len) where
-  -- where it stops
-  pub end_stops : (d : Arrays) (i : ℕ) (k : Kind) {r : Reason} {j : ℕ} → m ≡ Stop r j → progress_of m d ≡ label_end text st a first len i k
+-- a label that became a leaf, and the byte after it
+module _ (m : Mode) (new : Reader) (text : List ℕ) (st : Scan) (a : Arrays) (first len : ℕ)
+    (h : progress_of (Ok m) new ≡ leaf_of text st a first len) where
+  leaf_scanned : scan_in m new ≡ leaf_scan st
+  unfolding leaf_of
+  leaf_scanned = go (repeat_of text a.start a.size st.nodes first len) h
+    where
+      go : (q : Bool) → progress_of (Ok m) new ≡ cond q (halt Repeated first) (on (leaf_scan st) (leaf_arrays st a first len))
+          → scan_in m new ≡ leaf_scan st
+      go true x = let z : ◌≡◌ {A = ℕ} 0 1 = cc in absurd (omega arith)
+      go false x = cc
+
+  pub end_goes_on : (i : ℕ) (k : Kind)
+      → after_of (scan_in (After st.nodes) new) (arrays_in new) st.nodes i k ≡ label_end text st a first len i k
   unfolding label_end
-  end_stops d i k e =
-      ap (λ (w : Move). progress_of w d) e ∙ ap (λ (o : Progress). after_leaf o st.nodes i k) (sym (ap (λ (w : Move). progress_of w b) e) ∙ h)
+  end_goes_on i k =
+      subst (λ (x : Mode). after_of (scan_in x new) (arrays_in new) st.nodes i k ≡ label_end text st a first len i k)
+      (ap (λ (w : Scan). w.mode) leaf_scanned) (ap (λ (o : Progress). after_leaf o st.nodes i k) h)
 
-  -- where it goes on
-  module _ {n : Scan} (e : m ≡ On n) where
-    goes_on : on n b ≡ leaf_of text st a first len
-    goes_on = sym (ap (λ (w : Move). progress_of w b) e) ∙ h
+  pub leaf_ready : st.opens < leaf_limit → st.nodes + st.depth ≤ 2 * st.opens → Ready (After st.nodes) (scan_in (After st.nodes) new)
+  leaf_ready few l =
+      let w = leaf_scanned in (
+        omega (arith, ap (λ (w : Scan). w.depth) w, ap (λ (w : Scan). w.opens) w, ap (λ (w : Scan). w.nodes) w, l),
+        omega (arith, few, l),
+      )
 
-    pub end_goes_on : (i : ℕ) (k : Kind) → after_of n b st.nodes i k ≡ label_end text st a first len i k
-    unfolding label_end
-    end_goes_on i k = ap (λ (o : Progress). after_leaf o st.nodes i k) goes_on
-
-    pub leaf_ready : Room st → st.nodes + st.depth ≤ 2 * st.opens
-        → Room n × ((n.nodes + n.depth ≤ 2 * n.opens + 1) × (st.nodes < node_limit))
-    unfolding leaf_of
-    leaf_ready r l = go (repeat_of text a.start a.size st.nodes first len) goes_on
-      where
-        go : (q : Bool) → on n b ≡ cond q (halt Repeated first) (on (leaf_scan st) (leaf_arrays st a first len))
-            → Room n × ((n.nodes + n.depth ≤ 2 * n.opens + 1) × (st.nodes < node_limit))
-        go true x = let z : ◌≡◌ {A = ℕ} 0 1 = cc in absurd (omega arith)
-        go false x =
-            let s : leaf_scan st ≡ n = cc in
-            subst (λ (w : Scan). Room w × ((w.nodes + w.depth ≤ 2 * w.opens + 1) × (st.nodes < node_limit))) s (
-              record { few = r.few; deep = r.deep },
-              (omega arith, omega (arith, r.few, l)),
-            )
+-- where the label repeats, that decides
+pub end_stops : (f : Fault) (text : List ℕ) (st : Scan) (a : Arrays) (first len i : ℕ) (k : Kind)
+    → halt f.0 f.1 ≡ leaf_of text st a first len → halt f.0 f.1 ≡ label_end text st a first len i k
+unfolding label_end
+end_stops f text st a first len i k h = ap (λ (o : Progress). after_leaf o st.nodes i k) h

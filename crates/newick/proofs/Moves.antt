@@ -7,6 +7,7 @@ use mathlib.Core.Logic.{◌⊎◌, inl, inr}
 use mathlib.Core.List.{List, [], ◌∷◌, ◌++◌, append_assoc}
 use native.Mathlib.Omega.{arith}
 use lib.Dec.{eqb, ltb}
+use Rattle.std.specs.Prelude.{Some, None}
 use lib.ListN.{length, get_or, set, length-append}
 use borrow.Author.Tests.{eqb-true, eqb-false, eq-eqb, ne_eqb, ltb-true, ltb-false}
 use Rattle.trees.specs.declared.Kind.{Kind}
@@ -24,13 +25,12 @@ use Rattle.trees.proofs.ReadingLaws.{KindView, is_label, is_open, is_close, is_c
 use Rattle.trees.proofs.ReadingLaws.{kind_view, Plain, plain_label, run_none, quote_first_lem, other_first, repeats_ended, repeats_long}
 use Rattle.trees.proofs.ReadingLaws.{repeats_unclosed, repeats_empty}
 use Rattle.trees.proofs.TokenForms.{quote_not_label, quote_not_inner, blank_not_label, blank_inner, form_spelling}
-use Rattle.trees.proofs.ArrayLaws.{nodes_pos}
 use Rattle.newick.specs.declared.Mode.TheVariants.{Due, Inside}
-use Rattle.newick.specs.declared.Scan.{Scan}
+use Rattle.newick.specs.Machine.{Scan}
 use Rattle.newick.specs.ReadTree.{Opened, first, second, Phase, node_due, in_label, in_quotes, after_node, ended, State, Step, next}
 use Rattle.newick.specs.ReadTree.{stop, step, step_after, step_due, step_label, step_inner, step_closing, step_quotes, read_from}
 use Rattle.newick.specs.Machine.{open_limit, Arrays, arrays, Progress, on, halt, scan, repeat_of, due_of}
-use Rattle.newick.specs.Machine.{close_of, comma_of, after_of, label_end, inside_of, inner_of, closing_of, quoted_of, move_of}
+use Rattle.newick.specs.Machine.{close_of, closed, comma_of, parted, after_of, label_end, inside_of, inner_of, closing_of, quoted_of, move_of}
 use Rattle.newick.proofs.MachineLaws.{move_due, move_inside, move_quoted, move_after, move_done, leaf_known, end_known}
 use Rattle.newick.proofs.OpenNodes.{text_in, nodes_in}
 use Rattle.newick.proofs.Columns.{filled}
@@ -92,28 +92,23 @@ read_cons p i b rest = go (step p.phase p.stack p.opens p.seen b rest)
     go (next p') = refl
     go (stop r) = refl
 
--- the tests of the code's stack
+-- the top of the code's stack
 module _ {text : List ℕ} {t : Tree} {s : List Opened} {seen : List Label} {st : Scan} {a : Arrays} {i : ℕ} {rest : List ℕ} where
   not_flat : {p : Opened} → Follows text (after_node t) (p ∷ s) seen st a i rest → eqb st.depth 0 ≡ false
   not_flat F = ne_eqb st.depth 0 (λ (e : st.depth ≡ 0). absurd (omega (arith, F.counts.depth, e)))
 
-  top_first : Follows text (after_node t) (first ∷ s) seen st a i rest → eqb (get_or a.stack (st.depth - 1) 0) 0 ≡ true
-  top_first F =
-      let e : st.depth - 1 ≡ length s = omega (arith, F.counts.depth) in
-      eq-eqb (get_or a.stack (st.depth - 1) 0) 0 (rw e F.stack.holds.0)
+  top_first : Follows text (after_node t) (first ∷ s) seen st a i rest → get_or a.stack (st.depth - 1) None ≡ None
+  top_first F = let e : st.depth - 1 ≡ length s = omega (arith, F.counts.depth) in rw e F.stack.holds.0
 
-  top_second : {c : Tree} → Follows text (after_node t) (second c ∷ s) seen st a i rest → eqb (get_or a.stack (st.depth - 1) 0) 0 ≡ false
-  top_second {c = c} F =
-      let e : st.depth - 1 ≡ length s = omega (arith, F.counts.depth) in
-      let v : get_or a.stack (st.depth - 1) 0 ≡ nodes_in s + nodes_of c = rw e F.stack.holds.0 in
-      ne_eqb (get_or a.stack (st.depth - 1) 0) 0
-      (λ (q : get_or a.stack (st.depth - 1) 0 ≡ 0). absurd (omega (arith, nodes_pos c, v, q)))
+  top_second : {c : Tree} → Follows text (after_node t) (second c ∷ s) seen st a i rest
+      → get_or a.stack (st.depth - 1) None ≡ Some (nodes_in s + nodes_of c - 1)
+  top_second F = let e : st.depth - 1 ≡ length s = omega (arith, F.counts.depth) in rw e F.stack.holds.0
 
 -- a byte after a node
 moves_after : {text : List ℕ} {t : Tree} (s : List Opened) {seen : List Label} {st : Scan} {a : Arrays} {i b : ℕ} {rest : List ℕ} (k : Kind)
     → KindView b k → Follows text (after_node t) s seen st a i (b ∷ rest)
     → Leads text (after (step_after t s st.opens seen k) i rest) (i + 1) rest (after_of st a (nodes_in s + nodes_of t - 1) i k)
-unfolding step_after after_of close_of comma_of nodes_in
+unfolding step_after after_of close_of closed comma_of parted nodes_in
 moves_after s LabelByte h F = refl
 moves_after s Open h F = refl
 moves_after [] {st = st} Close h F = rw (eq-eqb st.depth 0 F.counts.depth)
@@ -317,7 +312,7 @@ module _ {text : List ℕ} {s : List Opened} {seen : List Label} {st : Scan} {a 
           (i + 1) rest
           (cond (ltb st.opens open_limit)
           (on (scan Due (st.depth + 1) (st.opens + 1) st.nodes)
-          (arrays (set a.stack st.depth 0) a.left a.right a.start a.size))
+          (arrays (set a.stack st.depth None) a.left a.right a.start a.size))
           (halt TooMany i))
       go (inl q) =
           let l : st.opens < open_limit = ltb-true st.opens open_limit q in

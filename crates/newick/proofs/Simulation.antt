@@ -11,26 +11,29 @@ use lib.Seq.{drop-cons}
 use Rattle.trees.specs.declared.Reason.{Reason}
 use Rattle.trees.specs.declared.Reason.TheVariants.{EndsTooSoon, Repeated}
 use Rattle.trees.specs.declared.Body.{Body}
+use Rattle.trees.specs.declared.Edition.{Edition}
+use Rattle.trees.specs.Edition.{in_edition}
 use Rattle.trees.specs.declared.Refusal.{Refusal}
 use Rattle.trees.specs.Bytes.{is_label_byte, is_inner_byte, kind_of}
 use Rattle.trees.specs.Label.{Label, is_in}
 use Rattle.trees.specs.Token.{spelling, token_limit}
 use Rattle.trees.specs.Tree.{Tree, leaves}
 use Rattle.trees.specs.Reading.{good, refused}
-use Rattle.trees.specs.Arrays.{nodes_of, node_limit, arrays_of}
+use Rattle.trees.specs.Arrays.{nodes_of, node_limit, arrays_of, no_arrays}
 use Rattle.trees.proofs.ReadingLaws.{run_end, none_first, repeats_unclosed}
 use Rattle.newick.specs.declared.Mode.TheVariants.{Due}
-use Rattle.newick.specs.declared.Scan.{Scan}
-use Rattle.newick.specs.declared.Move.{Move}
-use Rattle.newick.specs.declared.Move.TheVariants.{On, Stop}
-use Rattle.std.specs.Prelude.{Result, Ok, Err}
+use Rattle.newick.specs.Machine.{Scan}
+use Rattle.newick.specs.declared.Mode.{Mode}
+use Rattle.newick.specs.declared.Fault.{Fault}
+use Rattle.newick.specs.declared.Reader.{Reader}
+use Rattle.std.specs.Prelude.{Option, None, Result, Ok, Err}
 use Rattle.newick.specs.ReadTree.{Opened, Phase, node_due, in_label, in_quotes, after_node, ended, read_from, end_of}
 use Rattle.newick.specs.ReadTree.{read_tree, tree_read}
 use Rattle.newick.specs.Machine.{open_limit, Arrays, arrays, Progress, progress_of, scan, move_of, answer_of, refusal, turned_down}
-use Rattle.newick.specs.Machine.{with_arrays, Room, Fits, Ready}
+use Rattle.newick.specs.Machine.{with_arrays, scan_in, arrays_in, told, told_read, Fresh, Fits, Ready}
 use Rattle.newick.proofs.MachineLaws.{ready_as, answer_as}
 use Rattle.newick.proofs.OpenNodes.{nodes_inner, leaves_inner, text_in, nodes_in, leaves_in, opens_in, heading, nodes_bound}
-use Rattle.newick.proofs.OpenNodes.{depth_bound, nodes_here, opens_here}
+use Rattle.newick.proofs.OpenNodes.{nodes_here, opens_here}
 use Rattle.newick.proofs.Columns.{column_in, filled}
 use Rattle.newick.proofs.Following.{Follows}
 use Rattle.newick.proofs.Moves.{Follower, Leads, expected, moves, leads_as, seen_before, told_bare}
@@ -41,7 +44,7 @@ Simulates text st a i = Follower text (read_tree text) st a i (drop i text)
 
 pub starts_so : (text : List ℕ)
     → Simulates text (scan Due 0 0 0)
-    (arrays (replicate open_limit 0) (replicate node_limit 0) (replicate node_limit 0) (replicate node_limit 0) (replicate node_limit 0)) 0
+    (arrays (replicate open_limit None) (replicate node_limit 0) (replicate node_limit 0) (replicate node_limit 0) (replicate node_limit 0)) 0
 unfolding read_tree text_in nodes_in leaves_in opens_in column_in filled
 starts_so text =
     record {
@@ -55,7 +58,7 @@ starts_so text =
         counts = record { depth = refl; opens = refl; few = omega arith; nodes = refl };
         labels = refl;
         columns = record { left = refl; right = refl; start = refl; size = refl };
-        stack = record { wide = length-replicate {A = ℕ} open_limit 0; holds = tt };
+        stack = record { wide = length-replicate {A = Option ℕ} open_limit None; holds = tt };
         mode = refl;
       };
       told = refl;
@@ -70,7 +73,7 @@ place_in {ph = ph} {s = s} {rest = rest} F =
 -- a label that is being read can be stored as a leaf
 token_fits : {text : List ℕ} {ph : Phase} {s : List Opened} {seen : List Label} {st : Scan} {a : Arrays} {i : ℕ} {rest : List ℕ} {len : ℕ}
     → Follows text ph s seen st a i rest → nodes_here ph ≡ 0 → opens_here ph ≡ 0 → len ≤ token_limit
-    → i ≤ st.opens + 36 * st.nodes + length (heading ph) → Fits st (length (text_in s)) len
+    → i ≤ st.opens + 36 * st.nodes + length (heading ph) → Fits st.depth st.opens st.nodes (length (text_in s)) len
 token_fits {s = s} F n o l h =
     let C = F.counts in
     record {
@@ -80,18 +83,17 @@ token_fits {s = s} F n o l h =
     }
 
 ready_by : {text : List ℕ} (ph : Phase) {s : List Opened} {seen : List Label} {st : Scan} {a : Arrays} {i : ℕ} {rest : List ℕ}
-    → Follows text ph s seen st a i rest → Room st → Ready st.mode st
-ready_by node_due {st = st} F r = ready_as st (sym F.mode) r
-ready_by (in_label x) F r = ready_as _ (sym F.mode.0) (r, token_fits F refl refl (omega (arith, F.mode.3)) F.near)
-ready_by (in_quotes x) F r = ready_as _ (sym F.mode.0) (r, token_fits F refl refl (omega (arith, F.mode.2)) (omega (arith, F.near)))
-ready_by (after_node t) {s = s} {st = st} F r =
+    → Follows text ph s seen st a i rest → Ready st.mode st
+ready_by node_due {st = st} F = ready_as st (sym F.mode) tt
+ready_by (in_label x) F = ready_as _ (sym F.mode.0) (token_fits F refl refl (omega (arith, F.mode.3)) F.near)
+ready_by (in_quotes x) F = ready_as _ (sym F.mode.0) (token_fits F refl refl (omega (arith, F.mode.2)) (omega (arith, F.near)))
+ready_by (after_node t) {s = s} {st = st} F =
     let C = F.counts in
     ready_as st (sym F.mode) (
-      r,
       omega (arith, C.nodes, C.depth, C.opens, nodes_bound s, nodes_inner t),
       omega (arith, C.few, C.opens, nodes_bound s, nodes_inner t),
     )
-ready_by (ended t) {st = st} F r = ready_as st (sym F.mode.0) r
+ready_by (ended t) {st = st} F = ready_as st (sym F.mode.0) tt
 
 -- a refusal
 refused_so : (text : List ℕ) (body : Body) (r : Reason) (i : ℕ) → refused r i ≡ read_tree text
@@ -102,10 +104,7 @@ refused_so text body r i e = ap (tree_read body) e
 module _ (text : List ℕ) (st : Scan) (a : Arrays) (i : ℕ) (S : Simulates text st a i) where
   -- the step may be taken
   pub ready_so : Ready st.mode st
-  ready_so =
-      let F = S.follows in
-      let C = F.counts in
-      ready_by S.ph F (record { few = C.few; deep = omega (arith, C.depth, C.opens, depth_bound S.s) })
+  ready_so = ready_by S.ph S.follows
 
   -- what its result says
   leads_so : (x : Progress) → i < length text → x ≡ move_of st.mode text st a i (kind_of (get_or text i 0))
@@ -116,19 +115,18 @@ module _ (text : List ℕ) (st : Scan) (a : Arrays) (i : ℕ) (S : Simulates tex
       leads_as text (i + 1) (drop (i + 1) text) (ap (expected S.ph S.s S.seen st i) (sym d) ∙ S.told) (sym e)
       (moves S.ph (subst (λ (r : List ℕ). Follows text S.ph S.s S.seen st a i r) d S.follows))
 
-  -- where it goes on the machine follows
-  pub goes_on_so : (m : Move) (b : Arrays) (n : Scan) → i < length text
-      → progress_of m b ≡ move_of st.mode text st a i (kind_of (get_or text i 0)) → m ≡ On n → Simulates text n b (i + 1)
-  goes_on_so m b n h e q =
-      subst (λ (x : Move). Leads text (read_tree text) (i + 1) (drop (i + 1) text) (progress_of x b)) q (leads_so (progress_of m b) h e)
+-- where a step goes on the reader follows
+pub goes_on_so : (text : List ℕ) (m n : Mode) (old new : Reader) (i : ℕ) → Simulates text (scan_in m old) (arrays_in old) i → i < length text
+    → progress_of (Ok n) new ≡ move_of m text (scan_in m old) (arrays_in old) i (kind_of (get_or text i 0))
+    → Simulates text (scan_in n new) (arrays_in new) (i + 1)
+goes_on_so text m n old new i S h e = leads_so text (scan_in m old) (arrays_in old) i S (progress_of (Ok n) new) h e
 
-  -- where it stops the reading does
-  pub stops_so : (body : Body) (m : Move) (b : Arrays) (r : Reason) (p : ℕ) → i < length text
-      → progress_of m b ≡ move_of st.mode text st a i (kind_of (get_or text i 0)) → m ≡ Stop r p
-      → turned_down (refusal body r p) ≡ tree_read body (read_tree text)
-  stops_so body m b r p h e q =
-      refused_so text body r p
-      (sym (subst (λ (x : Move). Leads text (read_tree text) (i + 1) (drop (i + 1) text) (progress_of x b)) q (leads_so (progress_of m b) h e)))
+-- where it stops the reading does
+pub stops_so : (text : List ℕ) (m : Mode) (old new : Reader) (i : ℕ) (body : Body) (f : Fault) → Simulates text (scan_in m old) (arrays_in old) i
+    → i < length text → progress_of (Err f) new ≡ move_of m text (scan_in m old) (arrays_in old) i (kind_of (get_or text i 0))
+    → turned_down (refusal body f.0 f.1) ≡ tree_read body (read_tree text)
+stops_so text m old new i body f S h e =
+    refused_so text body f.0 f.1 (sym (leads_so text (scan_in m old) (arrays_in old) i S (progress_of (Err f) new) h e))
 
 -- what the answer at the end says of the reading
 abbrev Ends : List ℕ → Body → Scan → Arrays → Result ℕ Refusal → Type 0
@@ -182,8 +180,13 @@ module _ (text : List ℕ) (st : Scan) (a : Arrays) (i : ℕ) (S : Simulates tex
       subst (Ends text body st a) (sym answer)
       (ends_by body S.ph F (omega (arith, place_in F)) (ap (expected S.ph S.s S.seen st i) (sym d) ∙ S.told))
 
-  pub ends_tree : (n : ℕ) → x ≡ Ok n → with_arrays x st.nodes a.left a.right a.start a.size ≡ tree_read body (read_tree text)
-  ends_tree n q = rw q (subst (Ends text body st a) q ends_so)
+pub ends_reader : (text : List ℕ) (m : Mode) (r : Reader) (i : ℕ) (body : Body) (x : Result ℕ Fault) → Simulates text (scan_in m r) (arrays_in r) i
+    → length text ≤ i → told body x ≡ answer_of m text body (scan_in m r) r.tree.start r.tree.size
+    → told_read body x r.tree ≡ tree_read body (read_tree text)
+ends_reader text m r i body (Ok n) S end e = ends_so text (scan_in m r) (arrays_in r) i S body (Ok n) end e
+ends_reader text m r i body (Err f) S end e = ends_so text (scan_in m r) (arrays_in r) i S body (refusal body f.0 f.1) end e
 
-  pub ends_refused : (r : Refusal) → x ≡ Err r → turned_down x ≡ tree_read body (read_tree text)
-  ends_refused r q = rw q (subst (Ends text body st a) q ends_so)
+-- a reader that has read nothing
+pub fresh_so : (e : Edition) (text : List ℕ) (r : Reader) → Fresh e text r → Simulates (in_edition e text) (scan_in Due r) (arrays_in r) 0
+unfolding no_arrays
+fresh_so e text r f = rw (f.none_open, f.none_read, f.stack_is, f.tree_is) (starts_so (in_edition e text))
