@@ -1,16 +1,15 @@
 -- How the code reads tokens byte by byte and writes labels: what it reads of a token is the token's spelling, and what it writes of a
 -- label is the label's written form. Assumes nothing.
-use Prim.Native.Nat.{ℕ, suc, ◌+◌, ◌-◌, ◌<◌, ◌≤◌, min}
+use Prim.Native.Nat.{ℕ, suc, ◌+◌, ◌-◌, ◌<◌, ◌≤◌, min, max}
 use mathlib.Core.Path.{◌≡◌, refl, sym, ◌∙◌, ap, ap₂}
 use mathlib.Core.Bool.{Bool, true, false, ◌||◌}
 use mathlib.Core.Logic.{◌⊎◌, inl, inr}
 use mathlib.Core.List.{List, [], ◌∷◌, ◌++◌, map}
 use native.Mathlib.Omega.{arith}
-use native.Mathlib.Numerals.{add-one}
 use lib.Dec.{eqb}
-use lib.ListN.{length, get_or, take, drop, length-append, length-map, drop_of_length-le, get_or-append, get_or-eq_default}
-use lib.Seq.{drop-cons, get_or_at}
-use borrow.Author.Tests.{eq-eqb, ne_eqb}
+use lib.ListN.{length, get_or, take, drop, length-append, length-map, get_or-append, get_or-eq_default}
+use lib.Seq.{get_or_at}
+use borrow.Author.Tests.{eq-eqb, ne_eqb, eqb-true, eqb-false}
 use Rattle.trees.specs.declared.Edition.{Edition}
 use Rattle.trees.specs.declared.Edition.TheVariants.{One}
 use Rattle.trees.specs.Bytes.{quote_byte, blank_byte, underscore_byte}
@@ -18,7 +17,7 @@ use Rattle.trees.specs.Edition.{fold_byte, in_edition, key}
 use Rattle.trees.specs.Label.{Label, same_label, order_of}
 use Rattle.std.specs.declared.cmp.Ordering.{Ordering}
 use Rattle.std.specs.declared.cmp.Ordering.TheVariants.{Less, Equal, Greater}
-use Rattle.std.specs.List.{list_any}
+use Rattle.std.specs.List.{list_any, starts_with}
 use Rattle.std.specs.Ordering.{MatchOrdering, nat_cmp}
 use Rattle.std.proofs.lemmas.Cmp.{ranked}
 use Rattle.trees.specs.Token.{Token, bare_byte, spelling, written_byte, holds_underscore, token_of}
@@ -87,15 +86,14 @@ read_at e q x i h = map_at (byte_of e q) x i 0 0 h
 
 -- ---- a token
 
-pub first_none : (x : Token) → length x ≡ 0 → false ≡ quote_first x
+pub quote_starts : (x : Token) → starts_with eqb x (quote_byte ∷ []) ≡ quote_first x
 unfolding quote_first
-first_none [] h = refl
-first_none (b ∷ x) h = absurd (omega arith)
-
-pub first_byte_lem : (x : Token) → (length x ≡ 0 → ⊥) → eqb (get_or x 0 0) quote_byte ≡ quote_first x
-unfolding quote_first
-first_byte_lem [] h = absurd (h refl)
-first_byte_lem (b ∷ x) h = refl
+quote_starts [] = refl
+quote_starts (b ∷ x) = go (bool_cases (eqb b quote_byte))
+  where
+    go : (eqb b quote_byte ≡ true) ⊎ (eqb b quote_byte ≡ false) → starts_with eqb (b ∷ x) (quote_byte ∷ []) ≡ eqb b quote_byte
+    go (inl e) = rw (eqb-true b quote_byte e) refl
+    go (inr e) = rw (e, ne_eqb quote_byte b (λ (k : quote_byte ≡ b). eqb-false b quote_byte e (sym k))) refl
 
 pub inner_bare : (x : Token) → quote_first x ≡ false → x ≡ inner_bytes x
 unfolding inner_bytes
@@ -105,15 +103,10 @@ inner_quoted : (x : Token) → quote_first x ≡ true → take (length x - 2) (d
 unfolding inner_bytes
 inner_quoted x e = rw e refl
 
-pub inner_short : (x : Token) → quote_first x ≡ true → length x < 2 → [] ≡ inner_bytes x
-inner_short x e h =
-    let n : length x - 2 ≡ 0 = omega arith in
-    sym (ap (λ (k : ℕ). take k (drop 1 x)) n) ∙ inner_quoted x e
-
-pub inner_cut : (x : Token) → quote_first x ≡ true → take (length x - 1 - 1) (drop 1 x) ≡ inner_bytes x
-inner_cut x e =
-    let n : length x - 1 - 1 ≡ length x - 2 = omega arith in
-    ap (λ (k : ℕ). take k (drop 1 x)) n ∙ inner_quoted x e
+pub inner_cut : (x : Token) (n : ℕ) → quote_first x ≡ true → n ≡ max (length x) 2 → take (n - 1 - 1) (drop 1 x) ≡ inner_bytes x
+inner_cut x n e m =
+    let k : n - 1 - 1 ≡ length x - 2 = omega arith in
+    ap (λ (k : ℕ). take k (drop 1 x)) k ∙ inner_quoted x e
 
 -- what is read of a token is what it stands for
 spelling_plain : (x : Token) → plain_as (quote_first x) (inner_bytes x) ≡ spelling x

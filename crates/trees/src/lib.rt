@@ -61,35 +61,35 @@ pub enum Edition {
     Two,
 }
 
-// Why a job is refused; the numbers are in specs/Refusals.antt.
+// Why a job is refused, by number.
 #[derive(Clone, Copy, PartialEq, Eq)]
 pub enum Reason {
-    BadByte,
-    EndsTooSoon,
-    LabelTooLong,
-    TooMany,
-    Repeated,
-    FirstLacks,
-    SecondLacks,
-    Disagree,
-    TooShort,
-    Contents,
-    JobTooLong,
-    NotShared,
-    ClaimLacks,
-    ClaimDisagrees,
-    ClaimSmall,
+    BadByte = 1,
+    EndsTooSoon = 2,
+    LabelTooLong = 3,
+    TooMany = 4,
+    Repeated = 5,
+    FirstLacks = 6,
+    SecondLacks = 7,
+    Disagree = 8,
+    TooShort = 9,
+    Contents = 10,
+    JobTooLong = 11,
+    NotShared = 12,
+    ClaimLacks = 13,
+    ClaimDisagrees = 14,
+    ClaimSmall = 15,
 }
 
-// The body that a refusal speaks of.
+// The body that a refusal speaks of, by letter.
 #[derive(Clone, Copy, PartialEq, Eq)]
 pub enum Body {
-    S,
-    T,
-    K,
-    C,
-    J,
-    O,
+    S = b'S' as isize,
+    T = b'T' as isize,
+    K = b'K' as isize,
+    C = b'C' as isize,
+    J = b'J' as isize,
+    O = b'O' as isize,
 }
 
 // A refusal: its reason, the body and the byte offset in that body.
@@ -153,6 +153,7 @@ pub fn classes() -> [u8; 256]
 }
 
 // The kind that a class table tells of a byte.
+#[tactic(auto, unfolding(crate::specs::Bytes::kind_of_code))]
 pub fn kind_in(table: &[u8; 256], b: u8) -> Kind
     ensures { result ≡ kind_of_code (get_or table.now b 0) }
 {
@@ -170,64 +171,36 @@ pub fn kind_in(table: &[u8; 256], b: u8) -> Kind
     }
 }
 
+impl From<Reason> for u8 {
+    ghost from_gives = { λ r n. n ≡ number_of r };
+
+    #[tactic(auto, unfolding(crate::specs::Refusals::number_of))]
+    fn from(r: Reason) -> u8 {
+        r as u8
+    }
+}
+
+impl From<Body> for u8 {
+    ghost from_gives = { λ b n. n ≡ letter_of b };
+
+    #[tactic(auto, unfolding(crate::specs::Refusals::letter_of))]
+    fn from(b: Body) -> u8 {
+        b as u8
+    }
+}
+
 // The number of a reason.
 pub fn number(r: Reason) -> u8
     ensures { result ≡ number_of r }
 {
-    match r {
-        Reason::BadByte => 1,
-        Reason::EndsTooSoon => 2,
-        Reason::LabelTooLong => 3,
-        Reason::TooMany => 4,
-        Reason::Repeated => 5,
-        Reason::FirstLacks => 6,
-        Reason::SecondLacks => 7,
-        Reason::Disagree => 8,
-        Reason::TooShort => 9,
-        Reason::Contents => 10,
-        Reason::JobTooLong => 11,
-        Reason::NotShared => 12,
-        Reason::ClaimLacks => 13,
-        Reason::ClaimDisagrees => 14,
-        Reason::ClaimSmall => 15,
-    }
+    u8::from(r)
 }
 
 // The letter of a body.
 pub fn letter(b: Body) -> u8
     ensures { result ≡ letter_of b }
 {
-    match b {
-        Body::S => b'S',
-        Body::T => b'T',
-        Body::K => b'K',
-        Body::C => b'C',
-        Body::J => b'J',
-        Body::O => b'O',
-    }
-}
-
-// Whether a token is quoted: an opening quote comes first.
-fn is_quoted(token: &[u8]) -> bool
-    ensures { result ≡ quote_first token.now }
-{
-    if token.len() == 0 {
-        return false;
-    }
-    token[0] == QUOTE
-}
-
-// The bytes of a token that count: those between its quotes, or all.
-fn inner<'a>(token: &'a [u8]) -> &'a [u8]
-    ensures { result.now ≡ inner_bytes token.now }
-{
-    if !is_quoted(token) {
-        return token;
-    }
-    if token.len() < 2 {
-        return &token[..0];
-    }
-    &token[1..token.len() - 1]
+    u8::from(b)
 }
 
 // A byte as an edition reads it: under the second a capital is the small letter.
@@ -240,51 +213,127 @@ fn fold(edition: Edition, b: u8) -> u8
     }
 }
 
-// What a byte of a token stands for, as an edition reads it: between quotes each stands for itself, elsewhere an underscore for a blank.
-fn decode(edition: Edition, quoted: bool, b: u8) -> u8
-    ensures { result ≡ byte_of edition quoted b }
-{
-    let c = fold(edition, b);
-    if c != UNDERSCORE {
-        return c;
+// The bytes of a token that count, and whether they stand between quotes.
+#[derive(Clone, Copy)]
+struct Spelled<'a> {
+    bytes: &'a [u8],
+    quoted: bool,
+}
+
+impl<'a> Spelled<'a> {
+    // Those between the quotes of a token that an opening quote begins, or all.
+    fn of(token: &'a [u8]) -> Spelled<'a>
+        ensures bytes { result.bytes.now ≡ inner_bytes token.now }
+        ensures quoted { result.quoted ≡ quote_first token.now }
+    {
+        let quoted = token.starts_with(&[QUOTE]);
+        let bytes = if quoted {
+            &token[1..token.len().max(2) - 1]
+        } else {
+            token
+        };
+        Spelled { bytes, quoted }
     }
-    if quoted { UNDERSCORE } else { BLANK }
+
+    // What byte `b` of it stands for, as an edition reads it: between quotes each stands for itself, elsewhere an underscore for a blank.
+    fn decode(self, edition: Edition, b: u8) -> u8
+        ensures { result ≡ byte_of edition self.entry.quoted b }
+    {
+        let c = fold(edition, b);
+        if c != UNDERSCORE {
+            return c;
+        }
+        if self.quoted { UNDERSCORE } else { BLANK }
+    }
+
+    // Where it stands against `other` in label order, each byte decoded: the first one that differs decides, else the length.
+    fn compare(self, edition: Edition, other: Spelled) -> Ordering
+        ensures { result ≡ order_of (read_as edition self.entry.quoted self.entry.bytes.now) (read_as edition other.entry.quoted other.entry.bytes.now) }
+    {
+        let a = self.bytes;
+        let b = other.bytes;
+        for i in 0..a.len().min(b.len()) {
+            let x = self.decode(edition, a[i]);
+            let y = other.decode(edition, b[i]);
+            if x != y {
+                return x.cmp(&y);
+            }
+        }
+        a.len().cmp(&b.len())
+    }
+
+    // Its byte `x` and the other's byte `y` stand for the same. Most often they are one byte, and then only an underscore has to be decoded.
+    fn same_byte(self, edition: Edition, x: u8, other: Spelled, y: u8) -> bool
+        ensures { result ≡ eqb (byte_of edition self.entry.quoted x) (byte_of edition other.entry.quoted y) }
+    {
+        if x == y && x != UNDERSCORE {
+            return true;
+        }
+        self.decode(edition, x) == other.decode(edition, y)
+    }
+
+    // As many bytes, each decoded, are the same.
+    fn same_all(self, edition: Edition, other: Spelled) -> bool
+        requires { length self.bytes.now ≡ length other.bytes.now }
+        ensures { result ≡ same_label (read_as edition self.entry.quoted self.entry.bytes.now) (read_as edition other.entry.quoted other.entry.bytes.now) }
+    {
+        let a = self.bytes;
+        let b = other.bytes;
+        for i in 0..a.len() {
+            if !self.same_byte(edition, a[i], other, b[i]) {
+                return false;
+            }
+        }
+        true
+    }
+
+    // Bytes, each decoded, are the same. What differs most often is looked at first: the lengths, the last bytes, then all.
+    fn same(self, edition: Edition, other: Spelled) -> bool
+        ensures { result ≡ same_label (read_as edition self.entry.quoted self.entry.bytes.now) (read_as edition other.entry.quoted other.entry.bytes.now) }
+    {
+        let a = self.bytes;
+        let b = other.bytes;
+        let n = a.len();
+        if n != b.len() {
+            return false;
+        }
+        if n == 0 {
+            return true;
+        }
+        if self.decode(edition, a[n - 1]) != other.decode(edition, b[n - 1]) {
+            return false;
+        }
+        self.same_all(edition, other)
+    }
 }
 
 // How many bytes the label of a token has.
 pub fn spelled_size(token: &[u8]) -> usize
     ensures { result ≡ length (spelling token.now) }
 {
-    inner(token).len()
-}
-
-// Where `a` stands against `b` in label order, each byte decoded: the first one that differs decides, else the length.
-fn compare_read(edition: Edition, a: &[u8], aquoted: bool, b: &[u8], bquoted: bool) -> Ordering
-    ensures { result ≡ order_of (read_as edition aquoted a.now) (read_as edition bquoted b.now) }
-{
-    for i in 0..a.len().min(b.len()) {
-        let x = decode(edition, aquoted, a[i]);
-        let y = decode(edition, bquoted, b[i]);
-        if x != y {
-            return x.cmp(&y);
-        }
-    }
-    a.len().cmp(&b.len())
+    Spelled::of(token).bytes.len()
 }
 
 // Where label `a` stands against label `b` in label order; both are decoded already.
 pub fn compare(a: &[u8], b: &[u8]) -> Ordering
     ensures { result ≡ order_of a.now b.now }
 {
-    compare_read(Edition::One, a, true, b, true)
+    let x = Spelled {
+        bytes: a,
+        quoted: true,
+    };
+    let y = Spelled {
+        bytes: b,
+        quoted: true,
+    };
+    x.compare(Edition::One, y)
 }
 
 // The label that token `a` stands for comes before that of `b`, as an edition reads them.
 pub fn comes_before(edition: Edition, a: &[u8], b: &[u8]) -> bool
     ensures { result ≡ label_less (key edition a.now) (key edition b.now) }
 {
-    let order = compare_read(edition, inner(a), is_quoted(a), inner(b), is_quoted(b));
-    order.is_lt()
+    Spelled::of(a).compare(edition, Spelled::of(b)).is_lt()
 }
 
 // A byte as a number.
@@ -322,53 +371,11 @@ pub fn least(a: usize, b: usize) -> usize
     if a < b { a } else { b }
 }
 
-// Two bytes stand for the same. Most often they are one byte, and then only an underscore has to be decoded.
-fn same_byte(edition: Edition, x: u8, xquoted: bool, y: u8, yquoted: bool) -> bool
-    ensures { result ≡ eqb (byte_of edition xquoted x) (byte_of edition yquoted y) }
-{
-    if x == y {
-        if x != UNDERSCORE {
-            return true;
-        }
-    }
-    decode(edition, xquoted, x) == decode(edition, yquoted, y)
-}
-
-// As many bytes, each decoded, are the same.
-fn same_all(edition: Edition, a: &[u8], aquoted: bool, b: &[u8], bquoted: bool) -> bool
-    requires { length a.now ≡ length b.now }
-    ensures { result ≡ same_label (read_as edition aquoted a.now) (read_as edition bquoted b.now) }
-{
-    for i in 0..a.len() {
-        if !same_byte(edition, a[i], aquoted, b[i], bquoted) {
-            return false;
-        }
-    }
-    true
-}
-
-// Bytes, each decoded, are the same. What differs most often is looked at first: the lengths, the last bytes, then all.
-fn same_read(edition: Edition, a: &[u8], aquoted: bool, b: &[u8], bquoted: bool) -> bool
-    ensures { result ≡ same_label (read_as edition aquoted a.now) (read_as edition bquoted b.now) }
-{
-    let n = a.len();
-    if n != b.len() {
-        return false;
-    }
-    if n == 0 {
-        return true;
-    }
-    if decode(edition, aquoted, a[n - 1]) != decode(edition, bquoted, b[n - 1]) {
-        return false;
-    }
-    same_all(edition, a, aquoted, b, bquoted)
-}
-
 // Two tokens stand for the same label, as an edition reads them.
 pub fn same_label(edition: Edition, a: &[u8], b: &[u8]) -> bool
     ensures { result ≡ same_label (key edition a.now) (key edition b.now) }
 {
-    same_read(edition, inner(a), is_quoted(a), inner(b), is_quoted(b))
+    Spelled::of(a).same(edition, Spelled::of(b))
 }
 
 // The first `len` bytes, or all of them where they are fewer: of a stored label's bytes the label.
@@ -459,11 +466,10 @@ pub fn is_among(
 pub fn slot(edition: Edition, token: &[u8]) -> usize
     ensures { result ≡ slot_of (key edition token.now) }
 {
-    let x = inner(token);
-    let quoted = is_quoted(token);
+    let x = Spelled::of(token);
     let mut n: usize = 0;
-    for b in x {
-        let c = decode(edition, quoted, *b);
+    for b in x.bytes {
+        let c = x.decode(edition, *b);
         n = (n * 139 + usize::from(c)) % SLOTS;
     }
     n
@@ -507,12 +513,11 @@ pub fn is_met(
 pub fn stored(edition: Edition, token: &[u8]) -> StoredLabel
     ensures { result ≡ stored_of (key edition token.now) }
 {
-    let x = inner(token);
-    let quoted = is_quoted(token);
-    let len = x.len().min(LABEL_LIMIT);
+    let x = Spelled::of(token);
+    let len = x.bytes.len().min(LABEL_LIMIT);
     let mut bytes = [0u8; LABEL_LIMIT];
     for i in 0..len {
-        bytes[i] = decode(edition, quoted, x[i]);
+        bytes[i] = x.decode(edition, x.bytes[i]);
     }
     LabelBytes { bytes, len }
 }

@@ -8,6 +8,6 @@ use Rattle.trees.proofs.comes_before.Goals as goal
 
 pub returns : goal.returns
 returns c =
-    let a = c.args in let same = both_told a.edition order_of a.a.now a.b.now _ _ _ _ c.inner.ensures c.is_quoted.ensures
-    c.inner-2.ensures c.is_quoted-2.ensures in
-    c.is_lt.ensures ∙ ap is_lt (c.compare_read-order.ensures ∙ same) ∙ order_before _ _
+    let a = c.args in let same = both_told a.edition order_of a.a.now a.b.now _ _ _ _ c.of.ensures.bytes c.of.ensures.quoted
+    c.of-2.ensures.bytes c.of-2.ensures.quoted in
+    c.is_lt.ensures ∙ ap is_lt (c.compare.ensures ∙ same) ∙ order_before _ _

@@ -6,4 +6,4 @@ use Rattle.trees.proofs.compare.Goals as goal
 
 pub returns : goal.returns
 returns c =
-    c.compare_read.ensures ∙ ap₂ order_of (read_plain _) (read_plain _)
+    c.compare.ensures ∙ ap₂ order_of (read_plain _) (read_plain _)

@@ -6,5 +6,5 @@ use Rattle.trees.proofs.same_label.Goals as goal
 
 pub returns : goal.returns
 returns c =
-    let a = c.args in c.same_read.ensures
-    ∙ both_told a.edition same_label a.a.now a.b.now _ _ _ _ c.inner.ensures c.is_quoted.ensures c.inner-2.ensures c.is_quoted-2.ensures
+    let a = c.args in c.same.ensures
+    ∙ both_told a.edition same_label a.a.now a.b.now _ _ _ _ c.of.ensures.bytes c.of.ensures.quoted c.of-2.ensures.bytes c.of-2.ensures.quoted

@@ -6,4 +6,4 @@ use Rattle.trees.proofs.SlotLaws.{SlotFrom}
 use Rattle.trees.proofs.slot.Given as goal
 
 abbrev pub invariant-loop-b : goal.invariant-loop-b
-invariant-loop-b l = (l.n < slot_count) × SlotFrom (read_as l.edition l.quoted l.x) l.b-index l.n
+invariant-loop-b l = (l.n < slot_count) × SlotFrom (read_as l.edition l.x.quoted l.x.bytes.now) l.b-index l.n

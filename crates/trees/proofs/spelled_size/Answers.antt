@@ -6,4 +6,4 @@ use Rattle.trees.proofs.spelled_size.Goals as goal
 
 pub returns : goal.returns
 returns c =
-    ap length c.inner.ensures ∙ spelling_size _
+    ap length c.of.ensures.bytes ∙ spelling_size _

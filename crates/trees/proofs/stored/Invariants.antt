@@ -6,4 +6,4 @@ use Rattle.trees.proofs.StoredLaws.{copied}
 use Rattle.trees.proofs.stored.Given as goal
 
 abbrev pub invariant-loop-i : goal.invariant-loop-i
-invariant-loop-i l = l.bytes ≡ copied label_limit (read_as l.edition l.quoted l.x) l.i
+invariant-loop-i l = l.bytes ≡ copied label_limit (read_as l.edition l.x.quoted l.x.bytes.now) l.i

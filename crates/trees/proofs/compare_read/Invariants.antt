@@ -1,6 +1,0 @@
--- `compare_read`: the rests from place i on compare as the wholes do. Assumes nothing.
-use Rattle.trees.proofs.DecodeLaws.{OrderFrom}
-use Rattle.trees.proofs.compare_read.Given as goal
-
-abbrev pub invariant-loop-i : goal.invariant-loop-i
-invariant-loop-i l = OrderFrom l.edition l.aquoted l.bquoted l.a l.b l.i
