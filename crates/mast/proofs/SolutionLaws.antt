@@ -24,9 +24,9 @@ use Rattle.trees.proofs.EditionLaws.{valid_spelled, valid_folded, arrays_folded}
 use Rattle.trees.proofs.TokenLaws.{valid_decoded}
 use Rattle.lists.specs.declared.LabelPlaces.{LabelPlaces}
 use Rattle.lists.specs.ReadList.{places_of}
-use Rattle.writer.specs.declared.WriteAnswer.{WriteAnswer}
-use Rattle.writer.specs.declared.WriteAnswer.TheVariants.{Written, Refused, NoTree}
-use Rattle.writer.specs.contracts.WriteAnswer.{the_type}
+use Rattle.std.specs.Prelude.{Ok, Err}
+use Rattle.writer.specs.declared.WriteError.{WriteError}
+use Rattle.writer.specs.declared.WriteError.TheVariants.{Refused}
 use Rattle.newick.proofs.Keys.{left_over}
 use Rattle.writer.specs.Write.{standing_text, output_too_short, text_answer, text_output, write_answer, output_after}
 use Rattle.agreement.specs.Sets.{set_of, common}
@@ -67,14 +67,9 @@ module _ {e : Edition} {s : Tree} {C : List Label} {tree : TreeArrays} {text ord
       ∙ (rw (k.arrays_is, k.text_is) (own_kept e s k.valid kept (set_of X) f)))
       ∙ kept_standing_text e (restrict_in e (set_of X) s)
 
-pub not_written : (w : WriteAnswer) → OneOf (1 ∷ 2 ∷ []) (tag_of the_type w) → (n : ℕ) → w ≡ Written n → ⊥
-not_written (Written m) h n e = left_over (1 ∷ 2 ∷ []) 0 refl h
-not_written (Refused q) h n e = let z : ◌≡◌ {A = ℕ} 0 1 = cc in omega arith
-not_written NoTree h n e = let z : ◌≡◌ {A = ℕ} 0 1 = cc in omega arith
-
--- the writer's answer is Written with the text's length, or number 9
+-- the writer's answer is the text's length, or number 9
 module _ (r : Solution) where
-  written_solved : (room n : ℕ) → text_answer (some (solution_text r)) room ≡ Written n
+  written_solved : (room n : ℕ) → text_answer (some (solution_text r)) room ≡ Ok n
       → result_from (Found (length r.set) n) (set_places (folded r.edition r.first) r.set) ≡ largest_of (fitted room r)
   unfolding text_answer fitted largest_of
   written_solved room n d = go (bool_cases (leb (length (solution_text r)) room))
@@ -82,22 +77,25 @@ module _ (r : Solution) where
       go : (leb (length (solution_text r)) room ≡ true) ⊎ (leb (length (solution_text r)) room ≡ false)
           → result_from (Found (length r.set) n) (set_places (folded r.edition r.first) r.set) ≡ largest_of (fitted room r)
       go (inl h) =
-          let w : Written (length (solution_text r)) ≡ Written n = rw h at d in
+          let w : Ok (length (solution_text r)) ≡ Ok n = rw h at d in
           let k : length (solution_text r) ≡ n = cc in
           rw (h, k) refl
       go (inr h) =
-          let w : Refused output_too_short ≡ Written n = rw h at d in
+          let w : Err (Refused output_too_short) ≡ Ok n = rw h at d in
           let z : ◌≡◌ {A = ℕ} 0 1 = cc in
           absurd (omega arith)
 
-  other_short : (room : ℕ) → ((n : ℕ) → text_answer (some (solution_text r)) room ≡ Written n → ⊥)
+  other_short : (room : ℕ) (w : WriteError) → text_answer (some (solution_text r)) room ≡ Err w
       → result_from (NotFound too_short) (places_of []) ≡ largest_of (fitted room r)
   unfolding text_answer fitted largest_of
-  other_short room d = go (bool_cases (leb (length (solution_text r)) room))
+  other_short room w d = go (bool_cases (leb (length (solution_text r)) room))
     where
       go : (leb (length (solution_text r)) room ≡ true) ⊎ (leb (length (solution_text r)) room ≡ false)
           → result_from (NotFound too_short) (places_of []) ≡ largest_of (fitted room r)
-      go (inl h) = absurd (d (length (solution_text r)) (rw h refl))
+      go (inl h) =
+          let v : Ok (length (solution_text r)) ≡ Err w = rw h at d in
+          let z : ◌≡◌ {A = ℕ} 0 1 = cc in
+          absurd (omega arith)
       go (inr h) = rw h refl
 
   fitted_output : (out : List ℕ) → text_output (some (solution_text r)) out ≡ output_of (fitted (length out) r) out
@@ -110,15 +108,15 @@ module _ (r : Solution) where
       go (inr h) = rw h refl
 
 module _ (r : Solution) (a : Standing) (out : List ℕ) (d : standing_text r.edition a ≡ some (solution_text r)) where
-  pub set_written : (n : ℕ) → write_answer r.edition a (length out) ≡ Written n
+  pub set_written : (n : ℕ) → write_answer r.edition a (length out) ≡ Ok n
       → result_from (Found (length r.set) n) (set_places (folded r.edition r.first) r.set) ≡ largest_of (fitted (length out) r)
   unfolding write_answer
   set_written n h = written_solved r (length out) n (rw d at h)
 
-  pub set_refused : ((n : ℕ) → write_answer r.edition a (length out) ≡ Written n → ⊥)
+  pub set_refused : (w : WriteError) → write_answer r.edition a (length out) ≡ Err w
       → result_from (NotFound too_short) (places_of []) ≡ largest_of (fitted (length out) r)
   unfolding write_answer
-  set_refused h = other_short r (length out) (λ n k. h n (rw d k))
+  set_refused w h = other_short r (length out) w (rw d at h)
 
   pub set_output : output_after r.edition a out ≡ output_of (fitted (length out) r) out
   unfolding output_after

@@ -29,7 +29,6 @@ use lists::LabelPlaces;
 use pairs::CommonOrder;
 use table::RANKS;
 use trees::{Body, Edition, LEAF_LIMIT, NODE_LIMIT, Reason, Refusal, TreeArrays, wide};
-use writer::WriteAnswer;
 
 // Stores a label's place behind n others if the label is chosen, and says how many there are then.
 fn add_place(
@@ -146,7 +145,7 @@ fn solution(
 {
     let kept = kept_leaves(order1, m, chosen);
     let written = writer::write_tree(edition, restriction::restrict_tree(tree, kept), text, out);
-    let WriteAnswer::Written(bytes) = written else {
+    let Ok(bytes) = written else {
         return without_set(LargestAnswer::Refused(Refusal {
             reason: Reason::TooShort,
             body: Body::O,

@@ -7,7 +7,6 @@
 
 use std::io::Write;
 use trees::{Body, Edition, Refusal, TOKEN_LIMIT, TREE_ROOM};
-use writer::WriteAnswer;
 
 const INPUT_ROOM: usize = TREE_ROOM + TOKEN_LIMIT + 1;
 
@@ -33,7 +32,7 @@ fn print_line<W: Write>(output: &mut W, text: &[u8]) {
     let mut area = [0u8; TREE_ROOM];
     let out: &mut [u8] = &mut area;
     let written = writer::write_tree(Edition::One, tree, text, out);
-    if let WriteAnswer::Written(n) = written {
+    if let Ok(n) = written {
         streams::write_all(output, trees::part(out, 0, n));
         streams::write_all(output, b"\n");
     }

@@ -9,7 +9,6 @@ ghost use Rattle.std.specs.Prelude.{◌+◌, ◌≤◌, ◌<◌, length};
 use lists::LabelPlaces;
 use std::io::{Read, Write};
 use trees::{Body, Edition, Reason, Refusal, TREE_ROOM};
-use writer::WriteAnswer;
 
 // More than any refusal's line takes.
 const REFUSAL_ROOM: usize = 4096;
@@ -35,7 +34,7 @@ fn print_tree<W: Write>(output: &mut W, edition: Edition, text: &[u8]) {
     let mut area = [0u8; TREE_ROOM];
     let out: &mut [u8] = &mut area;
     let written = writer::write_tree(edition, tree, text, out);
-    if let WriteAnswer::Written(n) = written {
+    if let Ok(n) = written {
         streams::write_all(output, trees::part(out, 0, n));
         streams::write_all(output, b"\n");
     }

@@ -26,7 +26,8 @@ use Rattle.trees.proofs.ArrayLaws.{stands}
 use Rattle.trees.proofs.EditionLaws.{valid_spelled, one_text_in, one_normal, normal_tree, normal_tree_valid}
 use Rattle.trees.proofs.TokenLaws.{valid_decoded}
 use Rattle.trees.proofs.NormalLaws.{one_normal_text}
-use Rattle.writer.specs.declared.WriteAnswer.TheVariants.{Written, Refused, NoTree}
+use Rattle.std.specs.Prelude.{Ok, Err}
+use Rattle.writer.specs.declared.WriteError.TheVariants.{NoTree, Refused}
 use Rattle.trees.specs.Refusals.{value, row}
 use Rattle.writer.specs.Write.{standing_text, output_too_short, text_answer, write_answer, output_after, Lack, said_of}
 use Rattle.writer.specs.Write.{EditionTexts}
@@ -40,14 +41,14 @@ module _ (e : Edition) (a : TreeArrays) (text : List ℕ) (t : Tree) (stands : t
   belongs = ap (standing_text e) stands
 
   fits : length (normal_text_in e t) ≤ length out
-      → Done e (tree_of a text) out (Written (length (normal_text_in e t))) (normal_text_in e t ++ drop (length (normal_text_in e t)) out)
+      → Done e (tree_of a text) out (Ok (length (normal_text_in e t))) (normal_text_in e t ++ drop (length (normal_text_in e t)) out)
   fits h = done_as e (tree_of a text) (some (normal_text_in e t)) out _ _ belongs (done_fits (normal_text_in e t) out h)
 
-  short : length out < length (normal_text_in e t) → Done e (tree_of a text) out (Refused output_too_short) out
+  short : length out < length (normal_text_in e t) → Done e (tree_of a text) out (Err (Refused output_too_short)) out
   short h = done_as e (tree_of a text) (some (normal_text_in e t)) out _ _ belongs (done_short (normal_text_in e t) out h)
 
   -- "On success the output holds the normal text and its further bytes are unchanged"
-  pub written_count : length (normal_text_in e t) ≤ length out → write_answer e (tree_of a text) (length out) ≡ Written (length (normal_text_in e t))
+  pub written_count : length (normal_text_in e t) ≤ length out → write_answer e (tree_of a text) (length out) ≡ Ok (length (normal_text_in e t))
   written_count h = sym (fits h).0
 
   pub written_text : length (normal_text_in e t) ≤ length out
@@ -61,7 +62,7 @@ module _ (e : Edition) (a : TreeArrays) (text : List ℕ) (t : Tree) (stands : t
       ap (drop (length (normal_text_in e t))) (sym (fits h).1) ∙ drop-append_seam (normal_text_in e t) (drop (length (normal_text_in e t)) out)
 
   -- "On refusal no set and no count is returned, and an output keeps every byte"
-  pub too_short : length out < length (normal_text_in e t) → write_answer e (tree_of a text) (length out) ≡ Refused output_too_short
+  pub too_short : length out < length (normal_text_in e t) → write_answer e (tree_of a text) (length out) ≡ Err (Refused output_too_short)
   too_short h = sym (short h).0
 
   pub short_kept : length out < length (normal_text_in e t) → output_after e (tree_of a text) out ≡ out
@@ -77,33 +78,33 @@ module _ (e : Edition) (a : TreeArrays) (text : List ℕ) (t : Tree) (stands : t
   unfolding said_of output_too_short
   nine_told h = ap said_of (too_short e a text t stands out h)
 
-real_lack : (o : Option (List ℕ)) (n : ℕ) (r : Refusal) → text_answer o n ≡ Refused r → Lack o n r
+real_lack : (o : Option (List ℕ)) (n : ℕ) (r : Refusal) → text_answer o n ≡ Err (Refused r) → Lack o n r
 unfolding text_answer
 real_lack none n r e = let z : ◌≡◌ {A = ℕ} 0 1 = cc in absurd (omega arith)
 real_lack (some x) n r e = go (bool_cases (leb (length x) n))
   where
     go : (leb (length x) n ≡ true) ⊎ (leb (length x) n ≡ false) → Lack (some x) n r
     go (inl h) =
-        let d : Written (length x) ≡ Refused r = rw h at e in
+        let d : Ok (length x) ≡ Err (Refused r) = rw h at e in
         let z : ◌≡◌ {A = ℕ} 0 1 = cc in
         absurd (omega arith)
     go (inr h) =
-        let d : Refused output_too_short ≡ Refused r = rw h at e in
+        let d : Err (Refused output_too_short) ≡ Err (Refused r) = rw h at e in
         record { text = x; belongs = refl; longer = leb-false (length x) n h; told = cc }
 
-pub lacking_text : (e : Edition) (s : Standing) (n : ℕ) (r : Refusal) → write_answer e s n ≡ Refused r → Lack (standing_text e s) n r
+pub lacking_text : (e : Edition) (s : Standing) (n : ℕ) (r : Refusal) → write_answer e s n ≡ Err (Refused r) → Lack (standing_text e s) n r
 unfolding write_answer
 lacking_text e s n r h = real_lack (standing_text e s) n r h
 
 -- arrays that stand for no leaf and for no tree
 module _ (e : Edition) (out : List ℕ) where
-  empty_done : Done e no_leaf out (Written 0) out
+  empty_done : Done e no_leaf out (Ok 0) out
   unfolding standing_text
-  empty_done = done_as e no_leaf (some []) out (Written 0) out refl (done_empty out)
+  empty_done = done_as e no_leaf (some []) out (Ok 0) out refl (done_empty out)
 
-  none_done : Done e no_tree out NoTree out
+  none_done : Done e no_tree out (Err NoTree) out
   unfolding standing_text
-  none_done = done_as e no_tree none out NoTree out refl (done_none out)
+  none_done = done_as e no_tree none out (Err NoTree) out refl (done_none out)
 
   pub empty_told : (said_of (write_answer e no_leaf (length out)) ≡ value (some 0)) × (output_after e no_leaf out ≡ out)
   unfolding said_of

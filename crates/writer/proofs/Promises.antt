@@ -14,15 +14,16 @@ use Rattle.trees.specs.Tree.{Tree, relabel, decoded, Same, Valid}
 use Rattle.trees.specs.Text.{text_of, normal_text}
 use Rattle.trees.specs.Edition.{in_edition, keyed, ValidIn, normal_in, rewritten, normal_text_in}
 use Rattle.trees.specs.Arrays.{Standing, no_leaf, one_tree, no_tree, tree_of, arrays_of}
-use Rattle.writer.specs.declared.WriteAnswer.TheVariants.{Written, Refused, NoTree}
+use Rattle.std.specs.Prelude.{Ok, Err}
+use Rattle.writer.specs.declared.WriteError.TheVariants.{NoTree, Refused}
 use Rattle.writer.specs.Write.{standing_text, write_answer, output_after, Lack, said_of, EditionTexts}
 use Rattle.writer.proofs.AnswerLaws.{bytes_told, nine_told, written_text, written_rest, short_kept, lacking_text}
 use Rattle.writer.proofs.AnswerLaws.{empty_told, none_told, tree_text, text_again, text_alike, edition_texts, one_standing, one_text}
 
 -- Each answer is a number of bytes, a row of 01's table, or no row of it.
 pub answers_told : (n : ℕ) (r : Refusal)
-    → (said_of (Written n) ≡ value (some n)) × (said_of (Refused r) ≡ row (number_of r.reason) (letter_of r.body) r.place)
-    × (said_of NoTree ≡ value none)
+    → (said_of (Ok n) ≡ value (some n)) × (said_of (Err (Refused r)) ≡ row (number_of r.reason) (letter_of r.body) r.place)
+    × (said_of (Err NoTree) ≡ value none)
 unfolding said_of
 answers_told n r = (refl, refl, refl)
 
@@ -49,7 +50,7 @@ module _ (e : Edition) (a : TreeArrays) (text : List ℕ) (t : Tree) (stands : t
   output_kept_when_too_short = short_kept e a text t stands out
 
 -- "9 stands only for a real lack"
-pub only_a_real_lack : (e : Edition) (s : Standing) (n : ℕ) (r : Refusal) → write_answer e s n ≡ Refused r → Lack (standing_text e s) n r
+pub only_a_real_lack : (e : Edition) (s : Standing) (n : ℕ) (r : Refusal) → write_answer e s n ≡ Err (Refused r) → Lack (standing_text e s) n r
 only_a_real_lack = lacking_text
 
 -- "The empty set of leaves has a text of no bytes"

@@ -80,7 +80,7 @@ order_told e text s z t i j x y ex ey a b ea eb r er =
     ∙ ap₂ (λ (p q : Token). label_less (key e p) (key e q)) (ea ∙ ap (leaf_label text s z) ex) (eb ∙ ap (leaf_label text s z) ey)
     ∙ ap₂ label_less (leaf_key e text s z (get_or t i 0)) (leaf_key e text s z (get_or t j 0))
 
--- ---- what a leaf writes, by edition 1 as it stands; x is its label as it is kept, y as it is shown
+-- ---- what a leaf writes, by edition 1 as it stands
 
 -- as many bytes count as are shown
 shown_length : (x : Label) → (shown_of x).len ≡ length (shown_bytes (shown_of x))
@@ -94,26 +94,30 @@ shown_length x =
       length-replicate {A = ℕ} (token_limit - length (token_of x)) 0,
     )
 
-pub shown_few : (x : Label) (y : ShownLabel) → y ≡ shown_of x → y.len ≤ token_limit
-unfolding shown_of
-shown_few x y e = rw e (omega arith)
-
+-- what the code answers for leaf u: x is its label as it is kept, and y as it is shown
 module _ (text s z : List ℕ) (u : ℕ) (x : StoredLabel) (ex : x ≡ stored_of (leaf_spelling (in_edition One text) s z u)) (y : ShownLabel)
     (ey : y ≡ shown_of (stored_bytes x)) where
   kept_as : x ≡ stored_of (leaf_spelling text s z u)
   kept_as = ex ∙ ap (λ (t : List ℕ). stored_of (leaf_spelling t s z u)) (one_itself text)
 
-  pub token_bytes : (b : List ℕ) → b ≡ take y.len y.bytes → b ≡ leaf_token text s z u
-  unfolding leaf_token shown_bytes
-  token_bytes b eb = eb ∙ ap shown_bytes ey ∙ ap (λ (k : StoredLabel). shown_bytes (shown_of (stored_bytes k))) kept_as
+  pub token_bytes : shown_bytes y ≡ leaf_token text s z u
+  unfolding leaf_token
+  token_bytes = ap shown_bytes ey ∙ ap (λ (k : StoredLabel). shown_bytes (shown_of (stored_bytes k))) kept_as
 
-  pub weight_leaf : (l : List ℕ) → get_or l u 0 ≡ u → y.len ≡ weight_at text l s z u
-  unfolding weight_at leaf_token
-  weight_leaf l e =
-      rw (eq-eqb (get_or l u 0) u e)
-      (ap (λ (k : ShownLabel). k.len) ey
+  pub token_count : y.len ≡ length (leaf_token text s z u)
+  unfolding leaf_token
+  token_count =
+      ap (λ (k : ShownLabel). k.len) ey
       ∙ shown_length (stored_bytes x)
-      ∙ ap (λ (k : StoredLabel). length (shown_bytes (shown_of (stored_bytes k)))) kept_as)
+      ∙ ap (λ (k : StoredLabel). length (shown_bytes (shown_of (stored_bytes k)))) kept_as
+
+  pub token_few : y.len ≤ token_limit
+  unfolding shown_of
+  token_few = rw ey (omega arith)
+
+pub weight_leaf : (text l s z : List ℕ) (u : ℕ) → get_or l u 0 ≡ u → length (leaf_token text s z u) ≡ weight_at text l s z u
+unfolding weight_at
+weight_leaf text l s z u e = rw (eq-eqb (get_or l u 0) u e) refl
 
 pub weight_node : (text l s z : List ℕ) (u : ℕ) → (get_or l u 0 ≡ u → ⊥) → 0 ≡ weight_at text l s z u
 unfolding weight_at

@@ -2,14 +2,16 @@
 use Prim.Native.Nat.{ℕ, suc, ◌+◌, ◌-◌, ◌≤◌, ◌<◌, min}
 use mathlib.Core.Path.{◌≡◌, refl, sym, ◌∙◌, ap, ap₂, subst}
 use mathlib.Core.Bool.{Bool, true, false, cond, ◌&&◌}
-use mathlib.Core.List.{List, [], ◌∷◌, ◌++◌}
+use mathlib.Core.List.{List, [], ◌∷◌, ◌++◌, append_assoc}
 use mathlib.Core.Option.{Option, none, some}
 use native.Mathlib.Nat.{add-zero, add-suc, suc-add}
-use native.Mathlib.Numerals.{add-one}
 use native.Mathlib.Omega.{arith}
 use lib.Dec.{eqb, leb}
-use lib.ListN.{length, get_or, set, take, drop, replicate, length-append, length-take}
-use lib.Seq.{sets, sets-eq, take-suc}
+use lib.ListN.{length, get_or, set, take, drop, replicate, length-append}
+use lib.Seq.{sets, sets-eq}
+use borrow.Rule.Slice.PartMut.{put_mid}
+use Rattle.std.proofs.lemmas.Slice.{put_mid-paste}
+use Rattle.std.proofs.lemmas.List.Edits.{paste_all}
 use borrow.Author.Tests.{le-leb, lt-leb, eq-eqb, ne_eqb}
 use Rattle.trees.specs.declared.Edition.{Edition}
 use Rattle.trees.specs.declared.TreeArrays.{TreeArrays}
@@ -17,10 +19,11 @@ use Rattle.trees.specs.Tree.{Tree, leaves}
 use Rattle.trees.specs.Text.{text_of}
 use Rattle.trees.specs.Arrays.{good_nodes, tree_at, Standing, no_leaf, one_tree, no_tree, tree_of}
 use Rattle.trees.specs.Edition.{normal_in, normal_text_in}
-use Rattle.writer.specs.declared.WriteAnswer.{WriteAnswer}
-use Rattle.writer.specs.declared.WriteAnswer.TheVariants.{Written, Refused, NoTree}
+use Rattle.std.specs.Prelude.{Result, Ok, Err}
+use Rattle.writer.specs.declared.WriteError.{WriteError}
+use Rattle.writer.specs.declared.WriteError.TheVariants.{NoTree, Refused}
 use Rattle.writer.specs.Write.{standing_text, output_too_short, text_answer, text_output, write_answer, output_after}
-use Rattle.writer.specs.Passes.{weight_at, weight_cap, root_sum, below, shown_text}
+use Rattle.writer.specs.Passes.{weight_at, weight_cap, root_sum, below, shown_text, node_text, Good, root_tree, root_text}
 use Rattle.writer.proofs.PassLaws.{leaves_found, lengths_found, written_bound, normal_length}
 
 -- ---- runs of stores
@@ -31,12 +34,13 @@ sets_append (v ∷ x) y l i =
     sets_append x y (set l i v) (suc i)
     ∙ ap (λ (k : ℕ). sets (sets (set l i v) (suc i) x) k y) (suc-add i (length x) ∙ sym (add-suc i (length x)))
 
--- one byte more
-pub sets_more : (x l : List ℕ) (i k : ℕ) → k < length x → set (sets l i (take k x)) (i + k) (get_or x k 0) ≡ sets l i (take (k + 1) x)
-sets_more x l i k h =
-    ap (λ (m : ℕ). set (sets l i (take k x)) (i + m) (get_or x k 0)) (omega (arith, length-take k x))
-    ∙ sym (sets_append (take k x) (get_or x k 0 ∷ []) l i)
-    ∙ ap (sets l i) (sym (take-suc x k 0 h) ∙ ap (λ (m : ℕ). take m x) (sym (add-one k)))
+-- a text copied over a part of the same length
+pub copied : (x y l : List ℕ) (i n : ℕ) → y ≡ x → n ≡ length x → i + length x ≤ length l → put_mid i n l y ≡ sets l i x
+copied x y l i n ey en room =
+    put_mid-paste i n l y x (length x) ey (sym en) refl
+    ∙ paste_all l i x (length x) refl
+    ∙ sym (append_assoc (take i l) x (drop (i + length x) l))
+    ∙ sym (sets-eq x l i room)
 
 -- ---- what arrays stand for
 
@@ -72,21 +76,21 @@ module _ (a : TreeArrays) (text : List ℕ) where
       go true = rw (ne_eqb a.nodes 0 h, bad) refl
       go false = rw (ne_eqb a.nodes 0 h) refl
 
-  module _ (some-node : 0 < a.nodes) (few : a.nodes ≤ 159) (good : good_nodes a text a.nodes ≡ true) where
+  module _ (g : Good a text) where
     -- the tree as it is read is the root's
     read : Tree
     read = tree_at a.nodes a text (a.nodes - 1)
 
     root_below : read ≡ below a text (a.nodes - 1)
     unfolding read below
-    root_below = ap (λ (k : ℕ). tree_at k a text (a.nodes - 1)) (omega arith)
+    root_below = ap (λ (k : ℕ). tree_at k a text (a.nodes - 1)) (omega (arith, g.some))
 
     root_count : length (leaves read) ≡ length (leaves (below a text (a.nodes - 1)))
     root_count = ap (λ (t : Tree). length (leaves t)) root_below
 
     stands_by : tree_of a text ≡ cond (leb (length (leaves read)) 80) (one_tree read) no_tree
     unfolding tree_of read
-    stands_by = rw (ne_eqb a.nodes 0 (omega arith), le-leb a.nodes 159 few, good) refl
+    stands_by = rw (ne_eqb a.nodes 0 (omega (arith, g.some)), le-leb a.nodes 159 g.few, g.each) refl
 
     pub stands_many : (e : Edition) → 80 < length (leaves (below a text (a.nodes - 1))) → standing_text e (tree_of a text) ≡ none
     unfolding standing_text
@@ -104,27 +108,19 @@ module _ (a : TreeArrays) (text : List ℕ) where
         ∙ ap (λ (t : Tree). some (normal_text_in e t)) root_below
 
     root_last : a.nodes - 1 < a.nodes
-    root_last = omega arith
+    root_last = omega (arith, g.some)
 
     -- the root's sums tell how many leaves there are, up to 81, and how long the text is
-    root_leaves : root_sum a.left a.right (replicate 159 0) 1 81 a.nodes ≡ min 81 (length (leaves (below a text (a.nodes - 1))))
+    pub root_leaves : root_sum a.left a.right (replicate 159 0) 1 81 a.nodes ≡ min 81 (length (leaves (below a text (a.nodes - 1))))
     unfolding root_sum
-    root_leaves = leaves_found a text a.nodes good (replicate 159 0) few few (a.nodes - 1) root_last
-
-    pub found_many : (e : Edition) → 80 < root_sum a.left a.right (replicate 159 0) 1 81 a.nodes
-        → standing_text e (tree_of a text) ≡ none
-    found_many e h = stands_many e (omega (arith, root_leaves))
-
-    pub found_few : root_sum a.left a.right (replicate 159 0) 1 81 a.nodes ≤ 80
-        → length (leaves (below a text (a.nodes - 1))) ≤ 80
-    found_few h = omega (arith, root_leaves)
+    root_leaves = leaves_found a text a.nodes g.each (replicate 159 0) g.few g.few (a.nodes - 1) root_last
 
     -- w tells how many bytes each leaf writes, and r is the root's sum
     pub found_length : (w : List ℕ) → ((u : ℕ) → u < a.nodes → get_or w u 0 ≡ weight_at text a.left a.start a.size u)
         → (r : ℕ) → r ≡ root_sum a.left a.right w 3 weight_cap a.nodes → Found a text r
     unfolding root_sum
     found_length w weights r is =
-        let sum = lengths_found a text a.nodes good w weights (replicate 159 0) few (a.nodes - 1) root_last in
+        let sum = lengths_found a text a.nodes g.each w weights (replicate 159 0) g.few (a.nodes - 1) root_last in
         record {
           some = omega (arith, is, sum);
           exact = λ (e : Edition) (h : length (leaves (below a text (a.nodes - 1))) ≤ 80).
@@ -133,7 +129,7 @@ module _ (a : TreeArrays) (text : List ℕ) where
                 h,
                 is,
                 sum,
-                written_bound a text a.nodes good (a.nodes - 1) root_last,
+                written_bound a text a.nodes g.each (a.nodes - 1) root_last,
                 normal_length e (below a text (a.nodes - 1)),
                 text_length e (below a text (a.nodes - 1)),
               );
@@ -142,46 +138,88 @@ module _ (a : TreeArrays) (text : List ℕ) where
 -- ---- the answer and the output
 
 -- r is the answer and o the output afterwards, for the text x, if any
-abbrev TextDone : Option (List ℕ) → List ℕ → WriteAnswer → List ℕ → Type 0
+abbrev TextDone : Option (List ℕ) → List ℕ → Result ℕ WriteError → List ℕ → Type 0
 TextDone x out r o = (r ≡ text_answer x (length out)) × (o ≡ text_output x out)
 
-abbrev pub Done : Edition → Standing → List ℕ → WriteAnswer → List ℕ → Type 0
+abbrev pub Done : Edition → Standing → List ℕ → Result ℕ WriteError → List ℕ → Type 0
 Done e s out r o = (r ≡ write_answer e s (length out)) × (o ≡ output_after e s out)
 
-pub done_as : (e : Edition) (s : Standing) (x : Option (List ℕ)) (out : List ℕ) (r : WriteAnswer) (o : List ℕ) → standing_text e s ≡ x
+pub done_as : (e : Edition) (s : Standing) (x : Option (List ℕ)) (out : List ℕ) (r : Result ℕ WriteError) (o : List ℕ) → standing_text e s ≡ x
     → TextDone x out r o → Done e s out r o
 unfolding write_answer output_after
 done_as e s x out r o is d = subst (λ (y : Option (List ℕ)). TextDone y out r o) (sym is) d
 
-pub done_none : (out : List ℕ) → TextDone none out NoTree out
+pub done_none : (out : List ℕ) → TextDone none out (Err NoTree) out
 unfolding text_answer text_output
 done_none out = (refl, refl)
 
-pub done_empty : (out : List ℕ) → TextDone (some []) out (Written 0) out
+pub done_empty : (out : List ℕ) → TextDone (some []) out (Ok 0) out
 unfolding text_answer text_output
 done_empty out = (rw (le-leb 0 (length out) (omega arith)) refl, rw (le-leb 0 (length out) (omega arith)) refl)
 
 module _ (x out : List ℕ) where
-  pub done_short : length out < length x → TextDone (some x) out (Refused output_too_short) out
+  pub done_short : length out < length x → TextDone (some x) out (Err (Refused output_too_short)) out
   unfolding text_answer text_output
   done_short h = (rw (lt-leb (length x) (length out) h) refl, rw (lt-leb (length x) (length out) h) refl)
 
-  pub done_fits : length x ≤ length out → TextDone (some x) out (Written (length x)) (x ++ drop (length x) out)
+  pub done_fits : length x ≤ length out → TextDone (some x) out (Ok (length x)) (x ++ drop (length x) out)
   unfolding text_answer text_output
   done_fits h = (rw (le-leb (length x) (length out) h) refl, rw (le-leb (length x) (length out) h) refl)
 
 -- the node's text stored from 0 to j, and `;` at j
 pub done_stored : (e : Edition) (t : Tree) (out o : List ℕ) (j : ℕ) → length (normal_text_in e t) ≤ length out
     → j ≡ 0 + length (shown_text (normal_in e t)) → o ≡ sets out 0 (shown_text (normal_in e t))
-    → TextDone (some (normal_text_in e t)) out (Written (j + 1)) (set o j 59)
+    → TextDone (some (normal_text_in e t)) out (Ok (j + 1)) (set o j 59)
 unfolding normal_text_in text_of
 done_stored e t out o j h ej eo =
     let k : j + 1 ≡ length (normal_text_in e t) = omega (arith, text_length e t) in
     let d : 0 + length (normal_text_in e t) ≡ length (normal_text_in e t) = omega arith in (
-      ap Written k ∙ (done_fits (normal_text_in e t) out h).0,
+      ap Ok k ∙ (done_fits (normal_text_in e t) out h).0,
       ap₂ (λ (l : List ℕ) (i : ℕ). set l i 59) eo ej
           ∙ sym (sets_append (shown_text (normal_in e t)) (59 ∷ []) out 0)
           ∙ sets-eq (normal_text_in e t) out 0 (omega arith)
           ∙ ap (λ (i : ℕ). normal_text_in e t ++ drop i out) d
           ∙ (done_fits (normal_text_in e t) out h).1,
     )
+
+-- arrays that fail a test
+module _ (e : Edition) (a : TreeArrays) (text out : List ℕ) where
+  pub tree_empty : a.nodes ≡ 0 → Done e (tree_of a text) out (Ok 0) out
+  tree_empty h = done_as e (tree_of a text) (some []) out (Ok 0) out (stands_empty a text e h) (done_empty out)
+
+  pub tree_long : 159 < a.nodes → Done e (tree_of a text) out (Err NoTree) out
+  tree_long h = done_as e (tree_of a text) none out (Err NoTree) out (stands_long a text e h) (done_none out)
+
+  pub tree_bad : (a.nodes ≡ 0 → ⊥) → good_nodes a text a.nodes ≡ false → Done e (tree_of a text) out (Err NoTree) out
+  tree_bad h bad = done_as e (tree_of a text) none out (Err NoTree) out (stands_bad a text e h bad) (done_none out)
+
+-- good arrays: the answer and the output by the tests of the code. n is the count of leaves, at most 81, and bytes the text's length.
+module _ (e : Edition) (a : TreeArrays) (text : List ℕ) (g : Good a text) (out : List ℕ)
+    (n : ℕ) (count : n ≡ min 81 (length (leaves (root_tree a text)))) where
+  pub nodes_many : 80 < n → Done e (tree_of a text) out (Err NoTree) out
+  nodes_many h =
+      done_as e (tree_of a text) none out (Err NoTree) out (stands_many a text g e (omega (arith, count, h))) (done_none out)
+
+  module _ (h : n ≤ 80) where
+    pub few_leaves : length (leaves (root_tree a text)) ≤ 80
+    few_leaves = omega (arith, count, h)
+
+    module _ (bytes : ℕ) (long : (d : Edition) → length (leaves (root_tree a text)) ≤ 80 → bytes ≡ length (normal_text_in d (root_tree a text))) where
+      pub nodes_short : length out < bytes → Done e (tree_of a text) out (Err (Refused output_too_short)) out
+      nodes_short k =
+          done_as e (tree_of a text) (some (normal_text_in e (root_tree a text))) out (Err (Refused output_too_short)) out
+          (stands_tree a text g e few_leaves) (done_short (normal_text_in e (root_tree a text)) out (omega (arith, k, long e few_leaves)))
+
+      module _ (fits : bytes ≤ length out) where
+        -- the root's text, and `;` after it
+        pub root_fits : length (root_text e a text) < length out
+        unfolding node_text
+        root_fits = omega (arith, fits, long e few_leaves, text_length e (root_tree a text))
+
+        pub nodes_stored : (o : List ℕ) (j : ℕ) → j ≡ 0 + length (root_text e a text) → o ≡ sets out 0 (root_text e a text)
+            → Done e (tree_of a text) out (Ok (j + 1)) (set o j 59)
+        unfolding node_text
+        nodes_stored o j ej eo =
+            done_as e (tree_of a text) (some (normal_text_in e (root_tree a text))) out (Ok (j + 1)) (set o j 59)
+            (stands_tree a text g e few_leaves)
+            (done_stored e (root_tree a text) out o j (omega (arith, fits, long e few_leaves)) ej eo)

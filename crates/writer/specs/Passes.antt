@@ -1,17 +1,14 @@
 -- The passes over tree arrays as the code makes them; intermediate: nothing public rests on this text.
-use Rattle.std.specs.Prelude.{ℕ, zero, suc, ◌+◌, ◌*◌, ◌-◌, ◌<◌, min, ◌≡◌, Bool, true, false, cond, not, List, [], ◌∷◌, ◌++◌, eqb, ltb, length, get_or, set, replicate}
+use Rattle.std.specs.Prelude.{ℕ, zero, suc, ◌+◌, ◌*◌, ◌-◌, ◌<◌, ◌≤◌, min, ◌≡◌, Bool, true, false, cond, not, List, [], ◌∷◌, ◌++◌, eqb, ltb, length, get_or, set, replicate}
 use Rattle.trees.specs.declared.Edition.{Edition}
 use Rattle.trees.specs.declared.TreeArrays.{TreeArrays}
 use Rattle.trees.specs.Label.{Label, label_less}
 use Rattle.trees.specs.Token.{Token, spelling, token_limit}
 use Rattle.trees.specs.Tree.{Tree, leaves, relabel, smallest, leaf_limit}
 use Rattle.trees.specs.Text.{written}
-use Rattle.trees.specs.Arrays.{tree_at, is_leaf}
+use Rattle.trees.specs.Arrays.{tree_at, is_leaf, good_nodes}
 use Rattle.trees.specs.Edition.{in_edition, keyed, normal_in, rewritten}
 use Rattle.trees.specs.Stored.{stored_bytes, stored_of, shown_bytes, shown_of, leaf_label}
-
-abbrev pub arrays_from : ℕ → List ℕ → List ℕ → List ℕ → List ℕ → TreeArrays
-arrays_from n l r s z = record { nodes = n; left = l; right = r; start = s; size = z }
 
 -- entries 0 to n - 1 stored in this order, each from the entries stored before it
 unfoldable pub pass : (List ℕ → ℕ → ℕ) → List ℕ → ℕ → List ℕ
@@ -75,6 +72,19 @@ shown_text t = written (relabel rewritten t)
 unfoldable pub node_text : Edition → TreeArrays → List ℕ → ℕ → List ℕ
 unfolding below normal_in
 node_text e a text u = shown_text (normal_in e (below a text u))
+
+-- arrays with a node, each of which is good over the text
+pub record Good (a : TreeArrays) (text : List ℕ) : Type 0 where
+  pub some : 0 < a.nodes
+  pub few : a.nodes ≤ 159
+  pub each : good_nodes a text a.nodes ≡ true
+
+-- the tree below the last node, and how it is written
+abbrev pub root_tree : TreeArrays → List ℕ → Tree
+root_tree a text = below a text (a.nodes - 1)
+
+abbrev pub root_text : Edition → TreeArrays → List ℕ → List ℕ
+root_text e a text = node_text e a text (a.nodes - 1)
 
 -- t names the leaf with the smallest label, as the edition reads it, below each of the first n nodes
 abbrev pub Leasts : Edition → TreeArrays → List ℕ → List ℕ → ℕ → Type 0

@@ -9,28 +9,28 @@ ghost use Rattle.trees.specs.Tree.{leaves};
 ghost use Rattle.trees.specs.Edition.{in_edition, normal_text_in};
 ghost use Rattle.trees.specs.Arrays.{good_node, good_nodes, tree_of};
 ghost use Rattle.writer.specs.Write.{write_answer, output_after};
-ghost use Rattle.writer.specs.Passes.{arrays_from, pass, weight_at, sum_at, root_sum, goes_first, least_at, first_at, below, node_text, ChildNodes};
+ghost use Rattle.trees.specs.Stored.{shown_bytes};
+ghost use Rattle.trees.specs.Token.{token_limit};
+ghost use Rattle.writer.specs.Passes.{pass, leaf_token, weight_at, sum_at, root_sum, goes_first, least_at, first_at, ChildNodes, Good, root_tree, root_text};
 ghost use Rattle.writer.specs.Passes.{mark_of, own_text, depth_after, stack_after};
 
 use trees::{
-    Body, Edition, LABEL_LIMIT, LEAF_LIMIT, NODE_LIMIT, Reason, Refusal, TOKEN_LIMIT, TreeArrays,
-    byte_entry, narrow, narrow_place, place_entry, wide, wide_place,
+    Body, Edition, LABEL_LIMIT, LEAF_LIMIT, NODE_LIMIT, Reason, Refusal, ShownLabel, TOKEN_LIMIT,
+    TreeArrays, entry, narrow, narrow_place,
 };
 
-// How many bytes were written, or why none was: the output is too short, or the arrays stand for no tree of at most
-// 80 leaves.
+// Why nothing was written: the arrays stand for no tree of at most 80 leaves, or the output is too short.
 #[derive(Clone, Copy)]
-pub enum WriteAnswer {
-    Written(usize),
-    Refused(Refusal),
+pub enum WriteError {
     NoTree,
+    Refused(Refusal),
 }
 
 // An entry of an array of bytes as a byte, 0 past its end.
 fn byte_at(xs: &[u8], i: usize) -> u8
     ensures { result ≡ get_or xs.now i 0 }
 {
-    if i < xs.len() { xs[i] } else { 0 }
+    xs.get(i).copied().unwrap_or(0)
 }
 
 // One of two bytes.
@@ -44,34 +44,18 @@ fn pick(first: bool, a: u8, b: u8) -> u8
 fn capped(a: usize, b: usize, cap: u16) -> u16
     ensures { result ≡ min cap (a + b) }
 {
-    let most = wide_place(cap);
-    if most <= a {
-        return cap;
-    }
-    if most - a <= b {
-        return cap;
-    }
-    narrow_place(a + b)
+    narrow_place(a.saturating_add(b).min(usize::from(cap)))
 }
 
 // Whether node u is a leaf whose label lies in the text and is not too long, or has two children with smaller
 // numbers.
-fn good_node(
-    text: &[u8],
-    nodes: usize,
-    left: &[u8],
-    right: &[u8],
-    start: &[u16],
-    size: &[u8],
-    u: usize,
-) -> bool
-    ensures { result ≡ good_node (arrays_from nodes left.now right.now start.now size.now)
-        text.now u }
+fn good_node(tree: &TreeArrays, text: &[u8], u: usize) -> bool
+    ensures { result ≡ good_node tree.now text.now u }
 {
-    let l = byte_entry(left, u);
+    let l = entry(&tree.left, u);
     if l == u {
-        let n = byte_entry(size, u);
-        let s = place_entry(start, u);
+        let n = entry(&tree.size, u);
+        let s = entry(&tree.start, u);
         if text.len() < n {
             return false;
         }
@@ -80,250 +64,190 @@ fn good_node(
         }
         return trees::spelled_size(trees::part(text, s, n)) <= LABEL_LIMIT;
     }
-    let r = byte_entry(right, u);
+    let r = entry(&tree.right, u);
     if l < u { r < u } else { false }
 }
 
 // Whether every node is good.
-fn good_nodes(
-    text: &[u8],
-    nodes: usize,
-    left: &[u8],
-    right: &[u8],
-    start: &[u16],
-    size: &[u8],
-) -> bool
-    ensures { result ≡ good_nodes (arrays_from nodes left.now right.now start.now size.now)
-        text.now nodes }
+fn good_nodes(tree: &TreeArrays, text: &[u8]) -> bool
+    ensures { result ≡ good_nodes tree.now text.now tree.now.nodes }
 {
-    let mut u: usize = 0;
-    while u < nodes {
-        if !good_node(text, nodes, left, right, start, size, u) {
+    for u in 0..tree.nodes {
+        if !good_node(tree, text, u) {
             return false;
         }
-        u += 1;
     }
     true
 }
 
-// What the leaves below node u weigh together, from the sums of its children; a leaf weighs its entry and `plus`.
-fn sum_at(
-    left: &[u8],
-    right: &[u8],
-    weight: &[u8],
+// What each node weighs if it is a leaf: its entry and `plus`. Arrays that share subtrees can stand for more leaves than a number can count:
+// hence the cap on what leaves weigh together.
+#[derive(Drop)]
+struct Weights {
+    entry: [u8; NODE_LIMIT],
     plus: usize,
     cap: u16,
-    sums: &[u16],
-    u: usize,
-) -> u16
-    ensures { result ≡ sum_at left.now right.now weight.now plus cap sums.now u }
-{
-    let l = byte_entry(left, u);
-    if l == u {
-        return capped(byte_entry(weight, u), plus, cap);
-    }
-    let r = byte_entry(right, u);
-    capped(place_entry(sums, l), place_entry(sums, r), cap)
 }
 
-// What the leaves below each node weigh together, children before parents. Arrays that share subtrees can stand for
-// more leaves than a number can count: hence the cap.
-fn sum_pass(
-    left: &[u8],
-    right: &[u8],
-    weight: &[u8],
-    plus: usize,
-    cap: u16,
-    nodes: usize,
-    sums: &mut [u16],
-)
-    requires { nodes ≤ length sums.old }
-    ensures { sums.new
-        ≡ pass (sum_at left.now right.now weight.now plus cap) sums.old nodes }
+// What the leaves below node u weigh together, from the sums of its children.
+fn sum_at(tree: &TreeArrays, weights: &Weights, sums: &[u16], u: usize) -> u16
+    ensures { result ≡ sum_at tree.now.left tree.now.right weights.now.entry weights.now.plus weights.now.cap sums.now u }
 {
-    let mut u: usize = 0;
-    while u < nodes {
-        sums[u] = sum_at(left, right, weight, plus, cap, sums, u);
-        u += 1;
+    let l = entry(&tree.left, u);
+    if l == u {
+        return capped(entry(&weights.entry, u), weights.plus, weights.cap);
+    }
+    let r = entry(&tree.right, u);
+    capped(entry(sums, l), entry(sums, r), weights.cap)
+}
+
+// What the leaves below each node weigh together, children before parents.
+fn sum_pass(tree: &TreeArrays, weights: &Weights, sums: &mut [u16])
+    requires { tree.now.nodes ≤ length sums.old }
+    ensures { sums.new
+        ≡ pass (sum_at tree.now.left tree.now.right weights.now.entry weights.now.plus weights.now.cap) sums.old tree.now.nodes }
+{
+    for u in 0..tree.nodes {
+        sums[u] = sum_at(tree, weights, sums, u);
     }
 }
 
 // What all leaves below the last node weigh together.
-fn root_sum(left: &[u8], right: &[u8], weight: &[u8], plus: usize, cap: u16, nodes: usize) -> usize
-    requires { (0 < nodes) × (nodes ≤ 159) }
-    ensures { result ≡ root_sum left.now right.now weight.now plus cap nodes }
+fn root_sum(tree: &TreeArrays, weights: &Weights) -> usize
+    requires { (0 < tree.now.nodes) × (tree.now.nodes ≤ 159) }
+    ensures { result ≡ root_sum tree.now.left tree.now.right weights.now.entry weights.now.plus weights.now.cap tree.now.nodes }
 {
-    let mut sums = [0u16; 159];
-    sum_pass(left, right, weight, plus, cap, nodes, &mut sums);
-    place_entry(&sums, nodes - 1)
+    let mut sums = [0u16; NODE_LIMIT];
+    sum_pass(tree, weights, &mut sums);
+    entry(&sums, tree.nodes - 1)
 }
 
-// How many bytes node u writes if it is a leaf; what is written is the label as the text spells it, so by edition 1.
-fn weight_at(text: &[u8], left: &[u8], start: &[u16], size: &[u8], u: usize) -> u8
-    ensures { result ≡ weight_at text.now left.now start.now size.now u }
+// What leaf u writes: its label as the text spells it, so by edition 1.
+fn leaf_token(tree: &TreeArrays, text: &[u8], u: usize) -> ShownLabel
+    ensures token { shown_bytes result ≡ leaf_token text.now tree.now.start tree.now.size u }
+    ensures count { result.len ≡ length (leaf_token text.now tree.now.start tree.now.size u) }
+    ensures short { result.len ≤ token_limit }
 {
-    if byte_entry(left, u) == u {
-        let label = trees::shown(trees::stored_leaf(Edition::One, text, start, size, u));
-        return narrow(label.len);
+    trees::shown(trees::stored_leaf(Edition::One, text, &tree.start, &tree.size, u))
+}
+
+// How many bytes node u writes if it is a leaf.
+fn weight_at(tree: &TreeArrays, text: &[u8], u: usize) -> u8
+    ensures { result ≡ weight_at text.now tree.now.left tree.now.start tree.now.size u }
+{
+    if entry(&tree.left, u) == u {
+        return narrow(leaf_token(tree, text, u).len);
     }
     0
 }
 
 // How many bytes each leaf writes.
-fn weight_pass(
-    text: &[u8],
-    left: &[u8],
-    start: &[u16],
-    size: &[u8],
-    nodes: usize,
-    weight: &mut [u8],
-)
-    requires { nodes ≤ length weight.old }
-    ensures { (u : ℕ) → u < nodes → get_or weight.new u 0
-        ≡ weight_at text.now left.now start.now size.now u }
+fn weight_pass(tree: &TreeArrays, text: &[u8], weight: &mut [u8])
+    requires { tree.now.nodes ≤ length weight.old }
+    ensures { (u : ℕ) → u < tree.now.nodes → get_or weight.new u 0
+        ≡ weight_at text.now tree.now.left tree.now.start tree.now.size u }
 {
-    let mut u: usize = 0;
-    while u < nodes {
-        weight[u] = weight_at(text, left, start, size, u);
-        u += 1;
+    for u in 0..tree.nodes {
+        weight[u] = weight_at(tree, text, u);
     }
 }
 
 // More than the leaves of a tree can weigh, each three bytes more than it writes.
 const WEIGHT_CAP: u16 = (LEAF_LIMIT * (TOKEN_LIMIT + 3) + 1) as u16;
 
+// How many leaves are below the last node, 81 for more than 80.
+fn leaf_count(tree: &TreeArrays, text: &[u8]) -> usize
+    requires { Good tree.now text.now }
+    ensures { result ≡ min 81 (length (leaves (root_tree tree.now text.now))) }
+{
+    let ones = Weights {
+        entry: [0; NODE_LIMIT],
+        plus: 1,
+        cap: 81,
+    };
+    root_sum(tree, &ones)
+}
+
 // How many bytes the text of the last node's tree has, whatever the edition. A leaf counts three bytes more than it writes, for `(`, `,`
 // and `)`: two too many in all, with `;`.
-fn text_size(
-    text: &[u8],
-    nodes: usize,
-    left: &[u8],
-    right: &[u8],
-    start: &[u16],
-    size: &[u8],
-) -> usize
-    requires nodes_nonzero { (0 < nodes) × (nodes ≤ 159) }
-    requires nodes_value { good_nodes (arrays_from nodes left.now right.now start.now size.now) text.now nodes ≡ true }
-    ensures { (e : Edition)
-        → length (leaves (below (arrays_from nodes left.now right.now start.now size.now)
-        text.now (nodes - 1))) ≤ 80
-        → result ≡ length (normal_text_in e (below (arrays_from nodes left.now right.now start.now size.now)
-        text.now (nodes - 1))) }
+fn text_size(tree: &TreeArrays, text: &[u8]) -> usize
+    requires { Good tree.now text.now }
+    ensures { (e : Edition) → length (leaves (root_tree tree.now text.now)) ≤ 80
+        → result ≡ length (normal_text_in e (root_tree tree.now text.now)) }
 {
-    let mut weight = [0u8; 159];
-    weight_pass(text, left, start, size, nodes, &mut weight);
-    root_sum(left, right, &weight, 3, WEIGHT_CAP, nodes) - 2
+    let mut weights = Weights {
+        entry: [0; NODE_LIMIT],
+        plus: 3,
+        cap: WEIGHT_CAP,
+    };
+    weight_pass(tree, text, &mut weights.entry);
+    root_sum(tree, &weights) - 2
 }
 
 // Whether the smallest label below node i is less than the one below node j, as the edition reads them.
-fn goes_first(
-    edition: Edition,
-    text: &[u8],
-    start: &[u16],
-    size: &[u8],
-    least: &[u8],
-    i: u8,
-    j: u8,
-) -> bool
-    ensures { result ≡ goes_first (in_edition edition text.now) start.now size.now least.now i j }
+fn goes_first(edition: Edition, tree: &TreeArrays, text: &[u8], least: &[u8], i: u8, j: u8) -> bool
+    ensures { result ≡ goes_first (in_edition edition text.now) tree.now.start tree.now.size least.now i j }
 {
-    let x = byte_entry(least, wide(i));
-    let y = byte_entry(least, wide(j));
-    let a = trees::leaf_label(text, start, size, x);
-    let b = trees::leaf_label(text, start, size, y);
+    let x = entry(least, usize::from(i));
+    let y = entry(least, usize::from(j));
+    let a = trees::leaf_label(text, &tree.start, &tree.size, x);
+    let b = trees::leaf_label(text, &tree.start, &tree.size, y);
     trees::comes_before(edition, a, b)
 }
 
 // The leaf with the edition's smallest label below node u, from those of its children.
-fn least_at(
-    edition: Edition,
-    text: &[u8],
-    left: &[u8],
-    right: &[u8],
-    start: &[u16],
-    size: &[u8],
-    least: &[u8],
-    u: usize,
-) -> u8
-    ensures { result ≡ least_at (in_edition edition text.now) left.now right.now start.now size.now
+fn least_at(edition: Edition, tree: &TreeArrays, text: &[u8], least: &[u8], u: usize) -> u8
+    ensures { result ≡ least_at (in_edition edition text.now) tree.now.left tree.now.right tree.now.start tree.now.size
         least.now u }
 {
-    let l = byte_at(left, u);
-    if wide(l) == u {
+    let l = byte_at(&tree.left, u);
+    if usize::from(l) == u {
         return l;
     }
-    let r = byte_at(right, u);
-    let first = goes_first(edition, text, start, size, least, l, r);
-    pick(first, byte_at(least, wide(l)), byte_at(least, wide(r)))
+    let r = byte_at(&tree.right, u);
+    let first = goes_first(edition, tree, text, least, l, r);
+    pick(
+        first,
+        byte_at(least, usize::from(l)),
+        byte_at(least, usize::from(r)),
+    )
 }
 
 // The leaf with the smallest label below each node.
-fn least_pass(
-    edition: Edition,
-    text: &[u8],
-    left: &[u8],
-    right: &[u8],
-    start: &[u16],
-    size: &[u8],
-    nodes: usize,
-    least: &mut [u8],
-)
-    requires { nodes ≤ length least.old }
+fn least_pass(edition: Edition, tree: &TreeArrays, text: &[u8], least: &mut [u8])
+    requires { tree.now.nodes ≤ length least.old }
     ensures { least.new
-        ≡ pass (least_at (in_edition edition text.now) left.now right.now start.now size.now)
-        least.old nodes }
+        ≡ pass (least_at (in_edition edition text.now) tree.now.left tree.now.right tree.now.start tree.now.size)
+        least.old tree.now.nodes }
 {
-    let mut u: usize = 0;
-    while u < nodes {
-        least[u] = least_at(edition, text, left, right, start, size, least, u);
-        u += 1;
+    for u in 0..tree.nodes {
+        least[u] = least_at(edition, tree, text, least, u);
     }
 }
 
 // The child of node u that is written first by the edition, u itself where it is a leaf.
-fn first_at(
-    edition: Edition,
-    text: &[u8],
-    left: &[u8],
-    right: &[u8],
-    start: &[u16],
-    size: &[u8],
-    least: &[u8],
-    u: usize,
-) -> u8
-    ensures { result ≡ first_at (in_edition edition text.now) left.now right.now start.now size.now
+fn first_at(edition: Edition, tree: &TreeArrays, text: &[u8], least: &[u8], u: usize) -> u8
+    ensures { result ≡ first_at (in_edition edition text.now) tree.now.left tree.now.right tree.now.start tree.now.size
         least.now u }
 {
-    let l = byte_at(left, u);
-    if wide(l) == u {
+    let l = byte_at(&tree.left, u);
+    if usize::from(l) == u {
         return l;
     }
-    let r = byte_at(right, u);
-    let first = goes_first(edition, text, start, size, least, l, r);
+    let r = byte_at(&tree.right, u);
+    let first = goes_first(edition, tree, text, least, l, r);
     pick(first, l, r)
 }
 
 // The child of each node that is written first.
-fn first_pass(
-    edition: Edition,
-    text: &[u8],
-    left: &[u8],
-    right: &[u8],
-    start: &[u16],
-    size: &[u8],
-    least: &[u8],
-    nodes: usize,
-    first: &mut [u8],
-)
-    requires { nodes ≤ length first.old }
-    ensures { (u : ℕ) → u < nodes → get_or first.new u 0
-        ≡ first_at (in_edition edition text.now) left.now right.now start.now size.now
+fn first_pass(edition: Edition, tree: &TreeArrays, text: &[u8], least: &[u8], first: &mut [u8])
+    requires { tree.now.nodes ≤ length first.old }
+    ensures { (u : ℕ) → u < tree.now.nodes → get_or first.new u 0
+        ≡ first_at (in_edition edition text.now) tree.now.left tree.now.right tree.now.start tree.now.size
         least.now u }
 {
-    let mut u: usize = 0;
-    while u < nodes {
-        first[u] = first_at(edition, text, left, right, start, size, least, u);
-        u += 1;
+    for u in 0..tree.nodes {
+        first[u] = first_at(edition, tree, text, least, u);
     }
 }
 
@@ -333,12 +257,9 @@ fn put_bytes(x: &[u8], out: &mut [u8], at: usize) -> usize
     ensures next { result ≡ at + length x.now }
     ensures stored { out.new ≡ sets out.old at x.now }
 {
-    let mut i: usize = 0;
-    while i < x.len() {
-        out[at + i] = x[i];
-        i += 1;
-    }
-    at + i
+    let end = at + x.len();
+    out[at..end].copy_from_slice(x);
+    end
 }
 
 // What stands on the stack of things to write: a node by its number, or one of these.
@@ -350,52 +271,50 @@ const CLOSE: u8 = 160;
 fn mark(k: usize) -> u8
     ensures { result ≡ mark_of k }
 {
-    if k == wide(COMMA) { b',' } else { b')' }
+    if k == usize::from(COMMA) { b',' } else { b')' }
 }
 
 // Stores what thing k writes itself: its byte, a leaf's label, an inner node's `(`. Says where the next byte goes.
 fn put_own(
+    tree: &TreeArrays,
     text: &[u8],
-    start: &[u16],
-    size: &[u8],
     first: &[u8],
     k: usize,
     out: &mut [u8],
     at: usize,
 ) -> usize
-    requires { at + length (own_text text.now start.now size.now first.now k) ≤ length out.old }
-    ensures next { result ≡ at + length (own_text text.now start.now size.now first.now k) }
+    requires { at + length (own_text text.now tree.now.start tree.now.size first.now k) ≤ length out.old }
+    ensures next { result ≡ at + length (own_text text.now tree.now.start tree.now.size first.now k) }
     ensures stored { out.new ≡ sets out.old at
-        (own_text text.now start.now size.now first.now k) }
+        (own_text text.now tree.now.start tree.now.size first.now k) }
 {
     if NODE_LIMIT <= k {
         out[at] = mark(k);
         return at + 1;
     }
-    if byte_entry(first, k) == k {
-        let label = trees::shown(trees::stored_leaf(Edition::One, text, start, size, k));
-        let bytes = label.bytes;
-        return put_bytes(trees::first_bytes(&bytes, label.len), out, at);
+    if entry(first, k) == k {
+        let label = leaf_token(tree, text, k);
+        return put_bytes(label.as_slice(), out, at);
     }
     out[at] = b'(';
     at + 1
 }
 
 // Puts what is to be written after an inner node's `(` onto the stack, the first last, and says how much is there then.
-fn push(left: &[u8], right: &[u8], first: &[u8], k: usize, stack: &mut [u8], depth: usize) -> usize
+fn push(tree: &TreeArrays, first: &[u8], k: usize, stack: &mut [u8], depth: usize) -> usize
     requires { depth + 4 ≤ length stack.old }
     ensures depth { result ≡ depth_after first.now k depth }
-    ensures stored { stack.new ≡ stack_after left.now right.now first.now k stack.old depth }
+    ensures stored { stack.new ≡ stack_after tree.now.left tree.now.right first.now k stack.old depth }
 {
     if NODE_LIMIT <= k {
         return depth;
     }
     let f = byte_at(first, k);
-    if wide(f) == k {
+    if usize::from(f) == k {
         return depth;
     }
-    let l = byte_at(left, k);
-    let r = byte_at(right, k);
+    let l = byte_at(&tree.left, k);
+    let r = byte_at(&tree.right, k);
     let other = pick(f == l, r, l);
     stack[depth] = CLOSE;
     stack[depth + 1] = other;
@@ -407,106 +326,79 @@ fn push(left: &[u8], right: &[u8], first: &[u8], k: usize, stack: &mut [u8], dep
 // Writes the tree of the last node, and says where the next byte goes. The edition stands in the contract alone: `first` tells its order.
 // What is left to write stands on a stack: a tree of 80 leaves takes 4 * 80 - 3 steps, and no step leaves more than there are steps to
 // come.
-fn put_tree(
-    edition: Edition,
-    text: &[u8],
-    nodes: usize,
-    left: &[u8],
-    right: &[u8],
-    start: &[u16],
-    size: &[u8],
-    first: &[u8],
-    out: &mut [u8],
-) -> usize
-    requires nodes_nonzero { (0 < nodes) × (nodes ≤ 159) }
-    requires child_nodes { ChildNodes edition (arrays_from nodes left.now right.now start.now size.now) text.now first.now nodes }
-    requires nodes_len_bound { length (leaves (below (arrays_from nodes left.now right.now start.now size.now) text.now (nodes - 1))) ≤ 80 }
-    requires nodes_in_bounds { length (node_text edition (arrays_from nodes left.now right.now start.now size.now) text.now (nodes - 1))
-        ≤ length out.old }
-    ensures next { result ≡ 0 + length (node_text edition (arrays_from nodes left.now right.now start.now size.now)
-        text.now (nodes - 1)) }
-    ensures stored { out.new ≡ sets out.old 0
-        (node_text edition (arrays_from nodes left.now right.now start.now size.now)
-        text.now (nodes - 1)) }
+fn put_tree(edition: Edition, tree: &TreeArrays, text: &[u8], first: &[u8], out: &mut [u8]) -> usize
+    requires good { Good tree.now text.now }
+    requires child_nodes { ChildNodes edition tree.now text.now first.now tree.now.nodes }
+    requires few_leaves { length (leaves (root_tree tree.now text.now)) ≤ 80 }
+    requires room { length (root_text edition tree.now text.now) ≤ length out.old }
+    ensures next { result ≡ 0 + length (root_text edition tree.now text.now) }
+    ensures stored { out.new ≡ sets out.old 0 (root_text edition tree.now text.now) }
 {
     let mut stack = [0u8; 320];
-    stack[0] = narrow(nodes - 1);
+    stack[0] = narrow(tree.nodes - 1);
     let mut depth: usize = 1;
     let mut at: usize = 0;
     while 0 < depth {
         depth -= 1;
-        let k = wide(stack[depth]);
-        at = put_own(text, start, size, first, k, out, at);
-        depth = push(left, right, first, k, &mut stack, depth);
+        let k = usize::from(stack[depth]);
+        at = put_own(tree, text, first, k, out, at);
+        depth = push(tree, first, k, &mut stack, depth);
     }
     at
 }
 
-// Writes the tree of good arrays that have a node.
+// Writes the tree of good arrays.
 fn write_nodes(
     edition: Edition,
+    tree: &TreeArrays,
     text: &[u8],
-    nodes: usize,
-    left: &[u8],
-    right: &[u8],
-    start: &[u16],
-    size: &[u8],
     out: &mut [u8],
-) -> WriteAnswer
-    requires nodes_nonzero { (0 < nodes) × (nodes ≤ 159) }
-    requires nodes_value { good_nodes (arrays_from nodes left.now right.now start.now size.now) text.now nodes ≡ true }
-    ensures answer { result ≡ write_answer edition
-        (tree_of (arrays_from nodes left.now right.now start.now size.now)
-        text.now)
-        (length out.old) }
-    ensures output { out.new ≡ output_after edition
-        (tree_of (arrays_from nodes left.now right.now start.now size.now)
-        text.now)
-        out.old }
+) -> Result<usize, WriteError>
+    requires { Good tree.now text.now }
+    ensures answer { result ≡ write_answer edition (tree_of tree.now text.now) (length out.old) }
+    ensures output { out.new ≡ output_after edition (tree_of tree.now text.now) out.old }
 {
-    let none = [0u8; 159];
-    if 80 < root_sum(left, right, &none, 1, 81, nodes) {
-        return WriteAnswer::NoTree;
+    if 80 < leaf_count(tree, text) {
+        return Err(WriteError::NoTree);
     }
-    let bytes = text_size(text, nodes, left, right, start, size);
+    let bytes = text_size(tree, text);
     if out.len() < bytes {
-        return WriteAnswer::Refused(Refusal {
+        return Err(WriteError::Refused(Refusal {
             reason: Reason::TooShort,
             body: Body::O,
             place: 0,
-        });
+        }));
     }
-    let mut least = [0u8; 159];
-    least_pass(edition, text, left, right, start, size, nodes, &mut least);
-    let mut first = [0u8; 159];
-    first_pass(
-        edition, text, left, right, start, size, &least, nodes, &mut first,
-    );
-    let end = put_tree(edition, text, nodes, left, right, start, size, &first, out);
+    let mut least = [0u8; NODE_LIMIT];
+    least_pass(edition, tree, text, &mut least);
+    let mut first = [0u8; NODE_LIMIT];
+    first_pass(edition, tree, text, &least, &mut first);
+    let end = put_tree(edition, tree, text, &first, out);
     out[end] = b';';
-    WriteAnswer::Written(end + 1)
+    Ok(end + 1)
 }
 
-// Writes the normal text of the tree that the arrays stand for over the text into `out`. The edition orders the children; each label has
-// the one form by which it is written, however it stands in the text, and keeps the case of its letters. On any answer but `Written` the
-// output keeps every byte, and so do its bytes past the text.
-pub fn write_tree(edition: Edition, tree: TreeArrays, text: &[u8], out: &mut [u8]) -> WriteAnswer
+// Writes the normal text of the tree that the arrays stand for over the text into `out`, and says how many bytes that are. The edition orders
+// the children; each label has the one form by which it is written, however it stands in the text, and keeps the case of its letters. On an
+// error the output keeps every byte, and on success its bytes past the text.
+pub fn write_tree(
+    edition: Edition,
+    tree: TreeArrays,
+    text: &[u8],
+    out: &mut [u8],
+) -> Result<usize, WriteError>
     ensures answer { result ≡ write_answer edition (tree_of tree text.now) (length out.old) }
     ensures output { out.new ≡ output_after edition (tree_of tree text.now) out.old }
 {
     let nodes = tree.nodes;
     if nodes == 0 {
-        return WriteAnswer::Written(0);
+        return Ok(0);
     }
-    if 159 < nodes {
-        return WriteAnswer::NoTree;
+    if NODE_LIMIT < nodes {
+        return Err(WriteError::NoTree);
     }
-    let left = tree.left;
-    let right = tree.right;
-    let start = tree.start;
-    let size = tree.size;
-    if !good_nodes(text, nodes, &left, &right, &start, &size) {
-        return WriteAnswer::NoTree;
+    if !good_nodes(&tree, text) {
+        return Err(WriteError::NoTree);
     }
-    write_nodes(edition, text, nodes, &left, &right, &start, &size, out)
+    write_nodes(edition, &tree, text, out)
 }

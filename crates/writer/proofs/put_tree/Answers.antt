@@ -5,15 +5,15 @@ use Prim.Native.Nat.{ℕ, ◌-◌}
 use mathlib.Core.Path.{◌≡◌, ◌∙◌, subst}
 use native.Mathlib.Omega.{arith}
 use Rattle.trees.proofs.EntryLaws.{fits_byte}
-use Rattle.writer.specs.Passes.{arrays_from, node_text}
+use Rattle.writer.specs.Passes.{node_text}
 use Rattle.writer.proofs.StackLaws.{Writing, depth_few, writing_start, has_room, own_fits, writing_next, fewer_steps, writing_end}
 use Rattle.writer.proofs.put_tree.Goals as goal
 
 pub loop-depth-init : goal.loop-depth-init
 loop-depth-init c =
     let a = c.args in λ e children.
-    writing_start e ((arrays_from c.args.nodes c.args.left.now c.args.right.now c.args.start.now c.args.size.now)) a.text.now a.nodes c.requires.nodes_nonzero.1 a.out.now (a.nodes - 1) (omega arith) c.requires.nodes_len_bound
-    c.narrow.result (c.narrow.ensures ∙ fits_byte (a.nodes - 1) (omega arith))
+    writing_start e c.args.tree.now a.text.now a.tree.now.nodes c.requires.good.few a.out.now (a.tree.now.nodes - 1) (omega arith) c.requires.few_leaves
+    c.narrow.result (c.narrow.ensures ∙ fits_byte (a.tree.now.nodes - 1) (omega arith))
 
 pub bounds-stack-depth : goal.bounds-stack-depth
 bounds-stack-depth c =
@@ -21,24 +21,24 @@ bounds-stack-depth c =
 
 pub put_own-at-requires : goal.put_own-at-requires
 put_own-at-requires c =
-    let k = c.wide-k in let l = c.loop-depth in let a = c.args in own_fits a.edition ((arrays_from c.args.nodes c.args.left.now c.args.right.now c.args.start.now c.args.size.now)) a.text.now a.nodes c.requires.nodes_nonzero.1 a.out.now a.first.now c.requires.child_nodes
-    _ _ _ _ _ (l.depth - 1) (omega arith) (l.invariant a.edition c.requires.child_nodes) k.result k.ensures c.requires.nodes_in_bounds
+    let k = c.from-k in let l = c.loop-depth in let a = c.args in own_fits a.edition c.args.tree.now a.text.now a.tree.now.nodes c.requires.good.few a.out.now a.first.now c.requires.child_nodes
+    _ _ _ _ _ (l.depth - 1) (omega arith) (l.invariant a.edition c.requires.child_nodes) k.result k.ensures c.requires.room
 
 pub push-depth-requires : goal.push-depth-requires
 push-depth-requires c =
-    let a = c.args in has_room a.edition ((arrays_from c.args.nodes c.args.left.now c.args.right.now c.args.start.now c.args.size.now)) a.text.now a.nodes c.requires.nodes_nonzero.1 a.out.now a.first.now c.requires.child_nodes
+    let a = c.args in has_room a.edition c.args.tree.now a.text.now a.tree.now.nodes c.requires.good.few a.out.now a.first.now c.requires.child_nodes
     _ _ _ _ _ (c.loop-depth.depth - 1) (omega arith) (c.loop-depth.invariant a.edition c.requires.child_nodes)
 
 pub loop-depth-smaller : goal.loop-depth-smaller
 loop-depth-smaller c =
-    let k = c.wide-k in let l = c.loop-depth in let a = c.args in fewer_steps a.edition ((arrays_from c.args.nodes c.args.left.now c.args.right.now c.args.start.now c.args.size.now)) a.text.now a.nodes c.requires.nodes_nonzero.1 a.out.now a.first.now c.requires.child_nodes
+    let k = c.from-k in let l = c.loop-depth in let a = c.args in fewer_steps a.edition c.args.tree.now a.text.now a.tree.now.nodes c.requires.good.few a.out.now a.first.now c.requires.child_nodes
     _ _ _ _ _ (l.depth - 1) (omega arith) (l.invariant a.edition c.requires.child_nodes) k.result k.ensures
     c.put_own-at.new.out _ _ c.put_own-at.result c.push-depth.ensures.stored c.push-depth.ensures.depth
 
 pub loop-depth-preserved : goal.loop-depth-preserved
 loop-depth-preserved c =
-    let k = c.wide-k in let l = c.loop-depth in let a = c.args in λ e children.
-    writing_next e ((arrays_from c.args.nodes c.args.left.now c.args.right.now c.args.start.now c.args.size.now)) a.text.now a.nodes c.requires.nodes_nonzero.1 a.out.now a.first.now children
+    let k = c.from-k in let l = c.loop-depth in let a = c.args in λ e children.
+    writing_next e c.args.tree.now a.text.now a.tree.now.nodes c.requires.good.few a.out.now a.first.now children
     _ _ _ _ _ (l.depth - 1) (omega arith) (l.invariant e children) k.result k.ensures
     c.put_own-at.new.out _ _ c.put_own-at.result c.push-depth.ensures.stored c.push-depth.ensures.depth
     c.put_own-at.ensures.next c.put_own-at.ensures.stored c.put_own-at.auto.out
@@ -46,15 +46,15 @@ loop-depth-preserved c =
 pub returns-clause-next : goal.returns-clause-next
 returns-clause-next c =
     let a = c.args in let l = c.loop-depth in let z : l.depth ≡ 0 = omega arith in
-    (writing_end a.edition ((arrays_from c.args.nodes c.args.left.now c.args.right.now c.args.start.now c.args.size.now)) a.text.now a.nodes c.requires.nodes_nonzero.1 a.out.now _ l.out l.stack l.at
+    (writing_end a.edition c.args.tree.now a.text.now a.tree.now.nodes c.requires.good.few a.out.now _ l.out l.stack l.at
     (subst
-    (λ (d : ℕ). Writing a.edition ((arrays_from c.args.nodes c.args.left.now c.args.right.now c.args.start.now c.args.size.now)) a.text.now a.nodes (node_text a.edition ((arrays_from c.args.nodes c.args.left.now c.args.right.now c.args.start.now c.args.size.now)) a.text.now (a.nodes - 1))
+    (λ (d : ℕ). Writing a.edition c.args.tree.now a.text.now a.tree.now.nodes (node_text a.edition c.args.tree.now a.text.now (a.tree.now.nodes - 1))
     a.out.now l.out l.stack d l.at) z (l.invariant a.edition c.requires.child_nodes))).0
 
 pub returns-clause-stored : goal.returns-clause-stored
 returns-clause-stored c =
     let a = c.args in let l = c.loop-depth in let z : l.depth ≡ 0 = omega arith in
-    (writing_end a.edition ((arrays_from c.args.nodes c.args.left.now c.args.right.now c.args.start.now c.args.size.now)) a.text.now a.nodes c.requires.nodes_nonzero.1 a.out.now _ l.out l.stack l.at
+    (writing_end a.edition c.args.tree.now a.text.now a.tree.now.nodes c.requires.good.few a.out.now _ l.out l.stack l.at
     (subst
-    (λ (d : ℕ). Writing a.edition ((arrays_from c.args.nodes c.args.left.now c.args.right.now c.args.start.now c.args.size.now)) a.text.now a.nodes (node_text a.edition ((arrays_from c.args.nodes c.args.left.now c.args.right.now c.args.start.now c.args.size.now)) a.text.now (a.nodes - 1))
+    (λ (d : ℕ). Writing a.edition c.args.tree.now a.text.now a.tree.now.nodes (node_text a.edition c.args.tree.now a.text.now (a.tree.now.nodes - 1))
     a.out.now l.out l.stack d l.at) z (l.invariant a.edition c.requires.child_nodes))).1

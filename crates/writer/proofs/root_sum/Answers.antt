@@ -1,5 +1,5 @@
 -- `writer::root_sum` meets its contract. Assumes nothing.
-use mathlib.Core.Path.{◌∙◌, ap}
+use mathlib.Core.Path.{refl, ◌∙◌, ap}
 use mathlib.Core.List.{List}
 use Prim.Native.Nat.{ℕ, ◌-◌}
 use lib.ListN.{get_or}
@@ -9,6 +9,6 @@ use Rattle.writer.proofs.root_sum.Goals as goal
 pub returns : goal.returns
 unfolding root_sum
 returns c =
-    c.place_entry.ensures
-    ∙ ap (λ (s : List ℕ). get_or s (c.args.nodes - 1) 0)
+    (c.entry.ensures 0 refl)
+    ∙ ap (λ (s : List ℕ). get_or s (c.args.tree.now.nodes - 1) 0)
     c.sum_pass.ensures

@@ -1,12 +1,11 @@
 -- `writer::text_size` meets its contract: the root's sum of the weights. Assumes nothing.
-use Rattle.writer.specs.Passes.{arrays_from}
 use Rattle.writer.proofs.WriteLaws.{found_length}
 use Rattle.writer.proofs.text_size.Goals as goal
 
 pub overflow_sub-result : goal.overflow_sub-result
-overflow_sub-result c = ((found_length ((arrays_from c.args.nodes c.args.left.now c.args.right.now c.args.start.now c.args.size.now)) c.args.text.now c.requires.nodes_nonzero.0 c.requires.nodes_nonzero.1 c.requires.nodes_value _ c.weight_pass.ensures
-    c.root_sum.result c.root_sum.ensures)).some
+overflow_sub-result c =
+    (found_length c.args.tree.now c.args.text.now c.requires _ c.weight_pass.ensures c.root_sum.result c.root_sum.ensures).some
 
 pub returns : goal.returns
-returns c = ((found_length ((arrays_from c.args.nodes c.args.left.now c.args.right.now c.args.start.now c.args.size.now)) c.args.text.now c.requires.nodes_nonzero.0 c.requires.nodes_nonzero.1 c.requires.nodes_value _ c.weight_pass.ensures
-    c.root_sum.result c.root_sum.ensures)).exact
+returns c =
+    (found_length c.args.tree.now c.args.text.now c.requires _ c.weight_pass.ensures c.root_sum.result c.root_sum.ensures).exact

@@ -1,13 +1,9 @@
 -- `writer::weight_pass` meets its contract. The invariant: each node passed has its weight. Assumes nothing.
-use Prim.Native.Nat.{ℕ, ◌-◌, ◌≤◌, ◌<◌}
+use Prim.Native.Nat.{ℕ, ◌<◌}
 use mathlib.Core.Path.{◌≡◌}
-use lib.ListN.{length, get_or}
+use lib.ListN.{get_or}
 use Rattle.writer.specs.Passes.{weight_at}
 use Rattle.writer.proofs.weight_pass.Given as goal
 
 abbrev pub invariant-loop-u : goal.invariant-loop-u
-invariant-loop-u l = (l.u ≤ l.nodes) × (length l.weight ≡ length l.initial.weight)
-    × ((k : ℕ) → k < l.u → get_or l.weight k 0 ≡ weight_at l.text l.left l.start l.size k)
-
-abbrev pub decreases-loop-u : goal.decreases-loop-u
-decreases-loop-u l = l.nodes - l.u
+invariant-loop-u l = (k : ℕ) → k < l.u → get_or l.weight k 0 ≡ weight_at l.text l.tree.left l.tree.start l.tree.size k

@@ -2,11 +2,10 @@
 use mathlib.Core.Path.{sym, ◌∙◌, ap}
 use Rattle.trees.specs.Edition.{folded, keyed}
 use Rattle.trees.proofs.EditionLaws.{valid_folded, arrays_folded}
-use Rattle.mast.proofs.SolutionLaws.{placed_result, ranked_proper, restricted_text, not_written, set_written, set_refused, set_output}
+use Rattle.mast.proofs.SolutionLaws.{placed_result, ranked_proper, restricted_text, set_written, set_refused, set_output}
 use Rattle.trees.specs.Arrays.{tree_of}
 use Rattle.table.specs.Choice.{chosen_from}
 use Rattle.mast.specs.Largest.{solution}
-use borrow.Enum.Refused.{opened}
 use Rattle.mast.proofs.finish.solution.Goals as goal
 
 pub returns-in_default : goal.returns-in_default
@@ -18,7 +17,7 @@ returns-in_default c =
           ∙ set_refused (solution a.edition s t xs (chosen_from a.chosen.now 0 C)) (tree_of c.restrict_tree.result a.text.now) a.out.now
           (restricted_text k t xs _ _ (c.kept_leaves-kept.ensures (keyed a.edition s) C (ranked_proper k) k.count k.numbered) _
           c.restrict_tree.ensures.tree)
-          (λ n e. not_written c.write_tree-written.result (opened c.in_default.in_default-own.keys2) n (c.write_tree-written.ensures.answer ∙ e));
+          _ (sym c.write_tree-written.ensures.answer ∙ c.in_default.is);
       output = λ s t xs C k.
           c.write_tree-written.ensures.output
           ∙ set_output (solution a.edition s t xs (chosen_from a.chosen.now 0 C)) (tree_of c.restrict_tree.result a.text.now) a.out.now
@@ -37,7 +36,7 @@ returns-clause-answer c =
     ∙ set_written (solution a.edition s t xs (chosen_from a.chosen.now 0 C)) (tree_of c.restrict_tree.result a.text.now) a.out.now
     (restricted_text k t xs _ _ (c.kept_leaves-kept.ensures (keyed a.edition s) C (ranked_proper k) k.count k.numbered) _
     c.restrict_tree.ensures.tree)
-    _ (sym c.write_tree-written.ensures.answer ∙ c.in-Written.is)
+    _ (sym c.write_tree-written.ensures.answer ∙ c.in-Ok.is)
 
 pub returns-clause-output : goal.returns-clause-output
 returns-clause-output c =
