@@ -1,5 +1,5 @@
 -- The leaf of tree arrays that has a label.
-use Rattle.std.specs.Prelude.{ℕ, zero, suc, ◌<◌, min, ◌≡◌, Bool, true, cond, ◌&&◌, List, eqb, get_or}
+use Rattle.std.specs.Prelude.{ℕ, zero, suc, ◌<◌, min, ◌≡◌, Bool, true, cond, ◌&&◌, List, eqb, ltb, get_or, Option, Some, None}
 use Rattle.trees.specs.Label.{Label, same_label}
 use Rattle.trees.specs.Token.{spelling}
 use Rattle.trees.specs.Tree.{Tree}
@@ -23,7 +23,12 @@ unfoldable pub found_leaf : List ℕ → List ℕ → List ℕ → List ℕ → 
 unfolding labelled leaf_from
 found_leaf text left start size x nodes = leaf_from (labelled text left start size x) (min nodes node_limit) 0
 
--- what `find_leaf` finds in the arrays of a tree over its text
+-- the same as an option: none where the search ends past the nodes
+unfoldable pub leaf_found : List ℕ → List ℕ → List ℕ → List ℕ → Label → ℕ → Option ℕ
+leaf_found text left start size x nodes =
+    cond (ltb (found_leaf text left start size x nodes) (min nodes node_limit)) (Some (found_leaf text left start size x nodes)) None
+
+-- where the search ends in the arrays of a tree over its text
 abbrev pub found_in : Edition → Tree → Label → ℕ
 found_in e t x = found_leaf (in_edition e (text_of t)) (arrays_of t).left (arrays_of t).start (arrays_of t).size x (nodes_of t)
 

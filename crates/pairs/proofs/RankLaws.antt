@@ -12,6 +12,8 @@ use lib.Dec.{eqb}
 use lib.ListN.{length, get_or, set, drop, replicate, length-set, length-replicate, get_or-replicate, drop_of_length-le}
 use lib.Seq.{drop-cons, get_or-set_same, get_or-set_other}
 use borrow.Author.Tests.{eq-eqb, ne_eqb, eqb-true, eqb-false}
+use Rattle.std.proofs.Common.{Option, Some, None}
+use Rattle.std.specs.Option.{unwrap_or}
 use Rattle.trees.specs.Label.{Label, label_limit, label_less, is_in, distinct}
 use Rattle.trees.specs.Token.{spelling, good_label, good_labels}
 use Rattle.trees.specs.Tree.{Tree, leaf, node, leaves, decoded, Valid, Proper}
@@ -20,7 +22,7 @@ use Rattle.trees.specs.Stored.{part_of, stored_bytes, stored_of}
 use Rattle.trees.specs.Postorder.{postorder, subtree, leaf_labels}
 use Rattle.trees.proofs.EntryLaws.{below_next, store_next}
 use Rattle.trees.proofs.Bools.{bool_cases, clash, refute}
-use Rattle.trees.proofs.ArrayLaws.{nodes_leaves}
+use Rattle.trees.proofs.ArrayLaws.{nodes_leaves, few_nodes}
 use Rattle.trees.proofs.DecodedLaws.{decoded_nodes, decoded_left, token_of_leaf}
 use Rattle.trees.proofs.TokenLaws.{valid_decoded, good_spelling}
 use Rattle.trees.proofs.LabelLaws.{less_ne, less_trans}
@@ -31,7 +33,8 @@ use Rattle.agreement.specs.Closer.{holds}
 use Rattle.agreement.specs.Sets.{increasing, insert, sorted, keep, common}
 use Rattle.agreement.proofs.SetLaws.{in_nil, in_cases, inc_head, inc_tail, length_sorted, length_insert, sorted_inc, common_inc, in_common, within_few, common_short}
 use Rattle.agreement.proofs.KeepLaws.{distinct_keep}
-use Rattle.leaves.specs.Find.{found_leaf}
+use Rattle.leaves.specs.Find.{found_leaf, leaf_found}
+use Rattle.leaves.proofs.FindLaws.{some_found, none_found}
 use Rattle.leaves.proofs.OwnLaws.{own_leaf, own_inner, own_spelling, own_found, found, missing}
 use Rattle.leaves.specs.Numbered.{LeafIs, Numbered}
 use Rattle.pairs.specs.OwnLeaves.{OwnLeaves, Ordered}
@@ -49,6 +52,9 @@ module _ {t : Tree} {text left start size : List ℕ} {nodes : ℕ} (o : OwnLeav
 
   pub own_nodes : nodes ≡ nodes_of (decoded t)
   own_nodes = o.nodes_is ∙ sym (decoded_nodes t)
+
+  pub own_few : nodes ≤ node_limit
+  own_few = omega (arith, o.nodes_is, few_nodes t o.valid)
 
   pub own_left : left ≡ (arrays_of (decoded t)).left
   own_left = o.left_is ∙ sym (decoded_left t)
@@ -193,11 +199,24 @@ module _ {t : Tree} {text left start size : List ℕ} {nodes : ℕ} (o : OwnLeav
   pub partner_empty : x ≡ [] → PartnerIs (decoded t) x 159
   partner_empty e = record { held = λ h. clash (rw e at h) (no_empty t o.valid); lacked = λ h. refl }
 
-  pub partner_missing : v ≡ found_leaf text left start size x nodes → v ≡ nodes → PartnerIs (decoded t) x 159
-  partner_missing e n = record { held = λ h. absurd (omega (arith, (search_found o x h).below, own_nodes o)); lacked = λ h. refl }
-
-  pub partner_found : v ≡ found_leaf text left start size x nodes → (v ≡ nodes → ⊥) → PartnerIs (decoded t) x v
-  partner_found e n = record { held = λ h. rw e (search_found o x h); lacked = λ h. absurd (n (e ∙ search_missing o x h)) }
+  pub partner_told : v ≡ unwrap_or (leaf_found text left start size x nodes) 159 → PartnerIs (decoded t) x v
+  partner_told e = go (leaf_found text left start size x nodes) refl
+    where
+      go : (r : Option ℕ) → leaf_found text left start size x nodes ≡ r → PartnerIs (decoded t) x v
+      go (Some u) k =
+          let s = some_found text left start size x nodes u k in
+          let v_is : v ≡ u = e ∙ ap (λ (o : Option ℕ). unwrap_or o 159) k in
+          record {
+            held = λ h. rw (v_is, s.0) (search_found o x h);
+            lacked = λ h. absurd (omega (arith, s.0, s.1, search_missing o x h));
+          }
+      go None k =
+          let n = none_found text left start size x nodes k in
+          let v_is : v ≡ 159 = e ∙ ap (λ (o : Option ℕ). unwrap_or o 159) k in
+          record {
+            held = λ h. absurd (omega (arith, n, (search_found o x h).below, own_nodes o, own_few o));
+            lacked = λ h. v_is;
+          }
 
 pub partners_none : (s t : Tree) (partner : List ℕ) → Partners 0 s t partner
 partners_none s t partner = record { each = λ u h. absurd (omega arith) }

@@ -18,23 +18,14 @@ use trees::{Edition, LEAF_LIMIT, NODE_LIMIT, StoredLabel, TreeArrays, wide};
 pub(crate) const NONE: usize = NODE_LIMIT;
 
 // The number of the leaf with the label that a token stands for, or NONE; an inner node's token has no bytes and is not looked for.
-fn look_up(
-    edition: Edition,
-    text: &[u8],
-    left: &[u8; NODE_LIMIT],
-    start: &[u16; NODE_LIMIT],
-    size: &[u8; NODE_LIMIT],
-    nodes: usize,
-    token: &[u8],
-) -> usize
-    ensures { (t : Tree) → OwnLeaves t (in_edition edition text.now) left.now start.now size.now nodes
+fn look_up(edition: Edition, text: &[u8], tree: &TreeArrays, token: &[u8]) -> usize
+    ensures { (t : Tree) → OwnLeaves t (in_edition edition text.now) tree.now.left tree.now.start tree.now.size tree.now.nodes
         → PartnerIs (decoded t) (key edition token.now) result }
 {
     if trees::spelled_size(token) == 0 {
         return NONE;
     }
-    let v = leaves::find_leaf(edition, text, left, start, size, nodes, token);
-    if v == nodes { NONE } else { v }
+    leaves::find_leaf(edition, text, tree, token).unwrap_or(NONE)
 }
 
 // For each leaf of the first tree the second tree's leaf with the same label.
@@ -51,16 +42,11 @@ pub(crate) fn partners(
         → OwnLeaves t (in_edition edition second.now) tree2.left tree2.start tree2.size tree2.nodes
         → Partners tree1.nodes (decoded s) (decoded t) result }
 {
-    let start1 = tree1.start;
-    let size1 = tree1.size;
-    let left2 = tree2.left;
-    let start2 = tree2.start;
-    let size2 = tree2.size;
     let mut partner = [NONE; NODE_LIMIT];
     let mut u: usize = 0;
     while u < tree1.nodes {
-        let token = trees::leaf_label(first, &start1, &size1, u);
-        partner[u] = look_up(edition, second, &left2, &start2, &size2, tree2.nodes, token);
+        let token = trees::leaf_label(first, &tree1.start, &tree1.size, u);
+        partner[u] = look_up(edition, second, &tree2, token);
         u += 1;
     }
     partner

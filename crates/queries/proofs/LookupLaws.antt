@@ -1,5 +1,5 @@
 -- A list's labels looked up: the search for a label's rank, and labels marked one after the other. Assumes nothing.
-use Prim.Native.Nat.{ℕ, suc, ◌+◌, ◌%◌, ◌<◌, ◌≤◌}
+use Prim.Native.Nat.{ℕ, suc, ◌+◌, ◌%◌, ◌<◌, ◌≤◌, min}
 use mathlib.Core.Path.{◌≡◌, sym, ◌∙◌, ap}
 use mathlib.Core.Bool.{true, false}
 use mathlib.Core.Logic.{◌⊎◌, inl, inr}
@@ -23,15 +23,18 @@ use Rattle.agreement.proofs.SetLaws.{in_common, number_of}
 use Rattle.triples.specs.Clash.{rank_of}
 use Rattle.triples.proofs.Ranks.{part_at}
 use Rattle.triples.proofs.RowLaws.{rank_at}
-use Rattle.leaves.specs.Find.{found_leaf}
+use Rattle.trees.specs.Arrays.{node_limit}
+use Rattle.leaves.specs.Find.{found_leaf, leaf_found}
+use Rattle.leaves.proofs.FindLaws.{found_is_some}
+use Rattle.std.specs.Prelude.{is_some}
 use Rattle.leaves.specs.Numbered.{Numbered}
 use Rattle.pairs.specs.OwnLeaves.{OwnLeaves}
 use Rattle.queries.specs.ListRead.{OwnList}
 use Rattle.queries.specs.FirstMarks.{FoundRank, FirstMarked}
 use Rattle.table.specs.Choice.{Marked}
-use Rattle.pairs.proofs.RankLaws.{own_nodes, own_part, search_found, search_missing, inc_differ}
+use Rattle.pairs.proofs.RankLaws.{own_nodes, own_few, own_part, search_found, search_missing, inc_differ}
 
--- the search tells whether the tree holds a label
+-- the search tells whether the tree holds a label: by its number, and by whether there is a leaf
 pub search_holds : {t : Tree} {text left start size : List ℕ} {nodes : ℕ} → OwnLeaves t text left start size nodes → (x : Label)
     → ltb (found_leaf text left start size x nodes) nodes ≡ holds (decoded t) x
 search_holds {t} {text} {left} {start} {size} {nodes} o x = go (bool_cases (holds (decoded t) x))
@@ -40,6 +43,12 @@ search_holds {t} {text} {left} {start} {size} {nodes} o x = go (bool_cases (hold
         → ltb (found_leaf text left start size x nodes) nodes ≡ holds (decoded t) x
     go (inl k) = lt-ltb (found_leaf text left start size x nodes) nodes (omega (arith, (search_found o x k).below, own_nodes o)) ∙ sym k
     go (inr k) = le-ltb (found_leaf text left start size x nodes) nodes (omega (arith, search_missing o x k)) ∙ sym k
+
+pub search_some : {t : Tree} {text left start size : List ℕ} {nodes : ℕ} → OwnLeaves t text left start size nodes → (x : Label)
+    → is_some (leaf_found text left start size x nodes) ≡ holds (decoded t) x
+search_some {t} {text} {left} {start} {size} {nodes} o x =
+    let n : min nodes node_limit ≡ nodes = omega (arith, own_few o) in
+    found_is_some text left start size x nodes ∙ rw n (search_holds o x)
 
 -- token k of the list stands for its label k
 pub list_part : {K : List Token} {text start size : List ℕ} {count : ℕ} → OwnList K text start size count → (k : ℕ) → k < count

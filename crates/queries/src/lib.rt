@@ -121,11 +121,7 @@ fn holds_label(edition: Edition, text: &[u8], tree: TreeArrays, token: &[u8]) ->
     ensures { (t : Tree) → OwnLeaves t (in_edition edition text.now) tree.left tree.start tree.size tree.nodes
         → result ≡ holds (decoded t) (key edition token.now) }
 {
-    let left = tree.left;
-    let start = tree.start;
-    let size = tree.size;
-    let nodes = tree.nodes;
-    leaves::find_leaf(edition, text, &left, &start, &size, nodes, token) < nodes
+    leaves::find_leaf(edition, text, &tree, token).is_some()
 }
 
 // The reason of a label that is not common, if the first tree has it or not.

@@ -5,18 +5,18 @@ use lib.ListN.{get_or}
 use Rattle.trees.proofs.FoldLaws.{fold_part}
 use Rattle.leaves.proofs.has_label.Goals as goal
 
-pub returns-then-child-u : goal.returns-then-child-u
+pub returns-then-from-u : goal.returns-then-from-u
 unfolding labelled
-returns-then-child-u c =
-    rw (← c.wide-child.ensures) (simp (ne_eqb _ _ c.if-child-u.true))
+returns-then-from-u c =
+    rw (← c.from.ensures) (simp (ne_eqb _ _ c.if-from-u.true))
 
 pub returns : goal.returns
 unfolding labelled
 returns c =
-    let a = c.args in rw (
-      ← c.wide-child.ensures,
+    let a = c.args in let tree = a.tree.now in rw (
+      ← c.from.ensures,
       c.same_label.ensures,
       c.leaf_label.ensures,
-      fold_part a.edition (get_or a.start.now a.u 0) (get_or a.size.now a.u 0) a.text.now,
+      fold_part a.edition (get_or tree.start a.u 0) (get_or tree.size a.u 0) a.text.now,
     )
-    (simp (eq-eqb _ _ c.if-child-u.false))
+    (simp (eq-eqb _ _ c.if-from-u.false))
