@@ -17,7 +17,7 @@ ghost use Rattle.triples.specs.Loops.{label_in, rank_in, InOrder, LeavesFound, l
 use crate::ancestors::{lca_row, lows};
 use crate::search::{second, third};
 use lists::LabelPlaces;
-use trees::{Body, Edition, Reason, Refusal, TreeArrays};
+use trees::{Body, Edition, NODE_LIMIT, Reason, Refusal, TreeArrays};
 
 mod ancestors;
 mod search;
@@ -114,20 +114,11 @@ fn leaf_numbers(
     requires { places.count ≤ 80 }
     ensures { LeavesFound (in_edition edition text.now) tree (label_in (in_edition edition list.now) places.start places.size) places.count result }
 {
-    let left = tree.left;
-    let start = tree.start;
-    let size = tree.size;
-    let nodes = tree.nodes;
-    let list_start = places.start;
-    let list_size = places.size;
-    let count = places.count;
+    let end = tree.nodes.min(NODE_LIMIT);
     let mut leaf = [0usize; 80];
-    let mut k: usize = 0;
-    while k < count {
-        let token = trees::leaf_label(list, &list_start, &list_size, k);
-        let u = leaves::find_leaf(edition, text, &left, &start, &size, nodes, token);
-        leaf[k] = u;
-        k += 1;
+    for k in 0..places.count {
+        let token = trees::leaf_label(list, &places.start, &places.size, k);
+        leaf[k] = leaves::find_leaf(edition, text, &tree, token).unwrap_or(end);
     }
     leaf
 }

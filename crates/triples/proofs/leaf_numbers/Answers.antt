@@ -1,11 +1,13 @@
 -- The invariant: each label passed has its leaf number. Assumes nothing.
-use mathlib.Core.Path.{ap, sym, ◌≡◌, ◌∙◌}
+use mathlib.Core.Path.{ap, ap₂, sym, ◌≡◌, ◌∙◌}
 use native.Mathlib.Omega.{arith}
-use Rattle.trees.specs.Edition.{in_edition}
+use Rattle.std.specs.Option.{unwrap_or}
+use Rattle.trees.specs.Edition.{in_edition, key}
 use Rattle.trees.proofs.FoldLaws.{fold_part}
 use lib.ListN.{length-set}
 use Rattle.trees.specs.Token.{Token, spelling}
 use Rattle.leaves.specs.Find.{found_leaf}
+use Rattle.leaves.proofs.FindLaws.{found_number}
 use Rattle.triples.specs.Loops.{label_in}
 use Rattle.trees.proofs.EntryLaws.{store_next}
 use Rattle.triples.proofs.leaf_numbers.Goals as goal
@@ -13,11 +15,12 @@ use Rattle.triples.proofs.leaf_numbers.Goals as goal
 pub loop-k-preserved : goal.loop-k-preserved
 unfolding label_in
 loop-k-preserved c =
-    let l = c.loop-k.invariant.1 in let a = c.args in (
-      omega arith,
+    let l = c.loop-k.invariant.0 in let a = c.args in let text = in_edition a.edition a.text.now in
+    let told = c.unwrap_or.ensures ∙ ap₂ unwrap_or c.find_leaf.ensures c.min-end.ensures
+    ∙ found_number text a.tree.left a.tree.start a.tree.size (key a.edition c.leaf_label-token.result.now) a.tree.nodes in (
       simp length-set l,
-      store_next (λ i x. x ≡ found_leaf (in_edition a.edition a.text.now) a.tree.left a.tree.start a.tree.size
+      store_next (λ i x. x ≡ found_leaf text a.tree.left a.tree.start a.tree.size
           (label_in (in_edition a.edition a.list.now) a.places.start a.places.size i) a.tree.nodes) c.loop-k.leaf c.loop-k.k _ (omega
-          (arith, l)) c.loop-k.invariant.2 (c.find_leaf-u.ensures ∙ ap (λ (p : Token). found_leaf (in_edition a.edition a.text.now) a.tree.left
+          (arith, l)) c.loop-k.invariant.1 (told ∙ ap (λ (p : Token). found_leaf text a.tree.left
           a.tree.start a.tree.size (spelling p) a.tree.nodes) (ap (in_edition a.edition) c.leaf_label-token.ensures ∙ sym (fold_part a.edition _ _ a.list.now))),
     )

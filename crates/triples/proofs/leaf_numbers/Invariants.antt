@@ -1,6 +1,6 @@
 -- The invariant: each label passed has its leaf number. Assumes nothing.
 use mathlib.Core.Path.{◌≡◌}
-use Prim.Native.Nat.{ℕ, ◌≤◌, ◌<◌, ◌-◌}
+use Prim.Native.Nat.{ℕ, ◌<◌}
 use Rattle.trees.specs.Edition.{in_edition}
 use lib.ListN.{length, get_or}
 use Rattle.leaves.specs.Find.{found_leaf}
@@ -8,8 +8,5 @@ use Rattle.triples.specs.Loops.{label_in}
 use Rattle.triples.proofs.leaf_numbers.Given as goal
 
 abbrev pub invariant-loop-k : goal.invariant-loop-k
-invariant-loop-k l = (l.k ≤ l.count) × (length l.leaf ≡ 80) × ((i : ℕ) → i < l.k → get_or l.leaf i 0 ≡ found_leaf (in_edition l.edition l.text) l.left l.start l.size
-    (label_in (in_edition l.edition l.list) l.list_start l.list_size i) l.nodes)
-
-abbrev pub decreases-loop-k : goal.decreases-loop-k
-decreases-loop-k l = l.count - l.k
+invariant-loop-k l = (length l.leaf ≡ 80) × ((i : ℕ) → i < l.k → get_or l.leaf i 0 ≡ found_leaf (in_edition l.edition l.text) l.tree.left l.tree.start l.tree.size
+    (label_in (in_edition l.edition l.list) l.places.start l.places.size i) l.tree.nodes)
