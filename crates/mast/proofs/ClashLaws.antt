@@ -22,6 +22,8 @@ use Rattle.agreement.proofs.SetLaws.{in_sorted, length_sorted, sorted_inc, inc_d
 use Rattle.agreement.proofs.AnswerLaws.{FirstThree}
 use Rattle.agreement.proofs.DemandLaws.{required_clash, clash_answer, set_answered}
 use Rattle.leaves.specs.Numbered.{LeafIs}
+use Rattle.std.specs.Prelude.{Option as Maybe, Some, None}
+use Rattle.std.proofs.lemmas.Option.{none-some}
 use Rattle.triples.specs.declared.Indices as Ranks
 use Rattle.triples.specs.Clash.{rank_of, clash_ranks, RankedTree}
 use Rattle.triples.proofs.Ranks.{place_of}
@@ -111,7 +113,7 @@ module _ (s t : Tree) (K : List Token) (tree1 tree2 : TreeArrays) (order : Commo
       let rank : rank_of (sorted L) x ≡ i.at = ap (rank_of (sorted L)) (sym i.is) ∙ rank_at (sorted L) i.at sorted_distinct i.below in
       omega (arith, rank, i.below, length_sorted L)
 
-  module _ (leaf1 leaf2 : List ℕ) (three : Ranks.Indices)
+  module _ (leaf1 leaf2 : List ℕ) (three : Maybe Ranks.Indices)
       (at1 : (i : ℕ) → i < places.count → i < 80 → get_or leaf1 i 0 ≡ get_or order.first (get_or ranks i 0) 0)
       (at2 : (i : ℕ) → i < places.count → i < 80 → get_or leaf2 i 0 ≡ get_or order.second (get_or ranks i 0) 0)
       (told : (s t : Tree) (xs : List Label) → increasing xs ≡ true → places.count ≡ length xs → places.count ≤ 80
@@ -149,7 +151,7 @@ module _ (s t : Tree) (K : List Token) (tree1 tree2 : TreeArrays) (order : Commo
         (ranked t tree2 order.second leaf2 h.asked.two at2)
 
     -- none
-    pub none_clash : places.count ≤ three.first → (X : List Label) × (answer (decoded s) (decoded t) L ≡ largest X)
+    pub none_clash : three ≡ None → (X : List Label) × (answer (decoded s) (decoded t) L ≡ largest X)
     unfolding clash_ranks
     none_clash l = go (first_clash (decoded s) (decoded t) (sorted L)) refl
       where
@@ -157,37 +159,32 @@ module _ (s t : Tree) (K : List Token) (tree1 tree2 : TreeArrays) (order : Commo
             → (X : List Label) × (answer (decoded s) (decoded t) L ≡ largest X)
         go none e =
             (largest_set (decoded s) (decoded t) L, set_answered (decoded s) (decoded t) L ds h.asked.different h.asked.held (subst (FirstThree (Clash (decoded s) (decoded t) L)) e is_found))
-        go (some r) e =
-            let f = subst (FirstThree (Clash (decoded s) (decoded t) L)) e is_found in
-            let p = placed_at r.one f.0.in_one in
-            let q : three.first ≡ rank_of (sorted L) r.one = ap (λ q. q.first) three_found ∙ ap (λ (o : Option Three). (clash_ranks (sorted L) o).first) e in
-            absurd (omega (arith, rank_below r.one f.0.in_one, q, h.asked.count_is, count_map))
+        go (some r) e = absurd (none-some _ (sym l ∙ three_found ∙ ap (clash_ranks (sorted L)) e))
 
     -- or some
-    pub some_clash : three.first < places.count
-        → (r : Three) × FirstThree (Clash (decoded s) (decoded t) L) (some r)
-        × (three ≡ record { first = rank_of (sorted L) r.one; second = rank_of (sorted L) r.two; third = rank_of (sorted L) r.three })
-    unfolding clash_ranks
-    some_clash l = go (first_clash (decoded s) (decoded t) (sorted L)) refl
-      where
-        go : (o : Option Three) → first_clash (decoded s) (decoded t) (sorted L) ≡ o
-            → (r : Three) × FirstThree (Clash (decoded s) (decoded t) L) (some r)
-            × (three ≡ record { first = rank_of (sorted L) r.one; second = rank_of (sorted L) r.two; third = rank_of (sorted L) r.three })
-        go none e =
-            let q : three.first ≡ length (sorted L) = ap (λ q. q.first) three_found ∙ ap (λ (o : Option Three). (clash_ranks (sorted L) o).first) e in
-            absurd (omega (arith, q, h.asked.count_is, count_map, length_sorted L))
-        go (some r) e =
-            (r, subst (FirstThree (Clash (decoded s) (decoded t) L)) e is_found, three_found ∙ ap (clash_ranks (sorted L)) e)
+    module _ (q : Ranks.Indices) (is : three ≡ Some q) where
+      pub some_clash : (r : Three) × FirstThree (Clash (decoded s) (decoded t) L) (some r)
+          × (q ≡ record { first = rank_of (sorted L) r.one; second = rank_of (sorted L) r.two; third = rank_of (sorted L) r.three })
+      unfolding clash_ranks
+      some_clash = go (first_clash (decoded s) (decoded t) (sorted L)) refl
+        where
+          go : (o : Option Three) → first_clash (decoded s) (decoded t) (sorted L) ≡ o
+              → (r : Three) × FirstThree (Clash (decoded s) (decoded t) L) (some r)
+              × (q ≡ record { first = rank_of (sorted L) r.one; second = rank_of (sorted L) r.two; third = rank_of (sorted L) r.three })
+          go none e = absurd (none-some q (sym (sym is ∙ three_found ∙ ap (clash_ranks (sorted L)) e)))
+          go (some r) e =
+              let f = sym is ∙ three_found ∙ ap (clash_ranks (sorted L)) e in
+              let g : q ≡ record { first = rank_of (sorted L) r.one; second = rank_of (sorted L) r.two; third = rank_of (sorted L) r.three } = cc in
+              (r, subst (FirstThree (Clash (decoded s) (decoded t) L)) e is_found, g)
 
-    module _ (apart : three.first < places.count) where
       abbrev r : Three
-      r = (some_clash apart).0
+      r = some_clash.0
 
       abbrev first_three : FirstThree (Clash (decoded s) (decoded t) L) (some r)
-      first_three = (some_clash apart).1
+      first_three = some_clash.1
 
-      abbrev three_is : three ≡ record { first = rank_of (sorted L) r.one; second = rank_of (sorted L) r.two; third = rank_of (sorted L) r.three }
-      three_is = (some_clash apart).2
+      abbrev three_is : q ≡ record { first = rank_of (sorted L) r.one; second = rank_of (sorted L) r.two; third = rank_of (sorted L) r.three }
+      three_is = some_clash.2
 
       pub named : answer (decoded s) (decoded t) L ≡ disagree r.one r.two r.three
       named = clash_answer (decoded s) (decoded t) L ds h.asked.different h.asked.held r first_three
@@ -220,14 +217,14 @@ module _ (s t : Tree) (K : List Token) (tree1 tree2 : TreeArrays) (order : Commo
                 (ap (λ q. get_or q.size (get_or leaf1 (rank_of (sorted L) x) 0) 0) a ∙ own_size s v _ x l),
           )
 
-      pub first_named : Nameable number ranks leaf1 three.first × (named_at places.start number ranks tree1.start tree1.size leaf1 three.first
+      pub first_named : Nameable number ranks leaf1 q.first × (named_at places.start number ranks tree1.start tree1.size leaf1 q.first
           ≡ record { place = place_of_label K 0 r.one; start = place_in s 0 r.one; size = length (token_in s r.one) })
-      first_named = named_of r.one three.first (ap (λ q. q.first) three_is) first_three.0.in_one
+      first_named = named_of r.one q.first (ap (λ z. z.first) three_is) first_three.0.in_one
 
-      pub second_named : Nameable number ranks leaf1 three.second × (named_at places.start number ranks tree1.start tree1.size leaf1 three.second
+      pub second_named : Nameable number ranks leaf1 q.second × (named_at places.start number ranks tree1.start tree1.size leaf1 q.second
           ≡ record { place = place_of_label K 0 r.two; start = place_in s 0 r.two; size = length (token_in s r.two) })
-      second_named = named_of r.two three.second (ap (λ q. q.second) three_is) first_three.0.in_two
+      second_named = named_of r.two q.second (ap (λ z. z.second) three_is) first_three.0.in_two
 
-      pub third_named : Nameable number ranks leaf1 three.third × (named_at places.start number ranks tree1.start tree1.size leaf1 three.third
+      pub third_named : Nameable number ranks leaf1 q.third × (named_at places.start number ranks tree1.start tree1.size leaf1 q.third
           ≡ record { place = place_of_label K 0 r.three; start = place_in s 0 r.three; size = length (token_in s r.three) })
-      third_named = named_of r.three three.third (ap (λ q. q.third) three_is) first_three.0.in_three
+      third_named = named_of r.three q.third (ap (λ z. z.third) three_is) first_three.0.in_three

@@ -15,7 +15,7 @@ use lists::LabelPlaces;
 use pairs::{CommonOrder, entries_at};
 use table::RANKS;
 use trees::{Edition, LEAF_LIMIT, NODE_LIMIT, TreeArrays, wide, wide_place};
-use triples::Indices;
+use triples::{Indices, RankedLeaves};
 
 // Stores rank r behind n others if it is that of a marked label, and says how many there are then.
 fn add_rank(ranks: &mut [usize; LEAF_LIMIT], n: usize, number: u8, r: usize) -> usize
@@ -144,22 +144,20 @@ pub(crate) fn clash_in(
         → AskedOf (folded e s) (folded e t) (folded_list e xs) tree1 tree2 order number.now places → ClashIs e s t xs result }
 {
     let count = places.count;
-    let mut leaf1 = [0usize; LEAF_LIMIT];
-    let mut leaf2 = [0usize; LEAF_LIMIT];
-    let ranks = gather(number, order, count, &mut leaf1, &mut leaf2);
     let left1 = tree1.left;
     let left2 = tree2.left;
-    let three = triples::first_clash(
-        &left1,
-        tree1.nodes,
-        &leaf1,
-        &left2,
-        tree2.nodes,
-        &leaf2,
-        count,
-    );
-    if count <= three.first {
-        return None;
-    }
-    Some(named_three(places, number, &ranks, tree1, &leaf1, three))
+    let leaf = [0usize; LEAF_LIMIT];
+    let mut one = RankedLeaves {
+        left: left1,
+        nodes: tree1.nodes,
+        leaf,
+    };
+    let mut two = RankedLeaves {
+        left: left2,
+        nodes: tree2.nodes,
+        leaf,
+    };
+    let ranks = gather(number, order, count, &mut one.leaf, &mut two.leaf);
+    let three = triples::first_clash(&one, &two, count)?;
+    Some(named_three(places, number, &ranks, tree1, &one.leaf, three))
 }

@@ -6,19 +6,21 @@ use mathlib.Core.Logic.{◌⊎◌, inl, inr}
 use mathlib.Core.Option.{Option, some, none}
 use mathlib.Core.List.{List, []}
 use native.Mathlib.Omega.{arith}
+use Rattle.std.specs.Prelude.{Some, None}
+use Rattle.std.proofs.lemmas.Option.{none-some}
 use lib.Dec.{ltb}
 use lib.ListN.{length, get_or, drop, drop_of_length-le}
 use lib.Seq.{drop-cons}
 use borrow.Author.Tests.{lt-ltb, le-ltb, ltb-true}
 use Rattle.trees.specs.Label.{Label, distinct}
 use Rattle.trees.specs.Tree.{Tree}
-use Rattle.trees.proofs.Bools.{bool_cases}
+use Rattle.trees.proofs.Bools.{bool_cases, clash as bool_clash}
 use Rattle.agreement.specs.Answer.{Three, or_else, clashing, clash_with_two, clash_with_one, first_clash}
 use Rattle.leaves.specs.Find.{leaf_from}
 use Rattle.triples.proofs.LoopLaws.{FirstHit, hit, none as miss, first_hit}
 use Rattle.triples.specs.declared.Indices.{Indices as Ranked}
 use Rattle.triples.specs.Clash.{clash_ranks, Ranks}
-use Rattle.triples.specs.Loops.{clash_at, third_of, second_of, first_of}
+use Rattle.triples.specs.Loops.{clash_at, below, third_of, second_of, three_of, first_of}
 use Rattle.triples.proofs.RowLaws.{rank_at}
 
 -- where there is a second there is a third
@@ -34,6 +36,27 @@ second_has clash count i h =
     go r (hit k l e f) b = e
     go r (miss e f) b = absurd (omega (arith, ltb-true r count b))
 
+-- a number below a bound, or none
+below_some : (n r k : ℕ) → Some k ≡ below n r → (ltb r n ≡ true) × (k ≡ r)
+below_some n r k e = go (bool_cases (ltb r n))
+  where
+    go : (ltb r n ≡ true) ⊎ (ltb r n ≡ false) → (ltb r n ≡ true) × (k ≡ r)
+    go (inl b) = let d : Some k ≡ Some r = e ∙ rw b refl in let z : k ≡ r = cc in (b, z)
+    go (inr b) = absurd (none-some k (sym (e ∙ rw b refl)))
+
+below_none : (n r : ℕ) → None ≡ below n r → ltb r n ≡ false
+below_none n r e = go (bool_cases (ltb r n))
+  where
+    go : (ltb r n ≡ true) ⊎ (ltb r n ≡ false) → ltb r n ≡ false
+    go (inl b) = absurd (none-some r (e ∙ rw b refl))
+    go (inr b) = b
+
+pub below_at : (n r k : ℕ) → k < n → k ≡ r → Some k ≡ below n r
+below_at n r k h e = rw (← e, lt-ltb k n h) refl
+
+pub below_end : (n r k : ℕ) → n ≤ k → k ≡ r → None ≡ below n r
+below_end n r k h e = rw (← e, le-ltb k n h) refl
+
 -- a search does not go back
 from_low : (is : ℕ → Bool) (n u : ℕ) → u ≤ leaf_from is n u
 from_low is n u = go (leaf_from is n u) (first_hit is n u)
@@ -46,22 +69,73 @@ pub second_later : (clash : ℕ → ℕ → Bool) (n i j : ℕ) → j ≡ second
 unfolding second_of
 second_later clash n i j e = omega (arith, e, from_low (λ m. ltb (third_of clash n m) n) (n - (i + 1)) (i + 1))
 
--- what is found are three ranks in order, whatever the rows are
-pub ranks_found : (clash : ℕ → ℕ → Bool) (n i j k : ℕ) → i < n → j ≡ second_of clash n i → j < n → k ≡ third_of clash n j
-    → Ranks n (record { first = i; second = j; third = k })
-unfolding third_of
-ranks_found clash n i j k h e l f =
-    record {
-      found = λ p.
-          let b = from_low (clash j) (n - (j + 1)) (j + 1) in
-          let c = second_has clash n i (ap (λ (z : ℕ). ltb z n) (sym e) ∙ lt-ltb j n l) in
-          let g = ltb-true k n (ap (λ (z : ℕ). ltb z n) (f ∙ ap (third_of clash n) e) ∙ c) in
-          (second_later clash n i j e, omega arith, g);
-      lacking = λ p. absurd (omega arith);
-    }
+pub some_later : (clash : ℕ → ℕ → Bool) (n i j : ℕ) → Some j ≡ below n (second_of clash n i) → i < j
+some_later clash n i j e = second_later clash n i j (below_some n (second_of clash n i) j e).1
 
-pub ranks_none : (n : ℕ) → Ranks n (record { first = n; second = n; third = n })
-ranks_none n = record { found = λ p. absurd (omega arith); lacking = λ p. refl }
+third_later : (clash : ℕ → ℕ → Bool) (n j : ℕ) → j < third_of clash n j
+unfolding third_of
+third_later clash n j = omega (arith, from_low (clash j) (n - (j + 1)) (j + 1))
+
+-- what is found are three ranks in order, whatever the rows are
+pub ranks_found : (clash : ℕ → ℕ → Bool) (n i : ℕ) (r : Ranked) → i < n → Some r ≡ three_of clash n i → Ranks n (Some r)
+unfolding three_of
+ranks_found clash n i r h e = go (bool_cases (ltb (second_of clash n i) n))
+  where
+    go : (ltb (second_of clash n i) n ≡ true) ⊎ (ltb (second_of clash n i) n ≡ false) → Ranks n (Some r)
+    go (inl b) =
+        let j = second_of clash n i in
+        let k = third_of clash n j in
+        let l = second_later clash n i j refl in
+        let m = third_later clash n j in
+        let g = ltb-true k n (second_has clash n i b) in
+        let d : Some r ≡ Some (record { first = i; second = j; third = k }) = e ∙ rw b refl in
+        rw d (record { found = λ q f. let z : q ≡ record { first = i; second = j; third = k } = cc in rw z (l, m, g) })
+    go (inr b) = absurd (none-some r (sym (e ∙ rw b refl)))
+
+pub ranks_none : (n : ℕ) → Ranks n None
+ranks_none n = record { found = λ r e. absurd (none-some r e) }
+
+-- whether there is a clash of which rank i is the first
+pub three_some : (clash : ℕ → ℕ → Bool) (n i : ℕ) (r : Ranked) → Some r ≡ three_of clash n i → ltb (second_of clash n i) n ≡ true
+unfolding three_of
+three_some clash n i r e = go (bool_cases (ltb (second_of clash n i) n))
+  where
+    go : (ltb (second_of clash n i) n ≡ true) ⊎ (ltb (second_of clash n i) n ≡ false) → ltb (second_of clash n i) n ≡ true
+    go (inl b) = b
+    go (inr b) = absurd (none-some r (sym (e ∙ rw b refl)))
+
+pub three_none : (clash : ℕ → ℕ → Bool) (n i : ℕ) → None ≡ three_of clash n i → ltb (second_of clash n i) n ≡ false
+unfolding three_of
+three_none clash n i e = go (bool_cases (ltb (second_of clash n i) n))
+  where
+    go : (ltb (second_of clash n i) n ≡ true) ⊎ (ltb (second_of clash n i) n ≡ false) → ltb (second_of clash n i) n ≡ false
+    go (inl b) =
+        let j = second_of clash n i in
+        let d : None ≡ Some (record { first = i; second = j; third = third_of clash n j }) = e ∙ rw b refl in
+        absurd (none-some _ d)
+    go (inr b) = b
+
+-- from the two searches to the three ranks
+pub three_told : (clash : ℕ → ℕ → Bool) (n i j k : ℕ) → Some j ≡ below n (second_of clash n i) → Some k ≡ below n (third_of clash n j)
+    → Some (record { first = i; second = j; third = k }) ≡ three_of clash n i
+unfolding three_of
+three_told clash n i j k e f = go (below_some n (second_of clash n i) j e) (below_some n (third_of clash n j) k f)
+  where
+    go : (ltb (second_of clash n i) n ≡ true) × (j ≡ second_of clash n i) → (ltb (third_of clash n j) n ≡ true) × (k ≡ third_of clash n j)
+        → Some (record { first = i; second = j; third = k }) ≡ three_of clash n i
+    go (b, d) (g, h) = rw (b, h, d) refl
+
+pub second_none : (clash : ℕ → ℕ → Bool) (n i : ℕ) → None ≡ below n (second_of clash n i) → None ≡ three_of clash n i
+unfolding three_of
+second_none clash n i e = rw (below_none n (second_of clash n i) e) refl
+
+-- where there is a second there is a third
+pub third_some : (clash : ℕ → ℕ → Bool) (n i j : ℕ) → Some j ≡ below n (second_of clash n i) → None ≡ below n (third_of clash n j) → ⊥
+third_some clash n i j e f =
+    let p = below_some n (second_of clash n i) j e in
+    let q = below_none n (third_of clash n j) f in
+    let z : true ≡ false = sym (second_has clash n i p.0) ∙ ap (λ (m : ℕ). ltb (third_of clash n m) n) (sym p.1) ∙ q in
+    bool_clash (sym z) refl
 
 module _ (s t : Tree) (C : List Label) (count : ℕ) (len : length C ≡ count) where
   -- the three labels of these ranks, where the last rank is one
@@ -149,26 +223,29 @@ module _ (s t : Tree) (C : List Label) (count : ℕ) (len : length C ≡ count) 
 
   -- three ranks that were found name the first clash, and where there are none there is none
   module _ (d : distinct C ≡ true) where
-    pub found_is : (i j k : ℕ) → i ≡ first_of (clash_at s t C) count → i < count → j ≡ second_of (clash_at s t C i) count i → j < count
-        → k ≡ third_of (clash_at s t C i) count j → k < count
-        → ◌≡◌ {A = Ranked} (record { first = i; second = j; third = k }) (clash_ranks C (first_clash s t C))
-    unfolding clash_ranks
-    found_is i j k e h f l g m =
+    pub found_is : (i : ℕ) (r : Ranked) → i ≡ first_of (clash_at s t C) count → i < count
+        → Some r ≡ three_of (clash_at s t C i) count i → Some r ≡ clash_ranks C (first_clash s t C)
+    unfolding clash_ranks three_of
+    found_is i r e h f =
+        let clash = clash_at s t C i in
+        let b = three_some clash count i r f in
+        let j = second_of clash count i in
+        let l : j < count = ltb-true j count b in
+        let c = second_has clash count i b in
+        let m : third_of clash count j < count = ltb-true (third_of clash count j) count c in
         rw (
+          f,
           first_clash_is,
           ← e,
           lt-ltb i count h,
-          ← f,
-          lt-ltb j count l,
-          ← g,
-          lt-ltb k count m,
+          b,
+          c,
           rank_at C i d (omega arith),
           rank_at C j d (omega arith),
-          rank_at C k d (omega arith),
+          rank_at C (third_of clash count j) d (omega arith),
         )
         refl
 
-    pub none_is : (n : ℕ) → n ≡ count → first_of (clash_at s t C) count ≡ count
-        → ◌≡◌ {A = Ranked} (record { first = n; second = n; third = n }) (clash_ranks C (first_clash s t C))
+    pub none_is : first_of (clash_at s t C) count ≡ count → None ≡ clash_ranks C (first_clash s t C)
     unfolding clash_ranks
-    none_is n q e = rw (first_clash_is, e, le-ltb count count (omega arith), q, len) refl
+    none_is e = rw (first_clash_is, e, le-ltb count count (omega arith)) refl

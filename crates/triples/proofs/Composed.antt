@@ -6,12 +6,14 @@ use mathlib.Core.Logic.{◌⊎◌, inl, inr}
 use mathlib.Core.Option.{Option, some, none}
 use mathlib.Core.List.{List, [], map}
 use native.Mathlib.Omega.{arith}
+use Rattle.std.specs.Prelude.{Option as Maybe, Result, Ok, Err}
 use lib.Dec.{eqb, ltb}
 use lib.ListN.{length, get_or, drop, drop_of_length-le, length-map}
 use lib.Seq.{drop-cons}
 use borrow.Author.Tests.{lt-ltb, le-ltb, eqb-true, eqb-false}
 use Rattle.trees.specs.declared.Reason.TheVariants.{FirstLacks, SecondLacks}
 use Rattle.trees.specs.declared.Body.TheVariants.{K}
+use Rattle.trees.specs.declared.Refusal.{Refusal}
 use Rattle.trees.specs.declared.TreeArrays.{TreeArrays}
 use Rattle.trees.specs.Label.{Label, is_in, distinct}
 use Rattle.trees.specs.Token.{Token, spelling}
@@ -37,14 +39,16 @@ use Rattle.agreement.proofs.AnswerLaws.{FirstThree, clash_found}
 use Rattle.leaves.specs.Find.{found_leaf}
 use Rattle.leaves.specs.Numbered.{LeafIs, Numbered}
 use Rattle.leaves.proofs.OwnLaws.{own_found, found, missing}
-use Rattle.triples.specs.declared.Agreement.{Agreement}
-use Rattle.triples.specs.declared.Agreement.TheVariants.{Agreed, Disagree, Refused}
 use Rattle.triples.specs.declared.Indices.{Indices as Ranked}
-use Rattle.triples.specs.Verdict.{verdict_of}
+use Rattle.triples.specs.Verdict.{Verdict, agreed, clash_at_places, verdict_of}
 use Rattle.triples.specs.Clash.{rank_of, clash_ranks, RankedTree}
 use Rattle.triples.specs.Loops.{label_in, rank_in, InOrder, LeavesFound, lack_from, told_of, AsRead}
 use Rattle.triples.proofs.Ranks.{label_at, place_of, place_number, order_sorted}
 use Rattle.triples.proofs.RowLaws.{rank_at}
+
+-- what the search for a lacking label returns
+abbrev Lacking : Type 0
+Lacking = Result (Prim.Unit {0}) Refusal
 
 -- the leaf numbers of the list's labels in a tree, both as they were read
 abbrev pub LeavesOf : Tree → List Token → List ℕ → Type 0
@@ -89,14 +93,14 @@ module _ (s t : Tree) (xs : List Token) (v : Valid s) (w : Valid t) (different :
   as_many = length-map xs spelling
 
   -- what the search for a lacking label comes to
-  data Lack (k : ℕ) : Option Answer → Agreement → Type 0 where
-    no_lack : ((j : ℕ) → k ≤ j → j < length xs → (holds S (get_or labels j []) ≡ true) × (holds T (get_or labels j []) ≡ true)) → Lack k none Agreed
+  data Lack (k : ℕ) : Option Answer → Lacking → Type 0 where
+    no_lack : ((j : ℕ) → k ≤ j → j < length xs → (holds S (get_or labels j []) ≡ true) × (holds T (get_or labels j []) ≡ true)) → Lack k none (Ok (Prim.tt {0}))
     lack_first : (n : ℕ)
-        → Lack k (some (first_lacks n)) (Refused (record { reason = FirstLacks; body = K; place = place_of_number xs n }))
+        → Lack k (some (first_lacks n)) (Err (record { reason = FirstLacks; body = K; place = place_of_number xs n }))
     lack_second : (n : ℕ)
-        → Lack k (some (second_lacks n)) (Refused (record { reason = SecondLacks; body = K; place = place_of_number xs n }))
+        → Lack k (some (second_lacks n)) (Err (record { reason = SecondLacks; body = K; place = place_of_number xs n }))
 
-  later : (k : ℕ) {o : Option Answer} {A : Agreement} → holds S (get_or labels k []) ≡ true → holds T (get_or labels k []) ≡ true
+  later : (k : ℕ) {o : Option Answer} {A : Lacking} → holds S (get_or labels k []) ≡ true → holds T (get_or labels k []) ≡ true
       → Lack (suc k) o A → Lack k o A
   later k p q (no_lack f) = no_lack (λ j h l. at j h l (bool_cases (eqb j k)))
     where
@@ -125,22 +129,22 @@ module _ (s t : Tree) (xs : List Token) (v : Valid s) (w : Valid t) (different :
         )
         (go (holds S x) refl (holds T x) refl (lack_of n (suc k) (omega arith)))
       where
-        next : Agreement
+        next : Lacking
         next = lack_from leaf1 (nodes_of s) leaf2 (nodes_of t) (places_of xs).start n (suc k)
 
         go : (a : Bool) → holds S (get_or labels k []) ≡ a → (b : Bool) → holds T (get_or labels k []) ≡ b
             → Lack (suc k) (lacking S T (drop (suc k) labels) (suc k)) next
             → Lack k (cond a (cond b (lacking S T (drop (suc k) labels) (suc k)) (some (second_lacks k))) (some (first_lacks k)))
-            (cond a (cond b next (Refused (record { reason = SecondLacks; body = K; place = place_of_number xs k })))
-            (Refused (record { reason = FirstLacks; body = K; place = place_of_number xs k })))
+            (cond a (cond b next (Err (record { reason = SecondLacks; body = K; place = place_of_number xs k })))
+            (Err (record { reason = FirstLacks; body = K; place = place_of_number xs k })))
         go true p true q r = later k p q r
         go true p false q r = lack_second k
         go false p b q r = lack_first k
 
   -- the verdict on three that clash
-  abbrev clash_told : Option Three → Agreement
-  clash_told none = Agreed
-  clash_told (some c) = Disagree (place_of_label xs 0 c.one) (place_of_label xs 0 c.two) (place_of_label xs 0 c.three)
+  abbrev clash_told : Option Three → Verdict
+  clash_told none = agreed
+  clash_told (some c) = clash_at_places (place_of_label xs 0 c.one) (place_of_label xs 0 c.two) (place_of_label xs 0 c.three)
 
   -- the answer where a label is lacking, and where none is
   answer_by : (o : Option Answer) → lacking S T labels 0 ≡ o
@@ -202,18 +206,18 @@ module _ (s t : Tree) (xs : List Token) (v : Valid s) (w : Valid t) (different :
         )
 
     told_clash : (c : Option Three) → FirstThree (Clash S T (sorted labels)) c
-        → told_of order (places_of xs).start (length xs) (clash_ranks (sorted labels) c) ≡ clash_told c
+        → ◌≡◌ {A = Verdict} (Ok (told_of order (places_of xs).start (clash_ranks (sorted labels) c))) (clash_told c)
     unfolding told_of clash_ranks
-    told_clash none f = rw (length_sorted labels, as_many, le-ltb (length xs) (length xs) (omega arith)) refl
+    told_clash none f = refl
     told_clash (some c) f =
         let a = place c.one f.0.in_one in
         let b = place c.two f.0.in_two in
         let d = place c.three f.0.in_three in
-        rw (lt-ltb (rank_of (sorted labels) c.one) (length xs) a.0, a.1, b.1, d.1) refl
+        rw (a.1, b.1, d.1) refl
 
     told_verdict : lacking S T labels 0 ≡ none
-        → told_of order (places_of xs).start (length xs) (clash_ranks (sorted labels) (first_clash S T (sorted labels)))
-        ≡ verdict_of xs (answer S T labels)
+        → ◌≡◌ {A = Verdict} (Ok (told_of order (places_of xs).start (clash_ranks (sorted labels) (first_clash S T (sorted labels)))))
+        (verdict_of xs (answer S T labels))
     told_verdict e =
         told_clash (first_clash S T (sorted labels)) (clash_found S T (sorted labels) (sorted_inc labels different)) ∙ sym (answer_clash e)
 
@@ -243,7 +247,7 @@ module _ (s t : Tree) (xs : List Token) (first second list : List ℕ) (one two 
   count_is = ap (λ (q : LabelPlaces). q.count) g.placed
 
   module _ (leaf1 leaf2 : List ℕ) (f1 : LeavesFound first one (label_in list places.start places.size) places.count leaf1)
-      (f2 : LeavesFound second two (label_in list places.start places.size) places.count leaf2) (lack : Agreement)
+      (f2 : LeavesFound second two (label_in list places.start places.size) places.count leaf2) (lack : Lacking)
       (e : lack ≡ lack_from leaf1 one.nodes leaf2 two.nodes places.start places.count 0) where
     l1 : LeavesOf s xs leaf1
     l1 = leaves_of s xs first list one places g.text1 g.tree1 g.listed g.placed leaf1 f1
@@ -264,17 +268,22 @@ module _ (s t : Tree) (xs : List Token) (first second list : List ℕ) (one two 
     view = lack_of s t xs g.valid1 g.valid2 g.different leaf1 leaf2 l1 l2 (length xs) 0 (omega arith)
 
     -- a label is lacking
-    pub lacked : (lack ≡ Agreed → ⊥) → lack ≡ verdict_of xs (answer (decoded s) (decoded t) (map spelling xs))
+    pub lacked : (e : Refusal) → lack ≡ Err e → ◌≡◌ {A = Verdict} (Err e) (verdict_of xs (answer (decoded s) (decoded t) (map spelling xs)))
     unfolding verdict_of
-    lacked not-agreed =
+    lacked e is =
         go (lacking (decoded s) (decoded t) (map spelling xs) 0) refl
-        (lack_from leaf1 (nodes_of s) leaf2 (nodes_of t) (places_of xs).start (length xs) 0) own_lack view
+        (lack_from leaf1 (nodes_of s) leaf2 (nodes_of t) (places_of xs).start (length xs) 0) (sym is ∙ own_lack) view
       where
-        go : (o : Option Answer) → lacking (decoded s) (decoded t) (map spelling xs) 0 ≡ o → (A : Agreement) → lack ≡ A
-            → Lack s t xs g.valid1 g.valid2 g.different 0 o A → lack ≡ verdict_of xs (answer (decoded s) (decoded t) (map spelling xs))
-        go o h A k (no_lack f) = absurd (not-agreed k)
-        go o h A k (lack_first n) = k ∙ sym (ap (verdict_of xs) (answer_by s t xs g.valid1 g.valid2 g.different (some (first_lacks n)) h))
-        go o h A k (lack_second n) = k ∙ sym (ap (verdict_of xs) (answer_by s t xs g.valid1 g.valid2 g.different (some (second_lacks n)) h))
+        go : (o : Option Answer) → lacking (decoded s) (decoded t) (map spelling xs) 0 ≡ o → (A : Lacking) → Err e ≡ A
+            → Lack s t xs g.valid1 g.valid2 g.different 0 o A
+            → ◌≡◌ {A = Verdict} (Err e) (verdict_of xs (answer (decoded s) (decoded t) (map spelling xs)))
+        go o h A k (no_lack f) = absurd (let z : ◌≡◌ {A = ℕ} 0 1 = cc in omega arith)
+        go o h A k (lack_first n) =
+            let d : e ≡ record { reason = FirstLacks; body = K; place = place_of_number xs n } = cc in
+            ap Err d ∙ sym (ap (verdict_of xs) (answer_by s t xs g.valid1 g.valid2 g.different (some (first_lacks n)) h))
+        go o h A k (lack_second n) =
+            let d : e ≡ record { reason = SecondLacks; body = K; place = place_of_number xs n } = cc in
+            ap Err d ∙ sym (ap (verdict_of xs) (answer_by s t xs g.valid1 g.valid2 g.different (some (second_lacks n)) h))
 
     abbrev Held : Type 0
     Held =
@@ -282,19 +291,19 @@ module _ (s t : Tree) (xs : List Token) (first second list : List ℕ) (one two 
         × ((j : ℕ) → j < length xs
         → (holds (decoded s) (get_or (map spelling xs) j []) ≡ true) × (holds (decoded t) (get_or (map spelling xs) j []) ≡ true))
 
-    held_all : lack ≡ Agreed → Held
-    held_all agreed =
+    held_all : lack ≡ Ok (Prim.tt {0}) → Held
+    held_all all =
         go (lacking (decoded s) (decoded t) (map spelling xs) 0) refl
-        (lack_from leaf1 (nodes_of s) leaf2 (nodes_of t) (places_of xs).start (length xs) 0) (sym agreed ∙ own_lack) view
+        (lack_from leaf1 (nodes_of s) leaf2 (nodes_of t) (places_of xs).start (length xs) 0) (sym all ∙ own_lack) view
       where
-        go : (o : Option Answer) → lacking (decoded s) (decoded t) (map spelling xs) 0 ≡ o → (A : Agreement) → Agreed ≡ A
+        go : (o : Option Answer) → lacking (decoded s) (decoded t) (map spelling xs) 0 ≡ o → (A : Lacking) → Ok (Prim.tt {0}) ≡ A
             → Lack s t xs g.valid1 g.valid2 g.different 0 o A → Held
         go o h A k (no_lack f) = (h, λ j l. f j (omega arith) l)
         go o h A k (lack_first n) = absurd (let z : ◌≡◌ {A = ℕ} 0 1 = cc in omega arith)
         go o h A k (lack_second n) = absurd (let z : ◌≡◌ {A = ℕ} 0 1 = cc in omega arith)
 
     -- no label is lacking: the search for a clash decides
-    module _ (agreed : lack ≡ Agreed) (order ranked1 ranked2 : List ℕ)
+    module _ (all : lack ≡ Ok (Prim.tt {0})) (order ranked1 ranked2 : List ℕ)
         (o : InOrder (rank_in list places.start places.size places.count) places.count places.count order)
         (w1 : (r : ℕ) → r < places.count → get_or ranked1 r 0 ≡ get_or leaf1 (get_or order r 0) 0)
         (w2 : (r : ℕ) → r < places.count → get_or ranked2 r 0 ≡ get_or leaf2 (get_or order r 0) 0) where
@@ -317,23 +326,23 @@ module _ (s t : Tree) (xs : List Token) (first second list : List ℕ) (one two 
       ranked_first =
           ranked_read s g.valid1 one g.tree1 (sorted (map spelling xs)) ranked1
           (leaves_ranked s t xs g.valid1 g.valid2 g.different order in_order s g.valid1
-          (λ j h. ((held_all agreed).1 j h).0) leaf1 ranked1 l1 (λ r h. w1 r (omega (arith, count_is))))
+          (λ j h. ((held_all all).1 j h).0) leaf1 ranked1 l1 (λ r h. w1 r (omega (arith, count_is))))
 
       ranked_second : RankedTree (decoded t) (sorted (map spelling xs)) two.left two.nodes ranked2
       ranked_second =
           ranked_read t g.valid2 two g.tree2 (sorted (map spelling xs)) ranked2
           (leaves_ranked s t xs g.valid1 g.valid2 g.different order in_order t g.valid2
-          (λ j h. ((held_all agreed).1 j h).1) leaf2 ranked2 l2 (λ r h. w2 r (omega (arith, count_is))))
+          (λ j h. ((held_all all).1 j h).1) leaf2 ranked2 l2 (λ r h. w2 r (omega (arith, count_is))))
 
-      pub compared_verdict : places.count ≤ 80 → (three : Ranked)
+      pub compared_verdict : places.count ≤ 80 → (three : Maybe Ranked)
           → ((u v : Tree) (C : List Label) → increasing C ≡ true → places.count ≡ length C → places.count ≤ 80
           → RankedTree u C one.left one.nodes ranked1 → RankedTree v C two.left two.nodes ranked2
-          → three ≡ clash_ranks C (first_clash u v C))
-          → told_of order places.start places.count three ≡ verdict_of xs (answer (decoded s) (decoded t) (map spelling xs))
-      compared_verdict few three search =
-          ap (λ (q : LabelPlaces). told_of order q.start places.count three) g.placed
-          ∙ ap (λ (n : ℕ). told_of order (places_of xs).start n three) count_is
-          ∙ ap (told_of order (places_of xs).start (length xs))
+          → three ≡ clash_ranks C (first_clash u v C)) → (told : Maybe Ranked) → told ≡ told_of order places.start three
+          → ◌≡◌ {A = Verdict} (Ok told) (verdict_of xs (answer (decoded s) (decoded t) (map spelling xs)))
+      compared_verdict few three search told is =
+          ap Ok (is
+          ∙ ap (λ (q : LabelPlaces). told_of order q.start three) g.placed
+          ∙ ap (told_of order (places_of xs).start)
           (search (decoded s) (decoded t) (sorted (map spelling xs)) (sorted_inc (map spelling xs) g.different)
-          (count_is ∙ sym (length-map xs spelling) ∙ sym (length_sorted (map spelling xs))) few ranked_first ranked_second)
-          ∙ told_verdict s t xs g.valid1 g.valid2 g.different order in_order (held_all agreed).0
+          (count_is ∙ sym (length-map xs spelling) ∙ sym (length_sorted (map spelling xs))) few ranked_first ranked_second))
+          ∙ told_verdict s t xs g.valid1 g.valid2 g.different order in_order (held_all all).0

@@ -5,6 +5,7 @@ use mathlib.Core.Bool.{Bool, true, false, cond}
 use mathlib.Core.Logic.{◌⊎◌, inl, inr}
 use mathlib.Core.List.{List}
 use native.Mathlib.Omega.{arith}
+use Rattle.std.specs.Prelude.{Ok, Err}
 use native.Mathlib.Numerals.{add-one}
 use lib.Dec.{eqb, ltb}
 use lib.ListN.{length, get_or, set, replicate}
@@ -13,7 +14,6 @@ use borrow.Author.Tests.{eqb-true, eqb-false, ltb-true, lt-ltb, le-ltb}
 use Rattle.trees.specs.Label.{Label, label_less}
 use Rattle.trees.specs.declared.Reason.TheVariants.{FirstLacks, SecondLacks}
 use Rattle.trees.specs.declared.Body.TheVariants.{K}
-use Rattle.triples.specs.declared.Agreement.TheVariants.{Agreed, Refused}
 use Rattle.trees.proofs.EntryLaws.{filled_at}
 use Rattle.trees.proofs.Bools.{bool_cases}
 use Rattle.trees.proofs.LabelLaws.{less_irrefl}
@@ -112,12 +112,12 @@ module _ (leaf1 : List ℕ) (nodes1 : ℕ) (leaf2 : List ℕ) (nodes2 : ℕ) (st
   more h = omega arith
 
   pub lack_one : k < count → nodes1 ≤ get_or leaf1 k 0
-      → lack_from leaf1 nodes1 leaf2 nodes2 start (count - k) k ≡ Refused (record { reason = FirstLacks; body = K; place = get_or start k 0 })
+      → lack_from leaf1 nodes1 leaf2 nodes2 start (count - k) k ≡ Err (record { reason = FirstLacks; body = K; place = get_or start k 0 })
   unfolding lack_from
   lack_one h l = rw (more h, le-ltb (get_or leaf1 k 0) nodes1 l) refl
 
   pub lack_two : k < count → get_or leaf1 k 0 < nodes1 → nodes2 ≤ get_or leaf2 k 0
-      → lack_from leaf1 nodes1 leaf2 nodes2 start (count - k) k ≡ Refused (record { reason = SecondLacks; body = K; place = get_or start k 0 })
+      → lack_from leaf1 nodes1 leaf2 nodes2 start (count - k) k ≡ Err (record { reason = SecondLacks; body = K; place = get_or start k 0 })
   unfolding lack_from
   lack_two h l m = rw (more h, lt-ltb (get_or leaf1 k 0) nodes1 l, le-ltb (get_or leaf2 k 0) nodes2 m) refl
 
@@ -127,7 +127,7 @@ module _ (leaf1 : List ℕ) (nodes1 : ℕ) (leaf2 : List ℕ) (nodes2 : ℕ) (st
   lack_next h l m =
       rw (more h, lt-ltb (get_or leaf1 k 0) nodes1 l, lt-ltb (get_or leaf2 k 0) nodes2 m, add-one k) refl
 
-  pub lack_end : count ≤ k → lack_from leaf1 nodes1 leaf2 nodes2 start (count - k) k ≡ Agreed
+  pub lack_end : count ≤ k → lack_from leaf1 nodes1 leaf2 nodes2 start (count - k) k ≡ Ok (Prim.tt {0})
   unfolding lack_from
   lack_end h =
       let e : count - k ≡ 0 = omega arith in

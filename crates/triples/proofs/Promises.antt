@@ -4,6 +4,7 @@ use Prim.Native.Nat.{ℕ}
 use mathlib.Core.Path.{◌≡◌, refl}
 use mathlib.Core.Logic.{◌↔◌}
 use mathlib.Core.List.{List, [], ◌∷◌}
+use Rattle.std.specs.Prelude.{Err}
 use Rattle.trees.specs.declared.Reason.{Reason}
 use Rattle.trees.specs.declared.Refusal.{Refusal}
 use Rattle.trees.specs.Refusals.{number_of, letter_of, value, row, row_naming}
@@ -21,8 +22,7 @@ use Rattle.agreement.specs.Closer.{Agree, Common}
 use Rattle.agreement.specs.Sets.{set_of}
 use Rattle.agreement.specs.Demand.{IsDisagreement, IsFirstLacks, IsSecondLacks}
 use Rattle.agreement.specs.Places.{place_of_number, place_of_label}
-use Rattle.triples.specs.declared.Agreement.TheVariants.{Agreed, Disagree, Refused}
-use Rattle.triples.specs.Verdict.{verdict_in, AllRead, said_of}
+use Rattle.triples.specs.Verdict.{agreed, clash_at_places, verdict_in, AllRead, said_of}
 use Rattle.leaves.specs.Numbered.{Numbered}
 use Rattle.triples.specs.Clash.{RankedTree}
 use Rattle.triples.proofs.Composed.{ranked_in}
@@ -31,8 +31,8 @@ use Rattle.triples.proofs.VerdictLaws.{agreed_told_in, agreed_bodies_in}
 
 -- Each answer is a row of 01's table, or that the trees agree.
 pub answers_told : (a b c : ℕ) (r : Refusal)
-    → (said_of Agreed ≡ value (Prim.tt {0})) × (said_of (Disagree a b c) ≡ row_naming 8 75 0 (a ∷ b ∷ c ∷ []))
-    × (said_of (Refused r) ≡ row (number_of r.reason) (letter_of r.body) r.place)
+    → (said_of agreed ≡ value (Prim.tt {0})) × (said_of (clash_at_places a b c) ≡ row_naming 8 75 0 (a ∷ b ∷ c ∷ []))
+    × (said_of (Err r) ≡ row (number_of r.reason) (letter_of r.body) r.place)
 unfolding said_of
 answers_told a b c r = (refl, refl, refl)
 
@@ -73,11 +73,11 @@ module _ (e : Edition) (first second list : List ℕ) (s t : Tree) (xs : List To
   eight_promise = eight_row_in e first second list s t xs read1 read2 read3
 
   -- "Trees agree on a set of leaves common to both exactly if each three of the set have the same closer pair in both"
-  pub agreed_exactly : (verdict_in e first second list ≡ Agreed)
+  pub agreed_exactly : (verdict_in e first second list ≡ agreed)
       ↔ (Common (keyed e s) (keyed e t) (set_of (keys_of e xs)) × Agree (keyed e s) (keyed e t) (set_of (keys_of e xs)))
   agreed_exactly = agreed_told_in e first second list s t xs read1 read2 read3
 
 -- If a body cannot be read, the trees do not agree.
-pub agreed_read : (e : Edition) (first second list : List ℕ) → verdict_in e first second list ≡ Agreed
+pub agreed_read : (e : Edition) (first second list : List ℕ) → verdict_in e first second list ≡ agreed
     → AllRead (read_tree_in e first) (read_tree_in e second) (read_list_in e list)
 agreed_read = agreed_bodies_in

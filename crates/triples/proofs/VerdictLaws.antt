@@ -5,6 +5,7 @@ use mathlib.Core.Bool.{true}
 use mathlib.Core.Logic.{◌↔◌}
 use mathlib.Core.List.{List, [], ◌∷◌, map}
 use native.Mathlib.Omega.{arith}
+use Rattle.std.specs.Prelude.{Err}
 use Rattle.trees.specs.declared.Reason.{Reason}
 use Rattle.trees.specs.declared.Reason.TheVariants.{FirstLacks, SecondLacks}
 use Rattle.trees.specs.declared.Body.TheVariants.{S, T, K}
@@ -31,23 +32,22 @@ use Rattle.agreement.proofs.PlaceLaws.{number_folded}
 use Rattle.agreement.proofs.AnswerLaws.{agree_no_clash}
 use Rattle.agreement.proofs.DemandLaws.{set_answered, disagree_exactly, largest_exactly, first_lacks_exactly}
 use Rattle.agreement.proofs.DemandLaws.{second_lacks_exactly, allowed_held}
-use Rattle.triples.specs.declared.Agreement.TheVariants.{Agreed, Disagree, Refused}
-use Rattle.triples.specs.Verdict.{verdict_of, verdict_on_list, verdict_on_second, verdict_on, verdict, verdict_in, AllRead, said_of}
+use Rattle.triples.specs.Verdict.{agreed, clash_at_places, verdict_of, verdict_on_list, verdict_on_second, verdict_on, verdict, verdict_in, AllRead, said_of}
 use Rattle.triples.proofs.Readings.{agreed_on_lem}
 
 -- "Order: .. S, T, K, then 6 or 7, then 8"; "A body that fails to read ends the job there."
 module _ (first second list : List ℕ) (r : Reason) (i : ℕ) where
-  first_turned_down : read_tree first ≡ refused r i → verdict first second list ≡ Refused (record { reason = r; body = S; place = i })
+  first_turned_down : read_tree first ≡ refused r i → verdict first second list ≡ Err (record { reason = r; body = S; place = i })
   unfolding verdict verdict_on
   first_turned_down e = rw e refl
 
   second_turned_down : (s : Tree) → read_tree first ≡ good s → read_tree second ≡ refused r i
-      → verdict first second list ≡ Refused (record { reason = r; body = T; place = i })
+      → verdict first second list ≡ Err (record { reason = r; body = T; place = i })
   unfolding verdict verdict_on verdict_on_second
   second_turned_down s e d = rw (e, d) refl
 
   list_turned_down : (s t : Tree) → read_tree first ≡ good s → read_tree second ≡ good t → read_list list ≡ refused r i
-      → verdict first second list ≡ Refused (record { reason = r; body = K; place = i })
+      → verdict first second list ≡ Err (record { reason = r; body = K; place = i })
   unfolding verdict verdict_on verdict_on_second verdict_on_list
   list_turned_down s t e d f = rw (e, d, f) refl
 
@@ -89,30 +89,30 @@ module _ (first second list : List ℕ) (s t : Tree) (xs : List Token) (read1 : 
 
   -- "Numbers 6 and 7 go to the first label in list order that either tree lacks."
   six_told : (n : ℕ) → IsFirstLacks S' T' labels n
-      → verdict first second list ≡ Refused (record { reason = FirstLacks; body = K; place = place_of_number xs n })
+      → verdict first second list ≡ Err (record { reason = FirstLacks; body = K; place = place_of_number xs n })
   unfolding verdict_of
   six_told n p = on_answer ∙ ap (verdict_of xs) ((first_lacks_exactly S' T' labels d1 d3 n).1 p)
 
   seven_told : (n : ℕ) → IsSecondLacks S' T' labels n
-      → verdict first second list ≡ Refused (record { reason = SecondLacks; body = K; place = place_of_number xs n })
+      → verdict first second list ≡ Err (record { reason = SecondLacks; body = K; place = place_of_number xs n })
   unfolding verdict_of
   seven_told n p = on_answer ∙ ap (verdict_of xs) ((second_lacks_exactly S' T' labels d1 d3 n).1 p)
 
   -- "Number 8 names the first such three, sorted, compared label by label."
   eight_told : (a b c : Label) → Common S' T' (set_of labels) → IsDisagreement S' T' labels a b c
-      → verdict first second list ≡ Disagree (place_of_label xs 0 a) (place_of_label xs 0 b) (place_of_label xs 0 c)
+      → verdict first second list ≡ clash_at_places (place_of_label xs 0 a) (place_of_label xs 0 b) (place_of_label xs 0 c)
   unfolding verdict_of
   eight_told a b c h p = on_answer ∙ ap (verdict_of xs) ((disagree_exactly S' T' labels d1 d3 a b c h).1 p)
 
   -- "Trees agree on a set of leaves common to both exactly if each three of the set have the same closer pair in both"
-  agreed_told : (verdict first second list ≡ Agreed) ↔ (Common S' T' (set_of labels) × Agree S' T' (set_of labels))
+  agreed_told : (verdict first second list ≡ agreed) ↔ (Common S' T' (set_of labels) × Agree S' T' (set_of labels))
   unfolding verdict_of
   agreed_told = (λ e. there (answer S' T' labels) refl (sym on_answer ∙ e), λ h. on_answer ∙ ap (verdict_of xs) (back h))
     where
       back : Common S' T' (set_of labels) × Agree S' T' (set_of labels) → answer S' T' labels ≡ largest (largest_set S' T' labels)
       back (c, a) = set_answered S' T' labels d1 d3 c (agree_no_clash S' T' (set_of labels) labels a (λ x m. m))
 
-      there : (A : Answer) → answer S' T' labels ≡ A → verdict_of xs (answer S' T' labels) ≡ Agreed
+      there : (A : Answer) → answer S' T' labels ≡ A → verdict_of xs (answer S' T' labels) ≡ agreed
           → Common S' T' (set_of labels) × Agree S' T' (set_of labels)
       there (first_lacks n) e h = absurd (let d = ap (verdict_of xs) e in let z : ◌≡◌ {A = ℕ} 0 1 = cc in omega arith)
       there (second_lacks n) e h = absurd (let d = ap (verdict_of xs) e in let z : ◌≡◌ {A = ℕ} 0 1 = cc in omega arith)
@@ -135,7 +135,7 @@ module _ (first second list : List ℕ) (s t : Tree) (xs : List Token) (read1 : 
   unfolding said_of
   eight_row a b c h p = ap said_of (eight_told a b c h p)
 
-agreed_bodies : (first second list : List ℕ) → verdict first second list ≡ Agreed
+agreed_bodies : (first second list : List ℕ) → verdict first second list ≡ agreed
     → AllRead (read_tree first) (read_tree second) (read_list list)
 unfolding verdict
 agreed_bodies first second list e = agreed_on_lem (read_tree first) (read_tree second) (read_list list) e
@@ -183,7 +183,7 @@ module _ (e : Edition) (first second list : List ℕ) where
         eight_row (in_edition e first) (in_edition e second) (in_edition e list) (folded e s) (folded e t) (folded_list e xs)
         (folded_read e first s read1) (folded_read e second t read2) (list_folded_read e list xs read3)
 
-    pub agreed_told_in : (verdict_in e first second list ≡ Agreed)
+    pub agreed_told_in : (verdict_in e first second list ≡ agreed)
         ↔ (Common (keyed e s) (keyed e t) (set_of (keys_of e xs)) × Agree (keyed e s) (keyed e t) (set_of (keys_of e xs)))
     agreed_told_in =
         agreed_told (in_edition e first) (in_edition e second) (in_edition e list) (folded e s) (folded e t) (folded_list e xs)
@@ -204,7 +204,7 @@ module _ (e : Edition) (first second list : List ℕ) where
       go (good xs) k = (xs, k)
       go (refused r i) k = let l = sym (list_folded_refused e text r i k) ∙ h in let z : ◌≡◌ {A = ℕ} 0 1 = cc in absurd (omega arith)
 
-  pub agreed_bodies_in : verdict_in e first second list ≡ Agreed → AllRead (read_tree_in e first) (read_tree_in e second) (read_list_in e list)
+  pub agreed_bodies_in : verdict_in e first second list ≡ agreed → AllRead (read_tree_in e first) (read_tree_in e second) (read_list_in e list)
   agreed_bodies_in h =
       let w = agreed_bodies (in_edition e first) (in_edition e second) (in_edition e list) h in
       let s = tree_read_lem first w.first w.read1 in

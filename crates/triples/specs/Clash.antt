@@ -1,7 +1,7 @@
 -- The first three labels with different closer pairs ("that clash"), by their ranks. 01, row 8 of "Why a job is turned down": "Number 8
 -- names the first such three, sorted, compared label by label".
-use Rattle.std.specs.Prelude.{ℕ, suc, ◌<◌, ◌≤◌, ◌≡◌, cond, List, [], ◌∷◌, length}
-use Rattle.std.proofs.Math.Option.{Option, some, none}
+use Rattle.std.specs.Prelude.{ℕ, suc, ◌<◌, ◌≡◌, cond, Option, Some, None, List, [], ◌∷◌}
+use Rattle.std.proofs.Math.Option as Math
 use Rattle.trees.specs.Label.{Label, same_label}
 use Rattle.trees.specs.Tree.{Tree, Proper}
 use Rattle.trees.specs.Arrays.{arrays_of, nodes_of}
@@ -14,11 +14,11 @@ unfoldable pub rank_of : List Label → Label → ℕ
 rank_of [] x = 0
 rank_of (y ∷ ys) x = cond (same_label x y) 0 (suc (rank_of ys x))
 
--- the ranks of three labels; if there are none, three times the number of labels
-unfoldable pub clash_ranks : List Label → Option Answer.Three → Indices
+-- the ranks of three labels
+unfoldable pub clash_ranks : List Label → Math.Option Answer.Three → Option Indices
 unfolding rank_of
-clash_ranks xs none = record { first = length xs; second = length xs; third = length xs }
-clash_ranks xs (some c) = record { first = rank_of xs c.one; second = rank_of xs c.two; third = rank_of xs c.three }
+clash_ranks xs Math.none = None
+clash_ranks xs (Math.some c) = Some (record { first = rank_of xs c.one; second = rank_of xs c.two; third = rank_of xs c.three })
 
 -- a tree by its left children, with the leaves that have the list's labels
 pub record RankedTree (t : Tree) (xs : List Label) (left : List ℕ) (nodes : ℕ) (leaf : List ℕ) : Type 0 where
@@ -28,6 +28,5 @@ pub record RankedTree (t : Tree) (xs : List Label) (left : List ℕ) (nodes : �
   pub numbered : Numbered t xs leaf
 
 -- three ranks in order, or none: what holds of the result for any arrays
-pub record Ranks (n : ℕ) (r : Indices) : Type 0 where
-  pub found : r.first < n → (r.first < r.second) × (r.second < r.third) × (r.third < n)
-  pub lacking : n ≤ r.first → r ≡ record { first = n; second = n; third = n }
+pub record Ranks (n : ℕ) (o : Option Indices) : Type 0 where
+  pub found : (r : Indices) → o ≡ Some r → (r.first < r.second) × (r.second < r.third) × (r.third < n)

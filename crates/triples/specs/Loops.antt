@@ -1,7 +1,6 @@
 -- What the loops of the test compute, over the arrays that they are lent. Intermediate: nothing public rests on this text.
-use Rattle.std.specs.Prelude.{ℕ, zero, suc, ◌+◌, ◌-◌, ◌%◌, ◌≤◌, ◌<◌, min, max, ◌≡◌, Bool, true, cond, ◌||◌, List, [], map, ltb, leb, length, get_or, Result, Ok, Err}
-use Rattle.trees.specs.declared.Reason.TheVariants.{EndsTooSoon, FirstLacks, SecondLacks}
-use Rattle.trees.specs.declared.Body.{Body}
+use Rattle.std.specs.Prelude.{ℕ, zero, suc, ◌+◌, ◌-◌, ◌%◌, ◌≤◌, ◌<◌, min, max, ◌≡◌, Bool, true, cond, ◌||◌, List, [], map, ltb, leb, length, get_or, Option, Some, None, Result, Ok, Err}
+use Rattle.trees.specs.declared.Reason.TheVariants.{FirstLacks, SecondLacks}
 use Rattle.trees.specs.declared.Body.TheVariants.{K}
 use Rattle.trees.specs.declared.Refusal.{Refusal}
 use Rattle.trees.specs.declared.TreeArrays.{TreeArrays}
@@ -15,9 +14,7 @@ use Rattle.lists.specs.declared.LabelPlaces.{LabelPlaces}
 use Rattle.lists.specs.ReadList.{joined, places_of, list_limit}
 use Rattle.agreement.specs.Answer.{differ, clashing}
 use Rattle.leaves.specs.Find.{leaf_from, found_leaf}
-use Rattle.triples.specs.declared.Agreement.{Agreement}
 use Rattle.triples.specs.declared.Indices.{Indices}
-use Rattle.triples.specs.declared.Agreement.TheVariants.{Agreed, Disagree, Refused}
 
 -- the label that token k of a list's text decodes to
 unfoldable pub label_in : List ℕ → List ℕ → List ℕ → ℕ → Label
@@ -44,13 +41,13 @@ LeavesFound text tree f n leaf =
     (k : ℕ) → k < n → get_or leaf k 0 ≡ found_leaf text tree.left tree.start tree.size (f k) tree.nodes
 
 -- the first of the n labels from k on whose leaf number in one of the trees is that of no node
-unfoldable pub lack_from : List ℕ → ℕ → List ℕ → ℕ → List ℕ → ℕ → ℕ → Agreement
-lack_from leaf1 nodes1 leaf2 nodes2 start zero k = Agreed
+unfoldable pub lack_from : List ℕ → ℕ → List ℕ → ℕ → List ℕ → ℕ → ℕ → Result (Prim.Unit {0}) Refusal
+lack_from leaf1 nodes1 leaf2 nodes2 start zero k = Ok (Prim.tt {0})
 lack_from leaf1 nodes1 leaf2 nodes2 start (suc n) k =
     cond (ltb (get_or leaf1 k 0) nodes1)
     (cond (ltb (get_or leaf2 k 0) nodes2) (lack_from leaf1 nodes1 leaf2 nodes2 start n (suc k))
-    (Refused (record { reason = SecondLacks; body = K; place = get_or start k 0 })))
-    (Refused (record { reason = FirstLacks; body = K; place = get_or start k 0 }))
+    (Err (record { reason = SecondLacks; body = K; place = get_or start k 0 })))
+    (Err (record { reason = FirstLacks; body = K; place = get_or start k 0 }))
 
 -- the number of the first node below node u: a leaf's own, else that of the left child
 abbrev pub LowAt : List ℕ → List ℕ → ℕ → Type 0
@@ -97,31 +94,30 @@ unfoldable pub second_of : (ℕ → ℕ → Bool) → ℕ → ℕ → ℕ
 unfolding leaf_from third_of
 second_of clash count i = leaf_from (λ j. ltb (third_of clash count j) count) (count - (i + 1)) (i + 1)
 
+-- a number, where it is below n
+abbrev pub below : ℕ → ℕ → Option ℕ
+below n r = cond (ltb r n) (Some r) None
+
+-- the first clash of which rank i is the first
+unfoldable pub three_of : (ℕ → ℕ → Bool) → ℕ → ℕ → Option Indices
+unfolding second_of third_of
+three_of clash count i =
+    cond (ltb (second_of clash count i) count)
+    (Some (record { first = i; second = second_of clash count i; third = third_of clash count (second_of clash count i) }))
+    None
+
 unfoldable pub first_of : (ℕ → ℕ → ℕ → Bool) → ℕ → ℕ
 unfolding leaf_from second_of
 first_of clash count = leaf_from (λ i. ltb (second_of (clash i) count i) count) (count - 0) 0
 
--- the verdict on three ranks: the places of their labels, if there are three
-unfoldable pub told_of : List ℕ → List ℕ → ℕ → Indices → Agreement
-told_of order start count r =
-    cond (ltb r.first count)
-    (Disagree (get_or start (get_or order r.first 0) 0) (get_or start (get_or order r.second 0) 0)
-    (get_or start (get_or order r.third 0) 0))
-    Agreed
-
--- The refusal in a reader's answer. An answer without one does not occur here, and is refused too.
-unfoldable pub unread_body : Body → Agreement
-unread_body body = Refused (record { reason = EndsTooSoon; body = body; place = 0 })
-
-unfoldable pub tree_refusal : Result ℕ Refusal → Body → Agreement
-unfolding unread_body
-tree_refusal (Ok n) body = unread_body body
-tree_refusal (Err r) body = Refused r
-
-unfoldable pub list_refusal : Result ℕ Refusal → Agreement
-unfolding unread_body
-list_refusal (Ok n) = unread_body K
-list_refusal (Err r) = Refused r
+-- the places of three labels by their ranks, if there are three
+unfoldable pub told_of : List ℕ → List ℕ → Option Indices → Option Indices
+told_of order start None = None
+told_of order start (Some r) = Some (record {
+  first = get_or start (get_or order r.first 0) 0;
+  second = get_or start (get_or order r.second 0) 0;
+  third = get_or start (get_or order r.third 0) 0;
+})
 
 -- two trees and a list of tokens as the readers return them
 pub record AsRead (s t : Tree) (xs : List Token) (first second list : List ℕ) (one two : TreeArrays) (places : LabelPlaces) : Type 0 where

@@ -18,11 +18,8 @@ pub(crate) fn lows(left: &[u8; 159], nodes: usize) -> [usize; 159]
     ensures { (u : ℕ) → u < nodes → LowAt left.now result u }
 {
     let mut low = [0usize; 159];
-    let mut u: usize = 0;
-    while u < nodes {
-        let first = low_at(left, &low, u);
-        low[u] = first;
-        u += 1;
+    for u in 0..nodes {
+        low[u] = low_at(left, &low, u);
     }
     low
 }
@@ -42,9 +39,7 @@ fn ancestors_after(low: &[usize; 159], nodes: usize, u: usize) -> [u8; 159]
 {
     let mut at = [0u8; 159];
     let mut nearest = nodes;
-    let mut w = nodes;
-    while u < w {
-        w -= 1;
+    for w in (u..nodes).rev() {
         nearest = nearer(low, u, w, nearest);
         at[w] = trees::narrow(nearest);
     }
@@ -56,14 +51,12 @@ fn next_spanning(low: &[usize; 159], nodes: usize, w: usize, v: usize) -> usize
     requires { nodes ≤ 159 }
     ensures { result ≡ span_from low.now v nodes w }
 {
-    let mut k = w;
-    while k < nodes {
+    for k in w..nodes {
         if low[k] <= v {
             return k;
         }
-        k += 1;
     }
-    k
+    w.max(nodes)
 }
 
 // The least common ancestor of leaf u and each node before u. It only moves up as that node goes down.
@@ -73,9 +66,7 @@ fn ancestors_before(low: &[usize; 159], nodes: usize, u: usize) -> [u8; 159]
 {
     let mut at = [0u8; 159];
     let mut w = u;
-    let mut v = u;
-    while 0 < v {
-        v -= 1;
+    for v in (0..u).rev() {
         w = next_spanning(low, nodes, w, v);
         at[v] = trees::narrow(w);
     }
@@ -90,14 +81,13 @@ fn on_side(before: &[u8; 159], after: &[u8; 159], u: usize, v: usize) -> u8
     if v < u { before[v] } else { after[v] }
 }
 
-// The number of the leaf of rank r; 0 where the array has no number of a node.
+// The number of the leaf of rank r; the last node's where the array has no number of a node.
 fn leaf_of(leaf: &[usize; 80], r: usize) -> usize
     requires { r < 80 }
     ensures upper_bound { result < 159 }
     ensures value { get_or leaf.now r 0 < 159 → result ≡ get_or leaf.now r 0 }
 {
-    let u = leaf[r];
-    if u < 159 { u } else { 0 }
+    leaf[r].min(158)
 }
 
 // The least common ancestors of the leaf of rank i and the leaf of each rank.
@@ -115,11 +105,8 @@ pub(crate) fn lca_row(
     let before = ancestors_before(low, nodes, u);
     let after = ancestors_after(low, nodes, u);
     let mut row = [0u8; 80];
-    let mut q: usize = 0;
-    while q < count {
-        let v = leaf_of(leaf, q);
-        row[q] = on_side(&before, &after, u, v);
-        q += 1;
+    for q in 0..count {
+        row[q] = on_side(&before, &after, u, leaf_of(leaf, q));
     }
     row
 }

@@ -2,28 +2,16 @@
 //
 // Of three leaves the two least common ancestors with the first tell the closer pair: the nearer one's, or the other two's where they
 // are the same. So the trees differ exactly if these two numbers are ordered otherwise.
-ghost use Rattle.std.specs.Prelude.{◌≡◌, Bool, ◌||◌, ℕ, ◌<◌, ◌≤◌, ltb};
-ghost use Rattle.agreement.specs.Answer.{differ};
-ghost use Rattle.triples.specs.Loops.{apart_of, Tells, third_of, second_of};
+ghost use Rattle.std.specs.Prelude.{◌≡◌, Bool, ℕ, ◌<◌, ◌≤◌, ltb, Some};
+ghost use Rattle.triples.specs.Loops.{apart_of, Tells, below, third_of, second_of, three_of};
 
-// One tree has the first number below the second, and the other tree has not.
-fn differs(a1: u8, b1: u8, a2: u8, b2: u8) -> bool
-    ensures { result ≡ differ (ltb a1 b1) (ltb a2 b2) }
-{
-    if a1 < b1 { !(a2 < b2) } else { a2 < b2 }
-}
-
-fn either(a: bool, b: bool) -> bool
-    ensures { result ≡ (a || b) }
-{
-    if a { true } else { b }
-}
+use crate::Indices;
 
 // Two numbers are not ordered in one tree as in the other.
 fn apart(x1: u8, y1: u8, x2: u8, y2: u8) -> bool
     ensures { result ≡ apart_of x1 y1 x2 y2 }
 {
-    either(differs(x1, y1, x2, y2), differs(y1, x1, y2, x2))
+    ((x1 < y1) != (x2 < y2)) | ((y1 < x1) != (y2 < x2))
 }
 
 // Whether some rank past j clashes with j: every rank is looked at, so that many are at one time.
@@ -32,47 +20,58 @@ fn any_apart(row1: &[u8; 80], row2: &[u8; 80], count: usize, j: usize) -> bool
     ensures { (clash : ℕ → ℕ → Bool) (i : ℕ) → i < j → Tells clash i count row1.now row2.now
         → result ≡ ltb (third_of clash count j) count }
 {
-    let x1 = row1[j];
-    let x2 = row2[j];
     let mut found = false;
-    let mut k = j + 1;
-    while k < count {
-        found = either(found, apart(x1, row1[k], x2, row2[k]));
-        k += 1;
+    for k in j + 1..count {
+        found |= apart(row1[j], row1[k], row2[j], row2[k]);
     }
     found
 }
 
-// The first rank past j that clashes with j, or `count`.
-pub(crate) fn third(row1: &[u8; 80], row2: &[u8; 80], count: usize, j: usize) -> usize
+// The first rank past j that clashes with j.
+fn third(row1: &[u8; 80], row2: &[u8; 80], count: usize, j: usize) -> Option<usize>
     requires { (count ≤ 80) × (j < count) }
     ensures { (clash : ℕ → ℕ → Bool) (i : ℕ) → i < j → Tells clash i count row1.now row2.now
-        → result ≡ third_of clash count j }
+        → result ≡ below count (third_of clash count j) }
 {
-    let x1 = row1[j];
-    let x2 = row2[j];
-    let mut k = j + 1;
-    while k < count {
-        if apart(x1, row1[k], x2, row2[k]) {
-            return k;
+    for k in j + 1..count {
+        if apart(row1[j], row1[k], row2[j], row2[k]) {
+            return Some(k);
         }
-        k += 1;
     }
-    k
+    None
 }
 
-// The first rank past i that begins a clash with i, or `count`.
-pub(crate) fn second(row1: &[u8; 80], row2: &[u8; 80], count: usize, i: usize) -> usize
+// The first rank past i that begins a clash with i.
+fn second(row1: &[u8; 80], row2: &[u8; 80], count: usize, i: usize) -> Option<usize>
+    requires { (count ≤ 80) × (i < count) }
+    ensures below_count { (j : ℕ) → result ≡ Some j → j < count }
+    ensures value { (clash : ℕ → ℕ → Bool) → Tells clash i count row1.now row2.now
+        → result ≡ below count (second_of clash count i) }
+{
+    for j in i + 1..count {
+        if any_apart(row1, row2, count, j) {
+            return Some(j);
+        }
+    }
+    None
+}
+
+// The first three ranks that clash, of which rank i is the first.
+pub(crate) fn clash_with(
+    row1: &[u8; 80],
+    row2: &[u8; 80],
+    count: usize,
+    i: usize,
+) -> Option<Indices>
     requires { (count ≤ 80) × (i < count) }
     ensures { (clash : ℕ → ℕ → Bool) → Tells clash i count row1.now row2.now
-        → result ≡ second_of clash count i }
+        → result ≡ three_of clash count i }
 {
-    let mut j = i + 1;
-    while j < count {
-        if any_apart(row1, row2, count, j) {
-            return j;
-        }
-        j += 1;
-    }
-    j
+    let j = second(row1, row2, count, i)?;
+    let k = third(row1, row2, count, j)?;
+    Some(Indices {
+        first: i,
+        second: j,
+        third: k,
+    })
 }

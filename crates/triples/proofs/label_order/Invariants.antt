@@ -1,5 +1,5 @@
 -- The invariant: each label passed has a label of its rank stored at its rank. Assumes nothing.
-use Prim.Native.Nat.{ℕ, ◌≤◌, ◌<◌, ◌-◌}
+use Prim.Native.Nat.{ℕ, ◌<◌}
 use mathlib.Core.Path.{◌≡◌}
 use lib.ListN.{length, get_or}
 use Rattle.trees.specs.Edition.{in_edition}
@@ -7,7 +7,4 @@ use Rattle.triples.specs.Loops.{rank_in, InOrder}
 use Rattle.triples.proofs.label_order.Given as goal
 
 abbrev pub invariant-loop-k : goal.invariant-loop-k
-invariant-loop-k l = (l.k ≤ l.count) × (length l.order ≡ 80) × ((i : ℕ) → get_or l.order i 0 < 80) × InOrder (rank_in (in_edition l.edition l.list) l.start l.size l.count) l.count l.k l.order
-
-abbrev pub decreases-loop-k : goal.decreases-loop-k
-decreases-loop-k l = l.count - l.k
+invariant-loop-k l = (length l.order ≡ 80) × ((i : ℕ) → get_or l.order i 0 < 80) × InOrder (rank_in (in_edition l.edition l.list) l.places.start l.places.size l.places.count) l.places.count l.k l.order

@@ -17,10 +17,10 @@ unfolding label_in
 loop-k-preserved c =
     let l = c.loop-k.invariant.0 in let a = c.args in let text = in_edition a.edition a.text.now in
     let told = c.unwrap_or.ensures ∙ ap₂ unwrap_or c.find_leaf.ensures c.min-end.ensures
-    ∙ found_number text a.tree.left a.tree.start a.tree.size (key a.edition c.leaf_label-token.result.now) a.tree.nodes in (
+    ∙ found_number text a.tree.now.left a.tree.now.start a.tree.now.size (key a.edition c.leaf_label-token.result.now) a.tree.now.nodes in (
       simp length-set l,
-      store_next (λ i x. x ≡ found_leaf text a.tree.left a.tree.start a.tree.size
-          (label_in (in_edition a.edition a.list.now) a.places.start a.places.size i) a.tree.nodes) c.loop-k.leaf c.loop-k.k _ (omega
-          (arith, l)) c.loop-k.invariant.1 (told ∙ ap (λ (p : Token). found_leaf text a.tree.left
-          a.tree.start a.tree.size (spelling p) a.tree.nodes) (ap (in_edition a.edition) c.leaf_label-token.ensures ∙ sym (fold_part a.edition _ _ a.list.now))),
+      store_next (λ i x. x ≡ found_leaf text a.tree.now.left a.tree.now.start a.tree.now.size
+          (label_in (in_edition a.edition a.list.now) a.places.now.start a.places.now.size i) a.tree.now.nodes) c.loop-k.leaf c.loop-k.k _ (omega
+          (arith, l)) c.loop-k.invariant.1 (told ∙ ap (λ (p : Token). found_leaf text a.tree.now.left
+          a.tree.now.start a.tree.now.size (spelling p) a.tree.now.nodes) (ap (in_edition a.edition) c.leaf_label-token.ensures ∙ sym (fold_part a.edition _ _ a.list.now))),
     )

@@ -1,11 +1,8 @@
 -- The invariant: each rank passed has its leaf. Assumes nothing.
-use Prim.Native.Nat.{ℕ, ◌≤◌, ◌<◌, ◌-◌}
+use Prim.Native.Nat.{ℕ, ◌<◌}
 use mathlib.Core.Path.{◌≡◌}
 use lib.ListN.{length, get_or}
 use Rattle.triples.proofs.ranked.Given as goal
 
 abbrev pub invariant-loop-i : goal.invariant-loop-i
-invariant-loop-i l = (l.i ≤ l.count) × (length l.by_rank ≡ 80) × ((r : ℕ) → r < l.i → get_or l.by_rank r 0 ≡ get_or l.leaf (get_or l.order r 0) 0)
-
-abbrev pub decreases-loop-i : goal.decreases-loop-i
-decreases-loop-i l = l.count - l.i
+invariant-loop-i l = (length l.by_rank ≡ 80) × ((r : ℕ) → r < l.i → get_or l.by_rank r 0 ≡ get_or l.leaf (get_or l.order r 0) 0)

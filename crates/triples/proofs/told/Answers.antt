@@ -1,15 +1,12 @@
--- By the test; the three ranks are in order, so that all have an entry. Assumes nothing.
-use mathlib.Core.Path.{refl}
-use borrow.Author.Tests.{lt-ltb, le-ltb}
+-- By cases on the three ranks, which are in order, so that all have an entry. Assumes nothing.
+use Rattle.std.proofs.Common.{refl}
 use Rattle.triples.specs.Loops.{told_of}
 use Rattle.triples.proofs.told.Goals as goal
 
-pub returns-then-count-i : goal.returns-then-count-i
+pub returns-in_err-three : goal.returns-in_err-three
 unfolding told_of
-returns-then-count-i c =
-    rw (le-ltb _ _ c.if-count-i.true) refl
+returns-in_err-three c = rw c.in_err-three.was c.from_residual.ensures
 
 pub returns : goal.returns
 unfolding told_of
-returns c =
-    rw (lt-ltb _ _ c.if-count-i.false, c.place_entry.ensures, c.place_entry-2.ensures, c.place_entry-3.ensures) refl
+returns c = rw (c.in_ok-three.was, c.place_entry.ensures, c.place_entry-2.ensures, c.place_entry-3.ensures) refl

@@ -9,16 +9,15 @@ use Rattle.triples.proofs.ancestors.ancestors_after.Goals as goal
 
 pub loop-w-init : goal.loop-w-init
 loop-w-init c =
-    (omega arith, simp length-replicate, sym (span_end _ _ _ _ (omega arith)), λ v h k. absurd (omega arith))
+    (simp length-replicate, sym (span_end _ _ _ _ (omega arith)), λ v h k. absurd (omega arith))
 
 pub loop-w-preserved : goal.loop-w-preserved
 loop-w-preserved c =
     let i = c.loop-w.invariant in let w = c.loop-w.w - 1 in
     let e : c.loop-w.w ≡ w + 1 = omega arith in
-    let a = c.args in let n = c.nearer-nearest.ensures ∙ span_down _ _ _ w _ (omega arith) (i.2 ∙ ap (span_from a.low.now a.u a.nodes) e) in (
-      omega arith,
-      simp length-set i.1,
+    let a = c.args in let n = c.nearer-nearest.ensures ∙ span_down _ _ _ w _ (omega arith) (i.1 ∙ ap (span_from a.low.now a.u a.nodes) e) in (
+      simp length-set i.0,
       n,
-      store_down (λ v x. x ≡ span_from a.low.now a.u a.nodes v % 256) c.loop-w.at a.nodes w _ (omega (arith, i.1))
-          (λ v h k. i.3 v (omega arith) k) (c.narrow.ensures ∙ ap (λ (z : ℕ). z % 256) n),
+      store_down (λ v x. x ≡ span_from a.low.now a.u a.nodes v % 256) c.loop-w.at a.nodes w _ (omega (arith, i.0))
+          (λ v h k. i.2 v (omega arith) k) (c.narrow.ensures ∙ ap (λ (z : ℕ). z % 256) n),
     )

@@ -6,8 +6,5 @@ use Rattle.triples.specs.Loops.{span_from}
 use Rattle.triples.proofs.ancestors.ancestors_after.Given as goal
 
 abbrev pub invariant-loop-w : goal.invariant-loop-w
-invariant-loop-w l = (l.w ≤ l.nodes) × (length l.at ≡ 159) × (l.nearest ≡ span_from l.low l.u l.nodes l.w)
+invariant-loop-w l = (length l.at ≡ 159) × (l.nearest ≡ span_from l.low l.u l.nodes l.w)
     × ((v : ℕ) → l.w ≤ v → v < l.nodes → get_or l.at v 0 ≡ span_from l.low l.u l.nodes v % 256)
-
-abbrev pub decreases-loop-w : goal.decreases-loop-w
-decreases-loop-w l = l.w

@@ -11,9 +11,8 @@ pub loop-v-preserved : goal.loop-v-preserved
 loop-v-preserved c =
     let i = c.loop-v.invariant in let v = c.loop-v.v - 1 in
     let s = c.args in let n = c.next_spanning-w.ensures in (
-      omega arith,
-      simp length-set i.1,
-      λ a h. ap (span_from s.low.now a s.nodes) n ∙ span_skip s.low.now a v s.nodes c.loop-v.w (omega arith) ∙ i.2 a (omega arith),
-      store_down (λ a x. x ≡ span_from s.low.now a s.nodes s.u % 256) c.loop-v.at s.u v _ (omega (arith, i.1))
-          (λ a h k. i.3 a (omega arith) k) (c.narrow.ensures ∙ ap (λ (z : ℕ). z % 256) (n ∙ i.2 v (omega arith))),
+      simp length-set i.0,
+      λ a h. ap (span_from s.low.now a s.nodes) n ∙ span_skip s.low.now a v s.nodes c.loop-v.w (omega arith) ∙ i.1 a (omega arith),
+      store_down (λ a x. x ≡ span_from s.low.now a s.nodes s.u % 256) c.loop-v.at s.u v _ (omega (arith, i.0))
+          (λ a h k. i.2 a (omega arith) k) (c.narrow.ensures ∙ ap (λ (z : ℕ). z % 256) (n ∙ i.1 v (omega arith))),
     )

@@ -6,8 +6,5 @@ use Rattle.triples.specs.Loops.{span_from}
 use Rattle.triples.proofs.ancestors.ancestors_before.Given as goal
 
 abbrev pub invariant-loop-v : goal.invariant-loop-v
-invariant-loop-v l = (l.v ≤ l.u) × (length l.at ≡ 159) × ((a : ℕ) → a < l.v → span_from l.low a l.nodes l.w ≡ span_from l.low a l.nodes l.u)
+invariant-loop-v l = (length l.at ≡ 159) × ((a : ℕ) → a < l.v → span_from l.low a l.nodes l.w ≡ span_from l.low a l.nodes l.u)
     × ((a : ℕ) → l.v ≤ a → a < l.u → get_or l.at a 0 ≡ span_from l.low a l.nodes l.u % 256)
-
-abbrev pub decreases-loop-v : goal.decreases-loop-v
-decreases-loop-v l = l.v

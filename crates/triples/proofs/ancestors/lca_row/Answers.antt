@@ -11,15 +11,14 @@ use Rattle.triples.proofs.ancestors.lca_row.Goals as goal
 pub loop-q-preserved : goal.loop-q-preserved
 loop-q-preserved c =
     let v = c.loop-q.invariant in let s = c.args in let q = c.loop-q.q in (
-      omega arith,
-      simp length-set v.1,
+      simp length-set v.0,
       store_next
           (λ k x. get_or s.leaf.now s.i 0 < s.nodes → get_or s.leaf.now k 0 < s.nodes
           → x ≡ lca_number s.low.now s.nodes (get_or s.leaf.now s.i 0) (get_or s.leaf.now k 0) % 256)
-          c.loop-q.row q _ (omega (arith, v.1)) v.2
+          c.loop-q.row q _ (omega (arith, v.0)) v.1
           (λ h k.
           let a = c.leaf_of-u.ensures.value (omega arith) in
-          let b = c.leaf_of-v.ensures.value (omega arith) in
+          let b = c.leaf_of.ensures.value (omega arith) in
           c.on_side.ensures
           ∙ on_side_is s.low.now c.ancestors_before-before.result c.ancestors_after-after.result s.nodes _ _ c.ancestors_before-before.ensures c.ancestors_after-after.ensures (omega arith)
           ∙ ap₂ (λ (x y : ℕ). lca_number s.low.now s.nodes x y % 256) a b),

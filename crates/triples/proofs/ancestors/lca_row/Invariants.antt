@@ -1,12 +1,8 @@
 -- The invariant: each rank passed has its number, by the side of u that its leaf is on. Assumes nothing.
 use Rattle.triples.specs.Loops.{LcaRow}
-use Prim.Native.Nat.{◌≤◌, ◌-◌}
 use mathlib.Core.Path.{◌≡◌}
 use lib.ListN.{length}
 use Rattle.triples.proofs.ancestors.lca_row.Given as goal
 
 abbrev pub invariant-loop-q : goal.invariant-loop-q
-invariant-loop-q l = (l.q ≤ l.count) × (length l.row ≡ 80) × LcaRow l.low l.nodes l.leaf l.q l.i l.row
-
-abbrev pub decreases-loop-q : goal.decreases-loop-q
-decreases-loop-q l = l.count - l.q
+invariant-loop-q l = (length l.row ≡ 80) × LcaRow l.low l.nodes l.leaf l.q l.i l.row

@@ -1,12 +1,9 @@
 -- The invariant: each node passed has the number of the first node below it. Assumes nothing.
-use Prim.Native.Nat.{ℕ, ◌≤◌, ◌<◌, ◌-◌}
+use Prim.Native.Nat.{ℕ, ◌<◌}
 use mathlib.Core.Path.{◌≡◌}
 use lib.ListN.{length}
 use Rattle.triples.specs.Loops.{LowAt}
 use Rattle.triples.proofs.ancestors.lows.Given as goal
 
 abbrev pub invariant-loop-u : goal.invariant-loop-u
-invariant-loop-u l = (l.u ≤ l.nodes) × (length l.low ≡ 159) × ((v : ℕ) → v < l.u → LowAt l.left l.low v)
-
-abbrev pub decreases-loop-u : goal.decreases-loop-u
-decreases-loop-u l = l.nodes - l.u
+invariant-loop-u l = (length l.low ≡ 159) × ((v : ℕ) → v < l.u → LowAt l.left l.low v)
