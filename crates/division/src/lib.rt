@@ -19,7 +19,7 @@ use lists::LabelPlaces;
 use pairs::{CommonOrder, rank_leaves};
 use places::{ITEMS, PieceList, pieces_of};
 use table::RANKS;
-use trees::{Edition, LEAF_LIMIT, NODE_LIMIT, TreeArrays, least, wide};
+use trees::{Edition, LEAF_LIMIT, NODE_LIMIT, TreeArrays};
 
 // Where the labels of all `at` lines are in the first tree's text, one after the other: on each line the required label, if there is one, which
 // `head` marks, then the leaves that hang there. The first `count` entries count.
@@ -35,8 +35,8 @@ pub struct PiecePlaces {
 fn leaf_of(order1: &[u8; LEAF_LIMIT], rank: u8) -> usize
     ensures { result ≡ leaf_of_rank order1.now rank }
 {
-    let r = least(wide(rank), LEAF_LIMIT - 1);
-    least(wide(order1[r]), NODE_LIMIT - 1)
+    let r = usize::from(rank).min(LEAF_LIMIT - 1);
+    usize::from(order1[r]).min(NODE_LIMIT - 1)
 }
 
 // Where the leaves with these ranks are in the first tree's text.
@@ -53,12 +53,10 @@ fn places_at(
     let head = list.head;
     let mut start = [0u16; ITEMS];
     let mut size = [0u8; ITEMS];
-    let mut i: usize = 0;
-    while i < list.count {
+    for i in 0..list.count {
         let u = leaf_of(order1, ranks[i]);
         start[i] = start1[u];
         size[i] = size1[u];
-        i += 1;
     }
     PiecePlaces {
         count: list.count,

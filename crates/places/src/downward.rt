@@ -16,46 +16,35 @@ pub(crate) struct Down {
     pub top: [u8; NODE_LIMIT],
 }
 
-// The difference, 0 if it would be less.
-fn minus(n: usize, d: usize) -> usize
-    ensures { result ≡ n - d }
-{
-    if n < d { 0 } else { n - d }
-}
-
 // The number of the root's place: `count` required leaves have 2 * count - 1 places.
 fn root_number(count: usize) -> u8
     ensures { result ≡ 2 * min count 80 - 2 }
 {
-    trees::narrow(minus(2 * trees::least(count, LEAF_LIMIT), 2))
+    trees::narrow((2 * count.min(LEAF_LIMIT)).saturating_sub(2))
 }
 
 // The number of a child with p required leaves and this least rank, whose sibling has q and the other. The child with the greater least
 // rank comes right before its parent.
+#[tactic(auto, unfolding(crate::specs::Nodes::child_number))]
 fn number_below(p: u8, q: u8, least: u8, other: u8, n: u8) -> u8
     ensures { result ≡ child_number p q least other n }
 {
-    if p == 0 {
+    if p == 0 || q == 0 {
         return n;
     }
-    if q == 0 {
-        return n;
-    }
-    let up = trees::wide(n);
+    let up = usize::from(n);
     if least < other {
-        return trees::narrow(minus(up, 2 * trees::wide(q)));
+        return trees::narrow(up.saturating_sub(2 * usize::from(q)));
     }
-    trees::narrow(minus(up, 1))
+    trees::narrow(up.saturating_sub(1))
 }
 
 // The head of that child's place.
+#[tactic(auto, unfolding(crate::specs::Nodes::child_top))]
 fn top_below(p: u8, q: u8, least: u8, top: u8) -> u8
     ensures { result ≡ child_top p q least top }
 {
-    if p == 0 {
-        return top;
-    }
-    if q == 0 {
+    if p == 0 || q == 0 {
         return top;
     }
     least
@@ -113,14 +102,12 @@ pub(crate) fn numbers_of(
     ensures { (t : Tree) (C K : List Label) (rank : List ℕ) (m : ℕ) (ks : List ℕ) → TreeRanks t C K tree rank m ks
         → BelowIs t C K (nodes_of t) many.now least.now → count ≡ length K → LeafNumbers t C K result.number result.top }
 {
-    let nodes = trees::least(tree.nodes, NODE_LIMIT);
+    let nodes = tree.nodes.min(NODE_LIMIT);
     let mut number = [root_number(count); NODE_LIMIT];
-    let mut top = [least[minus(nodes, 1)]; NODE_LIMIT];
-    let mut u: usize = nodes;
-    while 0 < u {
-        u -= 1;
-        let a = trees::wide(tree.left[u]);
-        let b = trees::wide(tree.right[u]);
+    let mut top = [least[nodes.saturating_sub(1)]; NODE_LIMIT];
+    for u in (0..nodes).rev() {
+        let a = usize::from(tree.left[u]);
+        let b = usize::from(tree.right[u]);
         pass_on(many, least, a, b, u, &mut number, &mut top);
     }
     Down { number, top }

@@ -98,7 +98,7 @@ pub fn pieces_of(
         → Agree s t (set_of K) → PieceRanks s t K result.count result.rank result.head }
     ensures count_bound { result.count ≤ 159 }
 {
-    let n = trees::least(m, LEAF_LIMIT);
+    let n = m.min(LEAF_LIMIT);
     let first = tree_lines(tree1, rank1, n, number, count);
     let second = tree_lines(tree2, rank2, n, number, count);
     let line1 = first.line;

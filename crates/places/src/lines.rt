@@ -32,7 +32,7 @@ fn put_value(a: usize, b: usize, u: usize, rank: usize, value: u8, out: &mut [u8
     if is_inner(a, b, u) {
         return;
     }
-    let r = trees::least(rank, LEAF_LIMIT);
+    let r = rank.min(LEAF_LIMIT);
     out[r] = value;
 }
 
@@ -45,31 +45,27 @@ pub(crate) fn by_rank(
     ensures { (t : Tree) (C K : List Label) (m : ℕ) (ks : List ℕ) → TreeRanks t C K tree rank.now m ks
         → ValuesByRank t C (nodes_of t) values.now result }
 {
-    let nodes = trees::least(tree.nodes, NODE_LIMIT);
+    let nodes = tree.nodes.min(NODE_LIMIT);
     let mut out = [0u8; RANKS];
-    let mut u: usize = 0;
-    while u < nodes {
-        let a = trees::wide(tree.left[u]);
-        let b = trees::wide(tree.right[u]);
-        let r = trees::wide(rank[u]);
+    for u in 0..nodes {
+        let a = usize::from(tree.left[u]);
+        let b = usize::from(tree.right[u]);
+        let r = usize::from(rank[u]);
         put_value(a, b, u, r, values[u], &mut out);
-        u += 1;
     }
     out
 }
 
 // The line of a label with this number in the required list, 0 for none, and these numbers of its place in both trees.
+#[tactic(auto, unfolding(crate::specs::Nodes::line_at))]
 fn line_at(number: u8, one: u8, two: u8) -> usize
     ensures value { result ≡ line_at number one two }
     ensures upper_bound { result ≤ 159 }
 {
-    if number != 0 {
+    if number != 0 || one != two {
         return NO_LINE;
     }
-    if one != two {
-        return NO_LINE;
-    }
-    trees::least(trees::wide(one), NO_LINE)
+    usize::from(one).min(NO_LINE)
 }
 
 // The label of rank r is put on line j, whose head is `top`.
@@ -95,11 +91,9 @@ pub(crate) fn lines_of(
 {
     let mut line = [0u8; RANKS];
     let mut heads = [NO_LEAF; LINES];
-    let mut r: usize = 0;
-    while r < m {
+    for r in 0..m {
         let j = line_at(number[r], one[r], two[r]);
         put_line(r, j, tops[r], &mut line, &mut heads);
-        r += 1;
     }
     RankLines { line, heads }
 }

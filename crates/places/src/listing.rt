@@ -40,7 +40,7 @@ fn list_leaf(
         → ListHolds result ranks.new heads.new
         (L ++ cond (eqb (get_or line.now r 0) j) (record { rank = r; head = false } ∷ []) []) }
 {
-    if trees::wide(line[r]) != j {
+    if usize::from(line[r]) != j {
         return count;
     }
     list_item(trees::narrow(r), false, count, ranks, heads)
@@ -60,10 +60,8 @@ fn list_leaves(
         → ListHolds result ranks.new heads.new (L ++ leaf_marks line.now j m) }
 {
     let mut count = start;
-    let mut r: usize = 0;
-    while r < m {
+    for r in 0..m {
         count = list_leaf(line, j, r, count, ranks, heads);
-        r += 1;
     }
     count
 }
@@ -85,7 +83,7 @@ fn list_line(
     if top == NO_LEAF {
         return count;
     }
-    if LEAF_LIMIT <= trees::wide(top) {
+    if LEAF_LIMIT <= usize::from(top) {
         return list_leaves(line, m, j, count, ranks, heads);
     }
     let next = list_item(top, true, count, ranks, heads);
@@ -100,10 +98,8 @@ pub(crate) fn list_lines(line: &[u8; RANKS], tops: &[u8; LINES], m: usize) -> Pi
     let mut rank = [0u8; ITEMS];
     let mut head = [false; ITEMS];
     let mut count: usize = 0;
-    let mut j: usize = 0;
-    while j < NODE_LIMIT {
+    for j in 0..NODE_LIMIT {
         count = list_line(line, m, j, tops[j], count, &mut rank, &mut head);
-        j += 1;
     }
     PieceList { count, rank, head }
 }

@@ -21,31 +21,27 @@ pub(crate) fn is_inner(a: usize, b: usize, u: usize) -> bool
     ensures value { result ≡ is_inner a b u }
     ensures a_lt_u { result ≡ true → (a < u) × (b < u) }
 {
-    if u <= a {
-        return false;
-    }
-    b < u
+    a < u && b < u
 }
 
 // Whether the label of this rank is required. Ranks from m on are of labels that are not common.
+#[tactic(auto, unfolding(crate::specs::Nodes::required_at))]
 fn is_required(number: &[u8; RANKS], rank: usize, m: usize) -> bool
     requires { m ≤ 80 }
     ensures { result ≡ required_at number.now rank m }
 {
-    if m <= rank {
-        return false;
-    }
-    number[rank] != 0
+    rank < m && number[rank] != 0
 }
 
 // As a function of bytes the sum stays in range.
 fn sum_of(p: u8, q: u8) -> usize
     ensures { result ≡ p + q }
 {
-    trees::wide(p) + trees::wide(q)
+    usize::from(p) + usize::from(q)
 }
 
 // The required leaves below node u.
+#[tactic(auto, unfolding(crate::specs::Nodes::many_at))]
 fn many_at(many: &[u8; NODE_LIMIT], a: usize, b: usize, u: usize, required: bool) -> usize
     requires { u < 159 }
     ensures { result ≡ many_at many.now a b u required }
@@ -57,6 +53,7 @@ fn many_at(many: &[u8; NODE_LIMIT], a: usize, b: usize, u: usize, required: bool
 }
 
 // The least of their ranks; `rank` is that of a leaf.
+#[tactic(auto, unfolding(crate::specs::Nodes::least_rank_at))]
 fn least_rank_at(
     least: &[u8; NODE_LIMIT],
     a: usize,
@@ -69,7 +66,7 @@ fn least_rank_at(
     ensures { result ≡ least_rank_at least.now a b u required rank }
 {
     if is_inner(a, b, u) {
-        return trees::least(trees::wide(least[a]), trees::wide(least[b]));
+        return usize::from(least[a]).min(usize::from(least[b]));
     }
     if required { rank } else { LEAF_LIMIT }
 }
@@ -105,17 +102,15 @@ pub(crate) fn below_of(
     ensures { (t : Tree) (C K : List Label) → TreeRanks t C K tree rank.now m number.now
         → BelowIs t C K (nodes_of t) result.many result.least }
 {
-    let nodes = trees::least(tree.nodes, NODE_LIMIT);
+    let nodes = tree.nodes.min(NODE_LIMIT);
     let mut many = [0u8; NODE_LIMIT];
     let mut least = [0u8; NODE_LIMIT];
-    let mut u: usize = 0;
-    while u < nodes {
-        let a = trees::wide(tree.left[u]);
-        let b = trees::wide(tree.right[u]);
-        let r = trees::wide(rank[u]);
+    for u in 0..nodes {
+        let a = usize::from(tree.left[u]);
+        let b = usize::from(tree.right[u]);
+        let r = usize::from(rank[u]);
         let required = is_required(number, r, m);
         put_below(a, b, u, required, r, &mut many, &mut least);
-        u += 1;
     }
     Below { many, least }
 }

@@ -1,11 +1,7 @@
 -- `places_at` meets its contract. Assumes nothing.
-use Prim.Native.Nat.{◌-◌, ◌≤◌}
 use mathlib.Core.Path.{◌≡◌}
 use Rattle.division.specs.PiecesByRank.{EntriesOf}
 use Rattle.division.proofs.places_at.Given as goal
 
 abbrev pub invariant-loop-i : goal.invariant-loop-i
-invariant-loop-i l = (l.i ≤ l.list.count) × (l.ranks ≡ l.list.rank) × EntriesOf l.i l.list.rank l.order1 l.start1 l.start × EntriesOf l.i l.list.rank l.order1 l.size1 l.size
-
-abbrev pub decreases-loop-i : goal.decreases-loop-i
-decreases-loop-i l = l.list.count - l.i
+invariant-loop-i l = (l.ranks ≡ l.list.rank) × EntriesOf l.i l.list.rank l.order1 l.start1 l.start × EntriesOf l.i l.list.rank l.order1 l.size1 l.size

@@ -6,7 +6,7 @@ pub returns-clause-piece_ranks : goal.returns-clause-piece_ranks
 returns-clause-piece_ranks c =
     let h = c.list_lines.ensures in
     λ s t K posed agree.
-    pieces_stored posed agree c.least-n.result c.least-n.ensures
+    pieces_stored posed agree c.min-n.result c.min-n.ensures
     c.tree_lines-first.result.line c.tree_lines-second.result.line
     c.tree_lines-first.result.top c.tree_lines-second.result.top c.lines_of-lines.result.line
     c.lines_of-lines.result.heads

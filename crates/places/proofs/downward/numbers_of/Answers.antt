@@ -10,28 +10,26 @@ use Rattle.places.proofs.downward.numbers_of.Goals as goal
 pub loop-u-init : goal.loop-u-init
 loop-u-init c =
     let r = c.root_number-number in let l = c.args.least.now in (
-      omega arith,
       length-replicate {A = ℕ} 159 r.result,
-      length-replicate {A = ℕ} 159 (get_or l c.minus.result 0),
+      length-replicate {A = ℕ} 159 (get_or l c.saturating_sub.result 0),
       λ t C K rank m ks g below e.
-          reach_start g _ _ _ _ l e (all_nodes g _ c.least-nodes.ensures) r.ensures
-          (ap (λ (i : ℕ). get_or l i 0) c.minus.ensures) below.least_is,
+          reach_start g _ _ _ _ l e (all_nodes g _ c.min-nodes.ensures) r.ensures
+          (ap (λ (i : ℕ). get_or l i 0) c.saturating_sub.ensures) below.least_is,
     )
 
 pub loop-u-preserved : goal.loop-u-preserved
 loop-u-preserved c =
     let i = c.loop-u.invariant in let p = c.pass_on.ensures in (
-      omega (arith, i.0),
-      p.sizes.0 ∙ i.1,
-      p.sizes.1 ∙ i.2,
+      p.sizes.0 ∙ i.0,
+      p.sizes.1 ∙ i.1,
       λ t C K rank m ks g below e.
           reach_step g _ _ _ _ _ _ _ _ _ _ (omega (arith, c.loop-u-test.true))
-          (omega (arith, i.0, c.loop-u-test.true, all_nodes g _ c.least-nodes.ensures))
-          c.wide-a.ensures c.wide-b.ensures below i.1 i.2 p (i.3 t C K rank m ks g below e),
+          (omega (arith, c.loop-u.auto.u, c.loop-u-test.true, all_nodes g _ c.min-nodes.ensures))
+          c.from-a.ensures c.from-b.ensures below i.0 i.1 p (i.2 t C K rank m ks g below e),
     )
 
 pub returns : goal.returns
 returns c =
     λ t C K rank m ks g below e.
     let z : c.loop-u.u ≡ 0 = omega (arith, c.loop-u-test.false) in
-    reach_leaves g _ _ (rw z at (c.loop-u.invariant.3 t C K rank m ks g below e))
+    reach_leaves g _ _ (rw z at (c.loop-u.invariant.2 t C K rank m ks g below e))

@@ -1,5 +1,5 @@
 -- `downward::numbers_of` meets its contract. Assumes nothing.
-use Prim.Native.Nat.{ℕ, ◌≤◌}
+use Prim.Native.Nat.{ℕ}
 use lib.ListN.{length}
 use mathlib.Core.List.{List}
 use mathlib.Core.Path.{◌≡◌}
@@ -11,9 +11,6 @@ use Rattle.places.specs.Nodes.{TreeRanks, BelowIs}
 use Rattle.places.proofs.downward.numbers_of.Given as goal
 
 abbrev pub invariant-loop-u : goal.invariant-loop-u
-invariant-loop-u l = (l.u ≤ l.nodes) × (length l.number ≡ 159) × (length l.top ≡ 159)
+invariant-loop-u l = (length l.number ≡ 159) × (length l.top ≡ 159)
     × ((t : Tree) (C K : List Label) (rank : List ℕ) (m : ℕ) (ks : List ℕ) → TreeRanks t C K l.tree rank m ks
     → BelowIs t C K (nodes_of t) l.many l.least → l.count ≡ length K → Reaching t C K l.tree l.u l.number l.top)
-
-abbrev pub decreases-loop-u : goal.decreases-loop-u
-decreases-loop-u l = l.u

@@ -1,5 +1,5 @@
 -- `lines::by_rank` meets its contract. Assumes nothing.
-use Prim.Native.Nat.{ℕ, ◌-◌, ◌≤◌}
+use Prim.Native.Nat.{ℕ}
 use lib.ListN.{length}
 use mathlib.Core.List.{List}
 use mathlib.Core.Path.{◌≡◌}
@@ -9,8 +9,5 @@ use Rattle.places.specs.Nodes.{TreeRanks, ValuesByRank}
 use Rattle.places.proofs.lines.by_rank.Given as goal
 
 abbrev pub invariant-loop-u : goal.invariant-loop-u
-invariant-loop-u l = (l.u ≤ l.nodes) × (length l.out ≡ 81)
+invariant-loop-u l = (length l.out ≡ 81)
     × ((t : Tree) (C K : List Label) (m : ℕ) (ks : List ℕ) → TreeRanks t C K l.tree l.rank m ks → ValuesByRank t C l.u l.values l.out)
-
-abbrev pub decreases-loop-u : goal.decreases-loop-u
-decreases-loop-u l = l.nodes - l.u

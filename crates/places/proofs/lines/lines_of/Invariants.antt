@@ -1,12 +1,8 @@
 -- `lines::lines_of` meets its contract. Assumes nothing.
-use Prim.Native.Nat.{◌-◌, ◌≤◌}
 use lib.ListN.{length}
 use mathlib.Core.Path.{◌≡◌}
 use Rattle.places.specs.Nodes.{LinesByRank}
 use Rattle.places.proofs.lines.lines_of.Given as goal
 
 abbrev pub invariant-loop-r : goal.invariant-loop-r
-invariant-loop-r l = (l.r ≤ l.m) × (length l.line ≡ 81) × (length l.heads ≡ 160) × LinesByRank l.r l.number l.one l.two l.tops l.line l.heads
-
-abbrev pub decreases-loop-r : goal.decreases-loop-r
-decreases-loop-r l = l.m - l.r
+invariant-loop-r l = (length l.line ≡ 81) × (length l.heads ≡ 160) × LinesByRank l.r l.number l.one l.two l.tops l.line l.heads

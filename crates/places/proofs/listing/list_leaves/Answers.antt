@@ -1,15 +1,12 @@
 -- `listing::list_leaves` meets its contract. Assumes nothing.
-use native.Mathlib.Omega.{arith}
 use Rattle.places.proofs.MarkLaws.{hold_as, leaves_none, leaves_next}
 use Rattle.places.proofs.listing.list_leaves.Goals as goal
 
 pub loop-r-init : goal.loop-r-init
 loop-r-init c =
-    (omega arith, λ L h. hold_as (leaves_none L c.args.line.now c.args.j) h)
+    λ L h. hold_as (leaves_none L c.args.line.now c.args.j) h
 
 pub loop-r-preserved : goal.loop-r-preserved
 loop-r-preserved c =
-    let a = c.args in (
-      omega arith,
-      λ L h. hold_as (leaves_next L a.line.now a.j c.loop-r.r) (c.list_leaf-count.ensures _ (c.loop-r.invariant.1 L h)),
-    )
+    let a = c.args in
+    λ L h. hold_as (leaves_next L a.line.now a.j c.loop-r.r) (c.list_leaf-count.ensures _ (c.loop-r.invariant L h))

@@ -1,5 +1,4 @@
 -- `upward::below_of` meets its contract. Assumes nothing.
-use Prim.Native.Nat.{◌-◌, ◌≤◌}
 use lib.ListN.{length}
 use mathlib.Core.List.{List}
 use mathlib.Core.Path.{◌≡◌}
@@ -9,8 +8,5 @@ use Rattle.places.specs.Nodes.{TreeRanks, BelowIs}
 use Rattle.places.proofs.upward.below_of.Given as goal
 
 abbrev pub invariant-loop-u : goal.invariant-loop-u
-invariant-loop-u l = (l.u ≤ l.nodes) × (length l.many ≡ 159) × (length l.least ≡ 159)
+invariant-loop-u l = (length l.many ≡ 159) × (length l.least ≡ 159)
     × ((t : Tree) (C K : List Label) → TreeRanks t C K l.tree l.rank l.m l.number → BelowIs t C K l.u l.many l.least)
-
-abbrev pub decreases-loop-u : goal.decreases-loop-u
-decreases-loop-u l = l.nodes - l.u
