@@ -12,71 +12,69 @@ use borrow.Author.Tests.{eqb-true, eqb-false, ne_eqb, ltb-true}
 use Rattle.trees.proofs.Bools.{bool_cases}
 use Rattle.restriction.specs.declared.NodeFate.{NodeFate}
 use Rattle.restriction.specs.declared.NodeFate.TheVariants.{Known, Fresh}
-use Rattle.restriction.specs.KeptMachine.{Pass, moved_to, joined, fate_of, settled, step_of, pass_of, nodes_kept}
+use Rattle.std.specs.Prelude.{Some, None}
+use Rattle.restriction.specs.KeptMachine.{NewNumber, Pass, up_to, moved_to, joined, fate_of, settled, step_of, pass_of, nodes_kept}
 use Rattle.restriction.proofs.PassLaws.{Sized}
 
 -- a new number: none, or one of the first n
-abbrev Placed : ℕ → ℕ → Type 0
-Placed n p = (p ≡ 159) ⊎ (p < n)
+abbrev Placed : ℕ → NewNumber → Type 0
+Placed n None = Prim.Unit {0}
+Placed n (Some p) = p < n
 
 -- what may become of a node when n is the next new number
 data Allowed (n : ℕ) : NodeFate → Type 0 where
-  known : {p : ℕ} → Placed n p → Allowed n (Known p)
+  known : {p : NewNumber} → Placed n p → Allowed n (Known p)
   leaf : {l r : ℕ} → r ≡ n → Allowed n (Fresh l r)
   inner : {l r : ℕ} → l < n → Allowed n (Fresh l r)
 
 pub record Owned (u : ℕ) (s : Pass) : Type 0 where
   pub few : s.count ≤ u
   pub sized : Sized s
-  pub placed : (w : ℕ) → w < u → Placed s.count (get_or s.moved w 0)
+  pub placed : (w : ℕ) → w < u → Placed s.count (get_or s.moved w None)
   pub own : (v : ℕ) → v < s.count → get_or s.left v 0 ≡ v → get_or s.right v 0 ≡ v
 
-moved_placed : (moved : List ℕ) (n u c : ℕ) → ((w : ℕ) → w < u → Placed n (get_or moved w 0)) → Placed n (moved_to moved c u)
+moved_placed : (moved : List NewNumber) (n u c : ℕ) → ((w : ℕ) → w < u → Placed n (get_or moved w None)) → Placed n (moved_to moved c u)
 unfolding moved_to
 moved_placed moved n u c f = go (bool_cases (ltb c u))
   where
-    go : (ltb c u ≡ true) ⊎ (ltb c u ≡ false) → Placed n (cond (ltb c u) (get_or moved c 0) 159)
+    go : (ltb c u ≡ true) ⊎ (ltb c u ≡ false) → Placed n (cond (ltb c u) (get_or moved c None) None)
     go (inl e) = rw e (f c (ltb-true c u e))
-    go (inr e) = rw e (inl refl)
+    go (inr e) = rw e tt
 
-joined_allowed : (n p q : ℕ) → Placed n p → Placed n q → Allowed n (joined p q)
+joined_allowed : (n : ℕ) (p q : NewNumber) → Placed n p → Placed n q → Allowed n (joined p q)
 unfolding joined
-joined_allowed n p q hp hq = go (bool_cases (eqb p 159)) (bool_cases (eqb q 159)) hp
-  where
-    go : (eqb p 159 ≡ true) ⊎ (eqb p 159 ≡ false) → (eqb q 159 ≡ true) ⊎ (eqb q 159 ≡ false) → Placed n p
-        → Allowed n (cond (eqb p 159) (Known q) (cond (eqb q 159) (Known p) (Fresh p q)))
-    go (inl e) d h = rw e (known hq)
-    go (inr e) (inl d) h = rw (e, d) (known hp)
-    go (inr e) (inr d) (inl h) = absurd (eqb-false p 159 e h)
-    go (inr e) (inr d) (inr h) = rw (e, d) (inner h)
+joined_allowed n None None hp hq = known {p = None} tt
+joined_allowed n None (Some r) hp hq = known {p = Some r} hq
+joined_allowed n (Some l) None hp hq = known {p = Some l} hp
+joined_allowed n (Some l) (Some r) hp hq = inner hp
 
-fate_allowed : (left right moved : List ℕ) (kept : List Bool) (u n : ℕ) → ((w : ℕ) → w < u → Placed n (get_or moved w 0))
+fate_allowed : (left right : List ℕ) (moved : List NewNumber) (kept : List Bool) (u n : ℕ) → ((w : ℕ) → w < u → Placed n (get_or moved w None))
     → Allowed n (fate_of left right moved kept u n)
 unfolding fate_of
 fate_allowed left right moved kept u n f = go (bool_cases (eqb (get_or left u 0) u)) (bool_cases (get_or kept u false))
   where
     go : (eqb (get_or left u 0) u ≡ true) ⊎ (eqb (get_or left u 0) u ≡ false)
         → (get_or kept u false ≡ true) ⊎ (get_or kept u false ≡ false)
-        → Allowed n (cond (eqb (get_or left u 0) u) (cond (get_or kept u false) (Fresh n n) (Known 159))
+        → Allowed n (cond (eqb (get_or left u 0) u) (cond (get_or kept u false) (Fresh n n) (Known None))
         (joined (moved_to moved (get_or left u 0) u) (moved_to moved (get_or right u 0) u)))
     go (inl e) (inl k) = rw (e, k) (leaf refl)
-    go (inl e) (inr k) = rw (e, k) (known (inl refl))
+    go (inl e) (inr k) = rw (e, k) (known {p = None} tt)
     go (inr e) k =
         rw e
         (joined_allowed n (moved_to moved (get_or left u 0) u) (moved_to moved (get_or right u 0) u)
         (moved_placed moved n u (get_or left u 0) f) (moved_placed moved n u (get_or right u 0) f))
 
-later : {n m p : ℕ} → n ≤ m → Placed n p → Placed m p
-later h (inl e) = inl e
-later h (inr l) = inr (omega arith)
+later : {n m : ℕ} (p : NewNumber) → n ≤ m → Placed n p → Placed m p
+later None h l = tt
+later (Some p) h l = omega arith
 
-placed_more : (moved : List ℕ) (n u x : ℕ) → u < length moved → ((w : ℕ) → w < u → Placed n (get_or moved w 0)) → Placed n x
-    → (w : ℕ) → w < suc u → Placed n (get_or (set moved u x) w 0)
+placed_more : (moved : List NewNumber) (n u : ℕ) (x : NewNumber) → u < length moved → ((w : ℕ) → w < u → Placed n (get_or moved w None)) → Placed n x
+    → (w : ℕ) → w < suc u → Placed n (get_or (set moved u x) w None)
 placed_more moved n u x h f p w l = go (bool_cases (eqb w u))
   where
-    go : (eqb w u ≡ true) ⊎ (eqb w u ≡ false) → Placed n (get_or (set moved u x) w 0)
-    go (inl e) = rw (eqb-true w u e, get_or-set_same moved u x 0 h) p
-    go (inr e) = rw (get_or-set_other moved u w x 0 (eqb-false w u e)) (f w (omega (arith, eqb-false w u e)))
+    go : (eqb w u ≡ true) ⊎ (eqb w u ≡ false) → Placed n (get_or (set moved u x) w None)
+    go (inl e) = rw (eqb-true w u e, get_or-set_same moved u x None h) p
+    go (inr e) = rw (get_or-set_other moved u w x None (eqb-false w u e)) (f w (omega (arith, eqb-false w u e)))
 
 own_more : (left right : List ℕ) (n l r : ℕ) → n < length left → n < length right
     → ((v : ℕ) → v < n → get_or left v 0 ≡ v → get_or right v 0 ≡ v) → (l ≡ n → r ≡ n)
@@ -108,14 +106,14 @@ settle (Fresh l r) u s h k o =
     record {
       few = omega (arith, o.few);
       sized = record {
-        moved = length-set s.moved u s.count ∙ o.sized.moved;
+        moved = length-set s.moved u (Some s.count) ∙ o.sized.moved;
         left = length-set s.left s.count l ∙ o.sized.left;
         right = length-set s.right s.count r ∙ o.sized.right;
         start = length-set s.start s.count (get_or s.start u 0) ∙ o.sized.start;
         size = length-set s.size s.count (get_or s.size u 0) ∙ o.sized.size;
       };
-      placed = placed_more s.moved (s.count + 1) u s.count (omega (arith, o.sized.moved))
-          (λ w m. later (omega arith) (o.placed w m)) (inr (omega arith));
+      placed = placed_more s.moved (s.count + 1) u (Some s.count) (omega (arith, o.sized.moved))
+          (λ w m. later (get_or s.moved w None) (omega arith) (o.placed w m)) (omega arith);
       own = own_more s.left s.right s.count l r (omega (arith, o.few, o.sized.left)) (omega (arith, o.few, o.sized.right))
           o.own (right_own k);
     }
@@ -139,13 +137,11 @@ unfolding nodes_kept
 kept_owned zero s o = omega arith
 kept_owned (suc n) s o =
     let e : suc n - 1 ≡ n = omega arith in
-    rw (e, ne_eqb (suc n) 0 (λ (z : suc n ≡ 0). omega arith)) (go (bool_cases (ltb (get_or s.moved n 0) 159)) (o.placed n (omega arith)))
+    rw (e, ne_eqb (suc n) 0 (λ (z : suc n ≡ 0). omega arith)) (go (get_or s.moved n None) (o.placed n (omega arith)))
   where
-    go : (ltb (get_or s.moved n 0) 159 ≡ true) ⊎ (ltb (get_or s.moved n 0) 159 ≡ false) → Placed s.count (get_or s.moved n 0)
-        → cond (ltb (get_or s.moved n 0) 159) (get_or s.moved n 0 + 1) 0 ≤ s.count
-    go (inl t) (inl p) = absurd (omega (arith, ltb-true (get_or s.moved n 0) 159 t))
-    go (inl t) (inr p) = rw t (omega arith)
-    go (inr t) p = rw t (omega arith)
+    go : (p : NewNumber) → Placed s.count p → up_to p ≤ s.count
+    go None h = omega arith
+    go (Some p) h = omega arith
 
 -- so a leaf of the result is its own right child
 pub result_own : (s : Pass) (kept : List Bool) → Owned 0 s → (n m : ℕ) → n ≤ 159 → (q : Pass) → q ≡ pass_of s kept n
@@ -153,6 +149,13 @@ pub result_own : (s : Pass) (kept : List Bool) → Owned 0 s → (n m : ℕ) →
 result_own s kept o n m h q e d u l =
     let i = subst (Owned n) (sym e) (owned s kept o n h) in
     i.own u (omega (arith, d, kept_owned n q i))
+
+-- and there are no more nodes than before
+pub result_fits : (s : Pass) (kept : List Bool) → Owned 0 s → (n m : ℕ) → n ≤ 159 → (q : Pass) → q ≡ pass_of s kept n
+    → m ≡ nodes_kept q.moved n → m ≤ 159
+result_fits s kept o n m h q e d =
+    let i = subst (Owned n) (sym e) (owned s kept o n h) in
+    omega (arith, d, kept_owned n q i, i.few)
 
 pub owned_start : (s : Pass) → s.count ≡ 0 → Sized s → Owned 0 s
 owned_start s e z =

@@ -1,6 +1,6 @@
 -- The pass over good arrays: the new nodes are good, and the tree at a node's new number is what is kept below it. Assumes nothing.
 use Prim.Native.Nat.{ℕ, zero, suc, ◌+◌, ◌<◌, ◌≤◌}
-use mathlib.Core.Path.{◌≡◌, refl, sym, ◌∙◌, ap, ap₂}
+use mathlib.Core.Path.{◌≡◌, refl, sym, ◌∙◌, ap, ap₂, subst}
 use mathlib.Core.Bool.{Bool, true, false, cond}
 use mathlib.Core.Logic.{◌⊎◌, inl, inr}
 use mathlib.Core.List.{List}
@@ -10,7 +10,7 @@ use native.Mathlib.Nat.{not-suc-le-zero}
 use native.Mathlib.Decide.{dec_lt}
 use lib.ListN.{length, get_or, set, length-set, length-replicate}
 use lib.Seq.{get_or-set_same, get_or-set_other}
-use borrow.Author.Tests.{lt-ltb, eq-eqb, ne_eqb}
+use borrow.Author.Tests.{lt-ltb, eq-eqb}
 use Rattle.trees.specs.declared.TreeArrays.{TreeArrays}
 use Rattle.trees.specs.Tree.{Tree, leaf, node}
 use Rattle.trees.specs.Arrays.{node_limit, is_leaf, label_at, good_node, good_nodes, tree_at}
@@ -20,8 +20,9 @@ use Rattle.agreement.specs.Restrict.{join_kept}
 use Rattle.agreement.proofs.RestrictLaws.{none_join, join_none}
 use Rattle.restriction.specs.declared.NodeFate.{NodeFate}
 use Rattle.restriction.specs.declared.NodeFate.TheVariants.{Known, Fresh}
+use Rattle.std.specs.Prelude.{Some, None}
 use Rattle.restriction.specs.Kept.{kept_at}
-use Rattle.restriction.specs.KeptMachine.{Pass, start_of, arrays_at, moved_to, joined, fate_of, settled, step_of, pass_of}
+use Rattle.restriction.specs.KeptMachine.{NewNumber, Pass, start_of, arrays_at, moved_to, joined, fate_of, settled, step_of, pass_of}
 use Rattle.restriction.proofs.KeptLaws.{kept_leaf, kept_node}
 use Rattle.restriction.proofs.EntryLaws.{SameAt, same_back, same_through, same_good, same_trees}
 
@@ -35,16 +36,16 @@ pub record Sized (s : Pass) : Type 0 where
 
 pub sized_start : (a : TreeArrays) → length a.left ≡ node_limit → length a.right ≡ node_limit → length a.start ≡ node_limit
     → length a.size ≡ node_limit → Sized (start_of a)
-sized_start a l r b z = record { moved = length-replicate {A = ℕ} node_limit 0; left = l; right = r; start = b; size = z }
+sized_start a l r b z = record { moved = length-replicate {A = NewNumber} node_limit None; left = l; right = r; start = b; size = z }
 
 -- the new nodes so far
 abbrev pub new_nodes : Pass → TreeArrays
 new_nodes s = arrays_at s.count s
 
 -- what is kept below a node, by the node's new number
-pub data Found (b : TreeArrays) (text : List ℕ) : Option Tree → ℕ → Type 0 where
-  nothing : {p : ℕ} → p ≡ node_limit → Found b text none p
-  something : {p : ℕ} {t : Tree} → p < b.nodes → tree_at (p + 1) b text p ≡ t → Found b text (some t) p
+pub data Found (b : TreeArrays) (text : List ℕ) : Option Tree → NewNumber → Type 0 where
+  nothing : Found b text none None
+  something : {p : ℕ} {t : Tree} → p < b.nodes → tree_at (p + 1) b text p ≡ t → Found b text (some t) (Some p)
 
 -- after the first u nodes of a
 pub record Passed (a : TreeArrays) (text : List ℕ) (kept : List Bool) (u : ℕ) (s : Pass) : Type 0 where
@@ -52,25 +53,26 @@ pub record Passed (a : TreeArrays) (text : List ℕ) (kept : List Bool) (u : ℕ
   pub sized : Sized s
   pub rest : (w : ℕ) → u ≤ w → SameAt (new_nodes s) a w
   pub good : good_nodes (new_nodes s) text s.count ≡ true
-  pub found : (w : ℕ) → w < u → Found (new_nodes s) text (kept_at (suc w) a text kept w) (get_or s.moved w 0)
+  pub found : (w : ℕ) → w < u → Found (new_nodes s) text (kept_at (suc w) a text kept w) (get_or s.moved w None)
 
 -- the pass with a new node for u
 abbrev grown : ℕ → Pass → ℕ → ℕ → Pass
 grown u s l r = settled (Fresh l r) u s
 
 -- what an inner node becomes, by its children's new numbers
-joined_second : (p q : ℕ) → p ≡ node_limit → joined p q ≡ Known q
+joined_second : (q : NewNumber) → joined None q ≡ Known q
 unfolding joined
-joined_second p q h = rw (eq-eqb p node_limit h) refl
+joined_second None = refl
+joined_second (Some r) = refl
 
-joined_first : (p q : ℕ) → p < node_limit → q ≡ node_limit → joined p q ≡ Known p
+pub joined_first : (p : NewNumber) → joined p None ≡ Known p
 unfolding joined
-joined_first p q h k = rw (ne_eqb p node_limit (λ (e : p ≡ node_limit). omega arith), eq-eqb q node_limit k) refl
+joined_first None = refl
+joined_first (Some l) = refl
 
-joined_both : (p q : ℕ) → p < node_limit → q < node_limit → joined p q ≡ Fresh p q
+joined_both : (p q : ℕ) → joined (Some p) (Some q) ≡ Fresh p q
 unfolding joined
-joined_both p q h k =
-    rw (ne_eqb p node_limit (λ (e : p ≡ node_limit). omega arith), ne_eqb q node_limit (λ (e : q ≡ node_limit). omega arith)) refl
+joined_both p q = refl
 
 -- what is kept below two children
 join_two : (x y : Tree) → join_kept (some x) (some y) ≡ some (node x y)
@@ -78,19 +80,19 @@ unfolding join_kept
 join_two x y = refl
 
 -- the new numbers of the nodes below u, and that of u
-moved_more : (b : TreeArrays) (text : List ℕ) (o : ℕ → Option Tree) (moved : List ℕ) (u p : ℕ) → u < length moved
-    → ((w : ℕ) → w < u → Found b text (o w) (get_or moved w 0)) → Found b text (o u) p
-    → (w : ℕ) → w < suc u → Found b text (o w) (get_or (set moved u p) w 0)
+moved_more : (b : TreeArrays) (text : List ℕ) (o : ℕ → Option Tree) (moved : List NewNumber) (u : ℕ) (p : NewNumber) → u < length moved
+    → ((w : ℕ) → w < u → Found b text (o w) (get_or moved w None)) → Found b text (o u) p
+    → (w : ℕ) → w < suc u → Found b text (o w) (get_or (set moved u p) w None)
 moved_more b text o moved u p h f g w k = go (dec_lt w u)
   where
-    go : Dec (w < u) → Found b text (o w) (get_or (set moved u p) w 0)
-    go (yes l) = rw (get_or-set_other moved u w p 0 (λ (e : w ≡ u). omega arith)) (f w l)
+    go : Dec (w < u) → Found b text (o w) (get_or (set moved u p) w None)
+    go (yes l) = rw (get_or-set_other moved u w p None (λ (e : w ≡ u). omega arith)) (f w l)
     go (no l) =
         let e : w ≡ u = omega arith in
-        rw (e, get_or-set_same moved u p 0 h) g
+        rw (e, get_or-set_same moved u p None h) g
 
 module _ (a : TreeArrays) (text : List ℕ) (kept : List Bool) (u : ℕ) (s : Pass) (room : u < node_limit) (i : Passed a text kept u s) where
-  pub known_step : (p : ℕ) → Found (new_nodes s) text (kept_at (suc u) a text kept u) p → Passed a text kept (suc u) (settled (Known p) u s)
+  pub known_step : (p : NewNumber) → Found (new_nodes s) text (kept_at (suc u) a text kept u) p → Passed a text kept (suc u) (settled (Known p) u s)
   unfolding settled
   known_step p g =
       record {
@@ -170,9 +172,9 @@ module _ (a : TreeArrays) (text : List ℕ) (kept : List Bool) (u : ℕ) (s : Pa
     tree_stays : (p : ℕ) → p < s.count → tree_at (p + 1) (new_nodes (grown u s l r)) text p ≡ tree_at (p + 1) (new_nodes s) text p
     tree_stays p h = sym (same_trees (new_nodes s) (new_nodes (grown u s l r)) text i.good grown_below (p + 1) p h (omega arith))
 
-    found_stays : {o : Option Tree} {p : ℕ} → Found (new_nodes s) text o p → Found (new_nodes (grown u s l r)) text o p
+    found_stays : {o : Option Tree} {p : NewNumber} → Found (new_nodes s) text o p → Found (new_nodes (grown u s l r)) text o p
     unfolding settled
-    found_stays (nothing e) = nothing e
+    found_stays nothing = nothing
     found_stays (something {p} h e) = something {p = p} (omega arith) (tree_stays p h ∙ e)
 
     fresh_step : (t : Tree) → good_node (new_nodes (grown u s l r)) text s.count ≡ true
@@ -184,7 +186,7 @@ module _ (a : TreeArrays) (text : List ℕ) (kept : List Bool) (u : ℕ) (s : Pa
           few = omega (arith, i.few);
           sized =
               record {
-                moved = length-set s.moved u s.count ∙ i.sized.moved;
+                moved = length-set s.moved u (Some s.count) ∙ i.sized.moved;
                 left = length-set s.left s.count l ∙ i.sized.left;
                 right = length-set s.right s.count r ∙ i.sized.right;
                 start = length-set s.start s.count _ ∙ i.sized.start;
@@ -193,7 +195,7 @@ module _ (a : TreeArrays) (text : List ℕ) (kept : List Bool) (u : ℕ) (s : Pa
           rest = λ w h. same_through (grown_at w (λ (d : w ≡ s.count). omega (arith, i.few))) (i.rest w (omega arith));
           good = grown_good g;
           found =
-              moved_more (new_nodes (grown u s l r)) text (λ w. kept_at (suc w) a text kept w) s.moved u s.count
+              moved_more (new_nodes (grown u s l r)) text (λ w. kept_at (suc w) a text kept w) s.moved u (Some s.count)
               (omega (arith, i.sized.moved)) (λ w h. found_stays (i.found w h)) (rw k (something {p = s.count} (omega arith) e));
         }
 
@@ -231,13 +233,13 @@ module _ (a : TreeArrays) (text : List ℕ) (kept : List Bool) (u : ℕ) (s : Pa
 
   -- what becomes of u
   fate_leaf : is_leaf a u ≡ true
-      → fate_of s.left s.right s.moved kept u s.count ≡ cond (get_or kept u false) (Fresh s.count s.count) (Known node_limit)
+      → fate_of s.left s.right s.moved kept u s.count ≡ cond (get_or kept u false) (Fresh s.count s.count) (Known None)
   unfolding fate_of is_leaf
   fate_leaf e = rw ((i.rest u (omega arith)).left, e) refl
 
   fate_inner : is_leaf a u ≡ false → ChildrenBelow a u
       → fate_of s.left s.right s.moved kept u s.count
-      ≡ joined (get_or s.moved (get_or a.left u 0) 0) (get_or s.moved (get_or a.right u 0) 0)
+      ≡ joined (get_or s.moved (get_or a.left u 0) None) (get_or s.moved (get_or a.right u 0) None)
   unfolding fate_of is_leaf moved_to
   fate_inner e b =
       rw (
@@ -257,7 +259,7 @@ module _ (a : TreeArrays) (text : List ℕ) (kept : List Bool) (u : ℕ) (s : Pa
       go : (get_or kept u false ≡ true) ⊎ (get_or kept u false ≡ false)
           → Passed a text kept (suc u) (settled (fate_of s.left s.right s.moved kept u s.count) u s)
       go (inl k) = rw (fate_leaf e, k) (fresh_leaf g e k)
-      go (inr k) = rw (fate_leaf e, k) (known_step node_limit (rw (kept_leaf a text kept u u e, k) (nothing refl)))
+      go (inr k) = rw (fate_leaf e, k) (known_step None (rw (kept_leaf a text kept u u e, k) nothing))
 
   inner_step : is_leaf a u ≡ false → ChildrenBelow a u
       → kept_at (suc u) a text kept u
@@ -269,13 +271,15 @@ module _ (a : TreeArrays) (text : List ℕ) (kept : List Bool) (u : ℕ) (s : Pa
       rw (fate_inner e b)
       (go (i.found (get_or a.left u 0) b.left_below) (i.found (get_or a.right u 0) b.right_below) k)
     where
-      go : {o v : Option Tree} {p q : ℕ} → Found (new_nodes s) text o p → Found (new_nodes s) text v q
+      go : {o v : Option Tree} {p q : NewNumber} → Found (new_nodes s) text o p → Found (new_nodes s) text v q
           → kept_at (suc u) a text kept u ≡ join_kept o v → Passed a text kept (suc u) (settled (joined p q) u s)
-      go {v = v} {q = q} (nothing {p} h) f m = rw (joined_second p q h) (known_step q (rw (m ∙ none_join v) f))
-      go (something {p} {t = x} h d) (nothing {p = q} l) m =
-          rw (joined_first p q (omega (arith, i.few)) l) (known_step p (rw (m ∙ join_none (some x)) (something h d)))
+      go {v = v} {q = q} nothing f m = rw (joined_second q) (known_step q (rw (m ∙ none_join v) f))
+      go (something {p} {t = x} h d) nothing m =
+          subst (λ (f : NodeFate). Passed a text kept (suc u) (settled f u s)) (sym (joined_first (Some p)))
+          (known_step (Some p) (rw (m ∙ join_none (some x)) (something h d)))
       go (something {p} {t = x} h d) (something {p = q} {t = y} l c) m =
-          rw (joined_both p q (omega (arith, i.few)) (omega (arith, i.few))) (fresh_inner p q x y h l d c (m ∙ join_two x y))
+          subst (λ (f : NodeFate). Passed a text kept (suc u) (settled f u s)) (sym (joined_both p q))
+          (fresh_inner p q x y h l d c (m ∙ join_two x y))
 
   pub pass_step : good_nodes a text a.nodes ≡ true → u < a.nodes → Passed a text kept (suc u) (step_of kept u s)
   pass_step good h = go (bool_cases (is_leaf a u))

@@ -3,14 +3,13 @@
 use Prim.Native.Nat.{ℕ, suc, ◌+◌, ◌-◌, ◌<◌, ◌≤◌, min}
 use mathlib.Core.Path.{◌≡◌, refl, sym, ◌∙◌, ap, subst}
 use mathlib.Core.Bool.{Bool, true, false, cond, ◌&&◌}
-use mathlib.Core.Logic.{◌⊎◌, inl, inr}
 use mathlib.Core.List.{List}
 use mathlib.Core.Option.{Option}
 use native.Mathlib.Omega.{arith}
 use native.Mathlib.Nat.{add-sub_cancel}
-use lib.Dec.{eqb, ltb, leb}
+use lib.Dec.{eqb, leb}
 use lib.ListN.{length, get_or, replicate}
-use borrow.Author.Tests.{lt-ltb, le-ltb, eq-eqb, ne_eqb, eqb-true, ltb-true}
+use borrow.Author.Tests.{eq-eqb, ne_eqb, eqb-true}
 use Rattle.trees.specs.declared.TreeArrays.{TreeArrays}
 use Rattle.trees.specs.Label.{Label}
 use Rattle.trees.specs.Token.{Token}
@@ -20,14 +19,14 @@ use Rattle.trees.specs.Tree.{Tree, leaf, leaves, leaf_limit}
 use Rattle.trees.specs.Text.{text_of}
 use Rattle.trees.specs.Postorder.{postorder, subtree, LaidNode, laid_leaf, laid_node}
 use Rattle.trees.specs.Arrays.{node_limit, nodes_of, arrays_of, lefts, rights, starts, sizes, is_leaf, label_at, good_nodes, tree_at, tree_of, no_leaf, one_tree, no_tree}
-use Rattle.trees.proofs.Bools.{bool_cases}
 use Rattle.trees.proofs.ArrayLaws.{good_at, all_good, stands_tree, tree_stands, stands}
 use Rattle.trees.proofs.EditionLaws.{keyed_nodes, leaf_of_key, valid_spelled}
 use Rattle.trees.proofs.PostorderLaws.{length_postorder, laid_arrays, label_shown}
 use Rattle.agreement.specs.Restrict.{restrict, restrict_in}
 use Rattle.agreement.proofs.RestrictLaws.{kept_leaves}
 use Rattle.restriction.specs.Kept.{kept_at, standing_of, kept_standing}
-use Rattle.restriction.specs.KeptMachine.{Pass, start_of, arrays_at, pass_of, nodes_kept}
+use Rattle.std.specs.Prelude.{None}
+use Rattle.restriction.specs.KeptMachine.{NewNumber, up_to, Pass, start_of, arrays_at, pass_of, nodes_kept}
 use Rattle.restriction.proofs.KeptLaws.{kept_few, kept_restrict}
 use Rattle.restriction.proofs.EntryLaws.{SameAt, same_good, same_trees}
 use Rattle.restriction.proofs.PassLaws.{Sized, new_nodes, Found, nothing, something, Passed, passed}
@@ -51,13 +50,11 @@ no_leaf_nodes a text h =
 
 -- the arrays cut behind a new number stand for the tree found there
 cut_standing : (s : Pass) (text : List ℕ) → good_nodes (new_nodes s) text s.count ≡ true → s.count ≤ node_limit
-    → {o : Option Tree} {p : ℕ} → Found (new_nodes s) text o p → length (kept_leaves o) ≤ leaf_limit
-    → tree_of (arrays_at (cond (ltb p node_limit) (p + 1) 0) s) text ≡ standing_of o
+    → {o : Option Tree} {p : NewNumber} → Found (new_nodes s) text o p → length (kept_leaves o) ≤ leaf_limit
+    → tree_of (arrays_at (up_to p) s) text ≡ standing_of o
 unfolding standing_of kept_leaves
-cut_standing s text good fits (nothing {p} e) few =
-    rw (le-ltb p node_limit (omega arith)) (no_nodes (arrays_at 0 s) text refl)
+cut_standing s text good fits nothing few = no_nodes (arrays_at 0 s) text refl
 cut_standing s text good fits (something {p} {t} h e) few =
-    rw (lt-ltb p node_limit (omega arith))
     (stands_tree (arrays_at (p + 1) s) text t
     (record {
       some = omega arith;
@@ -73,17 +70,6 @@ cut_standing s text good fits (something {p} {t} h e) few =
     same : (v : ℕ) → SameAt (new_nodes s) (arrays_at (p + 1) s) v
     same v = record { left = refl; right = refl; start = refl; size = refl }
 
--- the result fits the arrays
-pub nodes_fit : (moved : List ℕ) (n : ℕ) → nodes_kept moved n ≤ node_limit
-unfolding nodes_kept
-nodes_fit moved n = go (eqb n 0) (bool_cases (ltb (get_or moved (n - 1) 0) node_limit))
-  where
-    go : (z : Bool) → (ltb (get_or moved (n - 1) 0) node_limit ≡ true) ⊎ (ltb (get_or moved (n - 1) 0) node_limit ≡ false)
-        → cond z 0 (cond (ltb (get_or moved (n - 1) 0) node_limit) (get_or moved (n - 1) 0 + 1) 0) ≤ node_limit
-    go true k = omega arith
-    go false (inl k) = rw k (omega (arith, ltb-true (get_or moved (n - 1) 0) node_limit k))
-    go false (inr k) = rw k (omega arith)
-
 -- the result of the pass over the first n nodes of arrays that have room for every node
 module _ (a : TreeArrays) (kept : List Bool) (z : Sized (start_of a)) (s : Pass) (n m : ℕ)
     (d : n ≡ min a.nodes node_limit) (e : s ≡ pass_of (start_of a) kept n) (c : m ≡ nodes_kept s.moved n)
@@ -95,11 +81,11 @@ module _ (a : TreeArrays) (kept : List Bool) (z : Sized (start_of a)) (s : Pass)
       let k : n ≡ a.nodes = omega (arith, b.some, b.fits) in
       let i : Passed a text kept n s = rw e (passed a text kept z b.fits b.good n (omega arith)) in
       let q : suc (a.nodes - 1) ≡ a.nodes = omega (arith, b.some) in
-      let f : Found (new_nodes s) text (kept_at a.nodes a text kept (a.nodes - 1)) (get_or s.moved (a.nodes - 1) 0) =
-      subst (λ r. Found (new_nodes s) text (kept_at r a text kept (a.nodes - 1)) (get_or s.moved (a.nodes - 1) 0)) q
+      let f : Found (new_nodes s) text (kept_at a.nodes a text kept (a.nodes - 1)) (get_or s.moved (a.nodes - 1) None) =
+      subst (λ r. Found (new_nodes s) text (kept_at r a text kept (a.nodes - 1)) (get_or s.moved (a.nodes - 1) None)) q
       (i.found (a.nodes - 1) (omega (arith, b.some)))
       in
-      let g : m ≡ cond (ltb (get_or s.moved (a.nodes - 1) 0) node_limit) (get_or s.moved (a.nodes - 1) 0 + 1) 0 =
+      let g : m ≡ up_to (get_or s.moved (a.nodes - 1) None) =
       c ∙ (rw (k, ne_eqb a.nodes 0 (λ (o : a.nodes ≡ 0). omega (arith, b.some))) refl)
       in
       let o = kept_few a text kept b.good a.nodes (a.nodes - 1) (omega (arith, b.some)) (omega (arith, b.some)) in

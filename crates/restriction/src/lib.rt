@@ -7,101 +7,102 @@ ghost use Rattle.std.specs.Prelude.{◌≡◌, List, ℕ, ◌<◌, ◌≤◌, mi
 ghost use Rattle.trees.specs.Tree.{Tree};
 ghost use Rattle.trees.specs.Arrays.{tree_of, no_leaf, one_tree};
 ghost use Rattle.restriction.specs.Kept.{kept_standing};
-ghost use Rattle.restriction.specs.KeptMachine.{pass_at, moved_to, fate_of, step_of, nodes_kept};
+ghost use Rattle.restriction.specs.KeptMachine.{pass_in, moved_to, joined, fate_of, step_of, nodes_kept};
 
-use trees::TreeArrays;
+use trees::{NODE_LIMIT, TreeArrays};
 
-// What becomes of a node: it has this new number, 159 where no leaf is kept below it; or it is a new node with these children.
+// What becomes of a node: it has this new number, none where no leaf is kept below it; or it is a new node with these children.
 #[derive(Clone, Copy)]
 enum NodeFate {
-    Known(u8),
+    Known(Option<u8>),
     Fresh(u8, u8),
 }
 
 // The new number of a child of node u. A child that does not come before its parent has none.
-fn moved_to(moved: &[u8; 159], child: usize, u: usize) -> u8
+fn moved_to(moved: &[Option<u8>; NODE_LIMIT], child: usize, u: usize) -> Option<u8>
     requires { u < 159 }
     ensures { result ≡ moved_to moved.now child u }
 {
-    if child < u { moved[child] } else { 159 }
+    if child < u { moved[child] } else { None }
 }
 
-// What becomes of node u, `count` being the next new number: a kept leaf is new and its own child, an inner node is new
-// where both children keep a leaf, and else it goes by the one child that does.
+// What becomes of an inner node whose children have these new numbers: it is new where both children keep a leaf, and else it goes by the
+// one child that does.
+fn joined(p: Option<u8>, q: Option<u8>) -> NodeFate
+    ensures { result ≡ joined p q }
+{
+    let Some(r) = q else {
+        return NodeFate::Known(p);
+    };
+    let Some(l) = p else {
+        return NodeFate::Known(q);
+    };
+    NodeFate::Fresh(l, r)
+}
+
+// What becomes of node u, `count` being the next new number: a kept leaf is new and its own child.
 fn fate_of(
-    left: &[u8; 159],
-    right: &[u8; 159],
-    moved: &[u8; 159],
-    kept: &[bool; 159],
+    tree: &TreeArrays,
+    moved: &[Option<u8>; NODE_LIMIT],
+    kept: &[bool; NODE_LIMIT],
     u: usize,
     count: u8,
 ) -> NodeFate
     requires { u < 159 }
-    ensures { result ≡ fate_of left.now right.now moved.now kept.now u count }
+    ensures { result ≡ fate_of tree.now.left tree.now.right moved.now kept.now u count }
 {
-    let l = trees::wide(left[u]);
+    let l = usize::from(tree.left[u]);
     if l == u {
         if kept[u] {
             return NodeFate::Fresh(count, count);
         }
-        return NodeFate::Known(159);
+        return NodeFate::Known(None);
     }
-    let p = moved_to(moved, l, u);
-    let q = moved_to(moved, trees::wide(right[u]), u);
-    if p == 159 {
-        return NodeFate::Known(q);
-    }
-    if q == 159 {
-        return NodeFate::Known(p);
-    }
-    NodeFate::Fresh(p, q)
+    let r = usize::from(tree.right[u]);
+    joined(moved_to(moved, l, u), moved_to(moved, r, u))
 }
 
-// Node u passed: the new count. The `count` new nodes stand at the front of the arrays that are read: they are never more
-// than the nodes passed, so nothing is overwritten that is still to be read.
+// Passes node u. The new nodes so far stand at the front of the arrays that are read: they are never more than the nodes passed, so
+// nothing is overwritten that is still to be read.
 fn keep_node(
-    left: &mut [u8; 159],
-    right: &mut [u8; 159],
-    start: &mut [u16; 159],
-    size: &mut [u8; 159],
-    moved: &mut [u8; 159],
-    kept: &[bool; 159],
+    tree: &mut TreeArrays,
+    moved: &mut [Option<u8>; NODE_LIMIT],
+    kept: &[bool; NODE_LIMIT],
     u: usize,
-    count: usize,
-) -> usize
-    requires { (count ≤ u) × (u < 159) }
-    ensures { pass_at result moved.new left.new right.new start.new size.new
-        ≡ step_of kept.now u
-        (pass_at count moved.old left.old right.old start.old size.old) }
+)
+    requires { (tree.old.nodes ≤ u) × (u < 159) }
+    ensures { pass_in tree.new moved.new ≡ step_of kept.now u (pass_in tree.old moved.old) }
 {
+    let count = tree.nodes;
     let next = trees::narrow(count);
-    let fate = fate_of(left, right, moved, kept, u, next);
+    let fate = fate_of(tree, moved, kept, u, next);
     match fate {
         NodeFate::Known(p) => {
             moved[u] = p;
-            count
         }
         NodeFate::Fresh(l, r) => {
-            left[count] = l;
-            right[count] = r;
-            start[count] = start[u];
-            size[count] = size[u];
-            moved[u] = next;
-            count + 1
+            tree.left[count] = l;
+            tree.right[count] = r;
+            tree.start[count] = tree.start[u];
+            tree.size[count] = tree.size[u];
+            moved[u] = Some(next);
+            tree.nodes = count + 1;
         }
     }
 }
 
 // The nodes up to the new number of the root, the last of n nodes; 0 where no leaf is kept.
-fn nodes_kept(moved: &[u8; 159], n: usize) -> usize
+fn nodes_kept(moved: &[Option<u8>; NODE_LIMIT], n: usize) -> usize
     requires { n ≤ 159 }
     ensures { result ≡ nodes_kept moved.now n }
 {
     if n == 0 {
         return 0;
     }
-    let root = trees::wide(moved[n - 1]);
-    if root < 159 { root + 1 } else { 0 }
+    match moved[n - 1] {
+        Some(root) => usize::from(root) + 1,
+        None => 0,
+    }
 }
 
 // What is left of a tree when only the leaves with a flag are kept; `kept` has a flag for each node number, and an inner
@@ -115,25 +116,13 @@ pub fn restrict_tree(tree: TreeArrays, kept: [bool; 159]) -> TreeArrays
     ensures leaves { (u : ℕ) → u < result.nodes → get_or result.left u 0 ≡ u → get_or result.right u 0 ≡ u }
     ensures fits { result.nodes ≤ 159 }
 {
-    let n = trees::least(tree.nodes, 159);
-    let mut left = tree.left;
-    let mut right = tree.right;
-    let mut start = tree.start;
-    let mut size = tree.size;
-    let mut moved = [0u8; 159];
-    let mut count: usize = 0;
-    let mut u: usize = 0;
-    while u < n {
-        count = keep_node(
-            &mut left, &mut right, &mut start, &mut size, &mut moved, &kept, u, count,
-        );
-        u += 1;
+    let n = tree.nodes.min(NODE_LIMIT);
+    let mut rest = tree;
+    rest.nodes = 0;
+    let mut moved = [None; NODE_LIMIT];
+    for u in 0..n {
+        keep_node(&mut rest, &mut moved, &kept, u);
     }
-    TreeArrays {
-        nodes: nodes_kept(&moved, n),
-        left,
-        right,
-        start,
-        size,
-    }
+    rest.nodes = nodes_kept(&moved, n);
+    rest
 }

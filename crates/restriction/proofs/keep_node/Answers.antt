@@ -8,9 +8,13 @@ use Rattle.restriction.proofs.keep_node.Goals as goal
 pub returns-in-Known : goal.returns-in-Known
 unfolding step_of settled
 returns-in-Known c =
-    rw (← (let a = c.args in c.fate_of-fate.ensures ∙ ap (fate_of a.left.now a.right.now a.moved.now a.kept.now a.u) ((c.narrow-next.ensures ∙ fits_byte c.args.count (omega arith)))), c.in-Known.is) refl
+    let a = c.args in
+    let n = c.narrow-next.ensures ∙ fits_byte a.tree.now.nodes (omega arith) in
+    rw (← (c.in-Known.ensures ∙ ap (fate_of a.tree.now.left a.tree.now.right a.moved.now a.kept.now a.u) n)) refl
 
 pub returns-in-Fresh : goal.returns-in-Fresh
 unfolding step_of settled
 returns-in-Fresh c =
-    rw (← (let a = c.args in c.fate_of-fate.ensures ∙ ap (fate_of a.left.now a.right.now a.moved.now a.kept.now a.u) ((c.narrow-next.ensures ∙ fits_byte c.args.count (omega arith)))), c.in-Fresh.is, (c.narrow-next.ensures ∙ fits_byte c.args.count (omega arith))) refl
+    let a = c.args in
+    let n = c.narrow-next.ensures ∙ fits_byte a.tree.now.nodes (omega arith) in
+    rw (← (c.in-Fresh.ensures ∙ ap (fate_of a.tree.now.left a.tree.now.right a.moved.now a.kept.now a.u) n), n) refl
