@@ -15,7 +15,7 @@ use Rattle.newick.specs.declared.Fault.{Fault}
 use Rattle.newick.specs.declared.Reader.{Reader}
 use Rattle.std.specs.Prelude.{Ok}
 use Rattle.newick.specs.Machine.{Arrays, Progress, on, halt, progress_of, repeat_of, due_of, after_of, leaf_scan, leaf_arrays, leaf_of, after_leaf}
-use Rattle.newick.specs.Machine.{label_end, inside_of, quoted_of, move_of, answer_of, scan, scan_in, arrays_in, Ready}
+use Rattle.newick.specs.Machine.{label_end, inside_of, quoted_of, move_of, answer_of, scan_in, arrays_in, Ready}
 
 -- a step where the mode is known
 pub move_due : (m : Mode) (text : List ℕ) (st : Scan) (a : Arrays) (i : ℕ) (k : Kind) → m ≡ Due
@@ -43,10 +43,6 @@ pub move_done : (m : Mode) (text : List ℕ) (st : Scan) (a : Arrays) (i : ℕ) 
 unfolding move_of
 move_done m text st a i k e = ap (λ (x : Mode). move_of x text st a i k) e
 
-pub moved_as : {m n : Mode} (text : List ℕ) (d o k : ℕ) (a : Arrays) (i : ℕ) (b : Kind) → m ≡ n
-    → move_of m text (scan m d o k) a i b ≡ move_of n text (scan n d o k) a i b
-moved_as text d o k a i b e = ap (λ (x : Mode). move_of x text (scan x d o k) a i b) e
-
 -- what a step may rely on where the mode is known
 pub ready_as : {m n : Mode} (st : Scan) → m ≡ n → Ready m st → Ready n st
 ready_as st e h = subst (λ (x : Mode). Ready x st) e h
@@ -55,10 +51,6 @@ ready_as st e h = subst (λ (x : Mode). Ready x st) e h
 pub answer_as : {m n : Mode} (text : List ℕ) (body : Body) (st : Scan) (start size : List ℕ) → m ≡ n
     → answer_of m text body st start size ≡ answer_of n text body st start size
 answer_as text body st start size e = ap (λ (x : Mode). answer_of x text body st start size) e
-
-pub answered_as : {m n : Mode} (text : List ℕ) (body : Body) (d o k : ℕ) (start size : List ℕ) → m ≡ n
-    → answer_of m text body (scan m d o k) start size ≡ answer_of n text body (scan n d o k) start size
-answered_as text body d o k start size e = ap (λ (x : Mode). answer_of x text body (scan x d o k) start size) e
 
 -- a label that is complete, where the test for a repeat is known
 module _ (text : List ℕ) (st : Scan) (a : Arrays) (first len : ℕ) (q : Bool)

@@ -42,7 +42,7 @@ enum Mode {
 struct Fault(Reason, usize);
 
 // A text and what is read of it so far: how many `(` are open, how many were read, the first child of each open `(` that has one, the nodes
-// that are complete, and marks for their labels.
+// that are complete, and marks for their labels. Memory is fixed: `stack` is an array with `depth` entries in use, and no Vec.
 #[derive(Drop)]
 struct Reader<'a> {
     edition: Edition,
@@ -188,8 +188,7 @@ impl<'a> Reader<'a> {
         }
     }
 
-    // The label of `len` bytes from `first` is complete: a repeat is told at its first byte, else the label is a leaf. One whose slot has
-    // no mark is compared with no leaf.
+    // The label of `len` bytes from `first` is complete: a repeat is told at its first byte, else the label is a leaf.
     fn on_leaf(&mut self, first: usize, len: usize) -> Result<Mode, Fault>
         requires { Fits self.old.depth self.old.opens self.old.tree.nodes first len }
         ensures { (m : Mode) → Steps self.old self.new result
@@ -267,8 +266,7 @@ impl<'a> Reader<'a> {
             (quoted_of (text_in self.old) (scan_in (Quoted first len) self.old) (arrays_in self.old) first len at kind) }
     {
         match kind {
-            Kind::Label => self.on_inner(first, len, at),
-            Kind::Blank => self.on_inner(first, len, at),
+            Kind::Label | Kind::Blank => self.on_inner(first, len, at),
             Kind::Quote => {
                 if len == 0 {
                     return Err(Fault(Reason::BadByte, at));
