@@ -14,7 +14,7 @@ use Rattle.trees.specs.Arrays.{arrays_of, node_limit}
 use Rattle.trees.specs.Reading.{Reading, good, refused as unread}
 use Rattle.trees.proofs.ArrayLaws.{few_nodes}
 use Rattle.trees.proofs.EditionLaws.{arrays_folded, valid_folded, text_folded, keyed_count}
-use Rattle.std.specs.Prelude.{Ok, Err}
+use Rattle.std.specs.Prelude.{Result, Ok, Err}
 use Rattle.newick.specs.declared.TreeRead.{TreeRead}
 use Rattle.newick.specs.ReadTree.{read_tree_in, tree_read}
 use Rattle.newick.proofs.EditionReads.{accepts_in}
@@ -45,7 +45,7 @@ tree_case body (good t) r n e h =
     let d : Ok n ≡ Ok (length (leaves t)) = sym h ∙ ap (λ q. q.answer) e in
     (t, refl, ap (λ q. q.tree) e, cc)
 tree_case body (unread q i) r n e h =
-    let d : Err (record { reason = q; body = body; place = i }) ≡ Ok n = sym (ap (λ q. q.answer) e) ∙ h in
+    let d : ◌≡◌ {A = Result ℕ Refusal} (Err (record { reason = q; body = body; place = i })) (Ok n) = sym (ap (λ q. q.answer) e) ∙ h in
     let z : ◌≡◌ {A = ℕ} 0 1 = cc in
     absurd (omega arith)
 

@@ -5,6 +5,9 @@ use mathlib.Core.Path.{◌≡◌, refl, sym, ◌∙◌, ap, subst}
 use mathlib.Core.Bool.{Bool, true, false, cond}
 use mathlib.Core.Logic.{◌⊎◌, inl, inr}
 use mathlib.Core.List.{List, [], ◌∷◌}
+use Rattle.std.proofs.Common.{Option, Some, None, is_none, is_some, not}
+use Rattle.std.proofs.lemmas.Option.{none-some}
+use Rattle.std.specs.List.{CopiedTo, SameBelow}
 use native.Mathlib.Omega.{arith}
 use native.Mathlib.Numerals.{add-one}
 use native.Mathlib.Decide.{dec_lt}
@@ -12,8 +15,6 @@ use lib.Dec.{eqb}
 use lib.ListN.{length, get_or, set, drop, replicate, length-set, length-replicate, get_or-replicate, drop_of_length-le}
 use lib.Seq.{drop-cons, get_or-set_same, get_or-set_other}
 use borrow.Author.Tests.{eq-eqb, ne_eqb, eqb-true, eqb-false}
-use Rattle.std.proofs.Common.{Option, Some, None}
-use Rattle.std.specs.Option.{unwrap_or}
 use Rattle.trees.specs.Label.{Label, label_limit, label_less, is_in, distinct}
 use Rattle.trees.specs.Token.{spelling, good_label, good_labels}
 use Rattle.trees.specs.Tree.{Tree, leaf, node, leaves, decoded, Valid, Proper}
@@ -187,6 +188,17 @@ stored_at {t} o u x l =
 
 -- the leaf of the other tree
 
+pub none_is : (v : Option ℕ) → is_none v ≡ true → v ≡ None
+none_is None e = refl
+none_is (Some w) e = let z : ◌≡◌ {A = ℕ} 0 1 = cc in absurd (omega arith)
+
+pub tested_none : (v : Option ℕ) (b : Bool) → is_some v ≡ not b → b ≡ true → v ≡ None
+tested_none None b h e = refl
+tested_none (Some w) b h e = clash (sym h) (ap not e)
+
+pub tested_some : (v : Option ℕ) (b : Bool) → is_some v ≡ not b → b ≡ false → v ≡ None → ⊥
+tested_some v b h e n = clash (h ∙ ap not e) (ap is_some n)
+
 no_empty : (t : Tree) → Valid t → holds (decoded t) [] ≡ false
 unfolding holds
 no_empty t v =
@@ -196,40 +208,39 @@ no_empty t v =
     omega (arith, (leaf_short t v a.at [] (record { below = a.below; is = a.is })).0))
 
 module _ {t : Tree} {text left start size : List ℕ} {nodes : ℕ} (o : OwnLeaves t text left start size nodes) (x : Label) (v : ℕ) where
-  pub partner_empty : x ≡ [] → PartnerIs (decoded t) x 159
+  pub partner_empty : x ≡ [] → PartnerIs (decoded t) x None
   partner_empty e = record { held = λ h. clash (rw e at h) (no_empty t o.valid); lacked = λ h. refl }
 
-  pub partner_told : v ≡ unwrap_or (leaf_found text left start size x nodes) 159 → PartnerIs (decoded t) x v
-  partner_told e = go (leaf_found text left start size x nodes) refl
-    where
-      go : (r : Option ℕ) → leaf_found text left start size x nodes ≡ r → PartnerIs (decoded t) x v
-      go (Some u) k =
-          let s = some_found text left start size x nodes u k in
-          let v_is : v ≡ u = e ∙ ap (λ (o : Option ℕ). unwrap_or o 159) k in
-          record {
-            held = λ h. rw (v_is, s.0) (search_found o x h);
-            lacked = λ h. absurd (omega (arith, s.0, s.1, search_missing o x h));
-          }
-      go None k =
-          let n = none_found text left start size x nodes k in
-          let v_is : v ≡ 159 = e ∙ ap (λ (o : Option ℕ). unwrap_or o 159) k in
-          record {
-            held = λ h. absurd (omega (arith, n, (search_found o x h).below, own_nodes o, own_few o));
-            lacked = λ h. v_is;
-          }
+  pub partner_missing : leaf_found text left start size x nodes ≡ None → PartnerIs (decoded t) x None
+  partner_missing k =
+      let n = none_found text left start size x nodes k in
+      record { held = λ h. absurd (omega (arith, n, (search_found o x h).below, own_nodes o, own_few o)); lacked = λ h. refl }
 
-pub partners_none : (s t : Tree) (partner : List ℕ) → Partners 0 s t partner
+  pub partner_found : leaf_found text left start size x nodes ≡ Some v → PartnerIs (decoded t) x (Some v)
+  partner_found k =
+      let s = some_found text left start size x nodes v k in
+      record { held = λ h. (v, refl, rw s.0 (search_found o x h)); lacked = λ h. absurd (omega (arith, s.0, s.1, search_missing o x h)) }
+
+-- what holds of each entry so far, and of the one stored next, holds of each entry then
+store_option : (P : ℕ → Option ℕ → Type 0) (l : List (Option ℕ)) (n : ℕ) (x : Option ℕ) → n < length l
+    → ((k : ℕ) → k < n → P k (get_or l k None)) → P n x → (k : ℕ) → k < n + 1 → P k (get_or (set l n x) k None)
+store_option P l n x h f p =
+    below_next (λ k. P k (get_or (set l n x) k None)) n (λ k less. rw (get_or-set_other l n k x None (omega arith)) (f k less))
+    (rw (get_or-set_same l n x None h) p)
+
+pub partners_none : (s t : Tree) (partner : List (Option ℕ)) → Partners 0 s t partner
 partners_none s t partner = record { each = λ u h. absurd (omega arith) }
 
-pub partners_next : (n : ℕ) (s t : Tree) (partner : List ℕ) (v : ℕ) → n < 159 → length partner ≡ 159
+pub partners_next : (n : ℕ) (s t : Tree) (partner : List (Option ℕ)) (v : Option ℕ) → n < 159 → length partner ≡ 159
     → ((x : Label) → subtree (postorder s) n ≡ leaf x → PartnerIs t x v) → Partners n s t partner → Partners (n + 1) s t (set partner n v)
 partners_next n s t partner v small size here p = record {
   each =
-      store_next (λ u y. (x : Label) → subtree (postorder s) u ≡ leaf x → PartnerIs t x y) partner n v (omega arith) p.each here;
+      store_option (λ u y. (x : Label) → subtree (postorder s) u ≡ leaf x → PartnerIs t x y) partner n v (omega arith) p.each here;
 }
 
-pub node_partner : {s : Tree} {left : List ℕ} {nodes : ℕ} → left ≡ (arrays_of s).left → nodes ≡ nodes_of s → (t : Tree) (partner : List ℕ)
-    → Partners nodes s t partner → (u v : ℕ) → u < nodes → v ≡ cond (eqb (get_or left u 0) u) (get_or partner u 0) 159 → NodePartner s t u v
+pub node_partner : {s : Tree} {left : List ℕ} {nodes : ℕ} → left ≡ (arrays_of s).left → nodes ≡ nodes_of s → (t : Tree) (partner : List (Option ℕ))
+    → Partners nodes s t partner → (u : ℕ) (v : Option ℕ) → u < nodes → v ≡ cond (eqb (get_or left u 0) u) (get_or partner u None) None
+    → NodePartner s t u v
 node_partner {s} {left} {nodes} left_is nodes_is t partner p u v h e = record { at_leaf = at_leaf'; at_node = at_node' }
   where
     below : u < nodes_of s
@@ -240,7 +251,7 @@ node_partner {s} {left} {nodes} left_is nodes_is t partner p u v h e = record { 
         let l : get_or left u 0 ≡ u = rw (left_is) (own_leaf s u x below k) in
         rw (e, eq-eqb (get_or left u 0) u l) (p.each u h x k)
 
-    at_node' : (a b : Tree) → subtree (postorder s) u ≡ node a b → v ≡ 159
+    at_node' : (a b : Tree) → subtree (postorder s) u ≡ node a b → v ≡ None
     at_node' a b k =
         let l : get_or left u 0 < u = rw (left_is) (own_inner s u a b below k) in
         e ∙ (rw (ne_eqb (get_or left u 0) u (omega arith)) refl)
@@ -259,50 +270,17 @@ numbered_insert t C p u x old new l h n o r k = go r (omega (arith, length_inser
         let e : r ≡ p = omega arith in
         rw (e, o.at, insert_at x C p h) l
 
--- the shifting of entries by one place, from the last
-
-pub record Shifting (p m i : ℕ) (old new : List ℕ) : Type 0 where
-  pub size : length new ≡ length old
-  pub below : (r : ℕ) → r ≤ i → get_or new r 0 ≡ get_or old r 0
-  pub above : (r : ℕ) → i ≤ r → r < m → get_or new (suc r) 0 ≡ get_or old r 0
-
-module _ (p m : ℕ) (old : List ℕ) where
-  pub shift_start : Shifting p m m old old
-  shift_start = record { size = refl; below = λ r l. refl; above = λ r l k. absurd (omega arith) }
-
-  shift_next : (i : ℕ) (new : List ℕ) → suc i < length old → suc i ≤ m → Shifting p m (suc i) old new
-      → Shifting p m i old (set new (suc i) (get_or new i 0))
-  shift_next i new l k h =
-      record {
-        size = length-set new (suc i) (get_or new i 0) ∙ h.size;
-        below = λ r b. get_or-set_other new (suc i) r (get_or new i 0) 0 (omega arith) ∙ h.below r (omega arith);
-        above = λ r a b. go r a b (bool_cases (eqb r i));
-      }
-    where
-      go : (r : ℕ) → i ≤ r → r < m → (eqb r i ≡ true) ⊎ (eqb r i ≡ false)
-          → get_or (set new (suc i) (get_or new i 0)) (suc r) 0 ≡ get_or old r 0
-      go r a b (inl e) =
-          rw (eqb-true r i e) (get_or-set_same new (suc i) (get_or new i 0) 0 (omega (arith, h.size)) ∙ h.below i (omega arith))
-      go r a b (inr e) =
-          get_or-set_other new (suc i) (suc r) (get_or new i 0) 0 (omega (arith, eqb-false r i e))
-          ∙ h.above r (omega (arith, eqb-false r i e)) b
-
-  pub shift_back : (i : ℕ) (new : List ℕ) → 0 < i → i < length old → i ≤ m → Shifting p m i old new
-      → Shifting p m (i - 1) old (set new i (get_or new (i - 1) 0))
-  shift_back zero new z l k h = absurd (omega arith)
-  shift_back (suc i) new z l k h =
-      let e : suc i - 1 ≡ i = omega arith in
-      rw e (shift_next i new l k h)
-
-  pub shift_end : (u i : ℕ) (new : List ℕ) → i ≡ p → p < length old → Shifting p m i old new → OpenedAt p m u old (set new p u)
-  shift_end u i new e l s =
-      let h : Shifting p m p old new = subst (λ (j : ℕ). Shifting p m j old new) e s in
-      record {
-        size = length-set new p u ∙ h.size;
-        before = λ r b. get_or-set_other new p r u 0 (omega arith) ∙ h.below r (omega arith);
-        at = get_or-set_same new p u 0 (omega (arith, h.size));
-        after = λ r a b. get_or-set_other new p (suc r) u 0 (omega arith) ∙ h.above r a b;
-      }
+-- the entries from p on moved by one place, and u put in at p
+pub opened_at : (p m u : ℕ) (old new : List ℕ) → p ≤ m → p < length old → length new ≡ length old → CopiedTo old new p (p + 1) (m - p)
+    → SameBelow old new (p + 1) → OpenedAt p m u old (set new p u)
+opened_at p m u old new k l size copied same = record {
+  size = length-set new p u ∙ size;
+  before = λ r b. get_or-set_other new p r u 0 (omega arith) ∙ same r 0 (omega arith);
+  at = get_or-set_same new p u 0 (omega arith);
+  after = λ r a b.
+      let e : p + (suc r - (p + 1)) ≡ r = omega arith in
+      get_or-set_other new p (suc r) u 0 (omega arith) ∙ copied (suc r) 0 (omega arith) (omega arith) ∙ ap (λ (i : ℕ). get_or old i 0) e;
+}
 
 -- the common leaves among the nodes from u on
 
@@ -366,7 +344,7 @@ from_few s t u v w =
 
 -- the next node of the first tree, from the last
 
-module _ {s t : Tree} (ps : Proper s) (pt : Proper t) {order1 : List ℕ} {m u v : ℕ} (below : u < nodes_of s) (p : NodePartner s t u v)
+module _ {s t : Tree} (ps : Proper s) (pt : Proper t) {order1 : List ℕ} {m u : ℕ} {v : Option ℕ} (below : u < nodes_of s) (p : NodePartner s t u v)
     (c : Collected s t (u + 1) order1 m) where
   same : common_from s t u ≡ common_from s t (u + 1) → Collected s t u order1 m
   same e = record {
@@ -395,11 +373,11 @@ module _ {s t : Tree} (ps : Proper s) (pt : Proper t) {order1 : List ℕ} {m u v
       go (node a b) k = same (from_node s t u below a b k)
 
   -- no leaf of the other has its label
-  pub collected_none : 159 ≤ v → Collected s t u order1 m
+  pub collected_none : v ≡ None → Collected s t u order1 m
   collected_none l = go (subtree (postorder s) u) refl
     where
       held_or : (x : Label) → subtree (postorder s) u ≡ leaf x → (holds t x ≡ true) ⊎ (holds t x ≡ false) → Collected s t u order1 m
-      held_or x k (inl q) = absurd (omega (arith, ((p.at_leaf x k).held q).below, proper_nodes t pt))
+      held_or x k (inl q) = let w = (p.at_leaf x k).held q in absurd (none-some _ (sym l ∙ w.1))
       held_or x k (inr q) = same (from_lacked s t u below x k q)
 
       go : (r : Tree) → subtree (postorder s) u ≡ r → Collected s t u order1 m
@@ -407,12 +385,12 @@ module _ {s t : Tree} (ps : Proper s) (pt : Proper t) {order1 : List ℕ} {m u v
       go (node a b) k = same (from_node s t u below a b k)
 
   -- one has
-  pub collected_add : (v < 159) → (label : Label) → ((x : Label) → LeafIs s u x → label ≡ x) → (new1 : List ℕ)
+  pub collected_add : (v ≡ None → ⊥) → (label : Label) → ((x : Label) → LeafIs s u x → label ≡ x) → (new1 : List ℕ)
       → LeafPlaced u m (common_from s t (u + 1)) label order1 new1 → Collected s t u new1 (m + 1)
   collected_add l label is new1 a = go (subtree (postorder s) u) refl
     where
       held_or : (x : Label) → subtree (postorder s) u ≡ leaf x → (holds t x ≡ true) ⊎ (holds t x ≡ false) → Collected s t u new1 (m + 1)
-      held_or x k (inr q) = absurd (omega (arith, (p.at_leaf x k).lacked q))
+      held_or x k (inr q) = absurd (l ((p.at_leaf x k).lacked q))
       held_or x k (inl q) =
           let e = from_held s t u below x k q in
           let leaf_is : LeafIs s u x = record { below = below; is = k } in
@@ -426,7 +404,7 @@ module _ {s t : Tree} (ps : Proper s) (pt : Proper t) {order1 : List ℕ} {m u v
 
       go : (r : Tree) → subtree (postorder s) u ≡ r → Collected s t u new1 (m + 1)
       go (leaf x) k = held_or x k (bool_cases (holds t x))
-      go (node a' b') k = absurd (omega (arith, p.at_node a' b' k))
+      go (node a' b') k = absurd (l (p.at_node a' b' k))
 
 pub collected_start : (s t : Tree) (n : ℕ) (order1 : List ℕ) → n ≡ nodes_of s → length order1 ≡ 80 → Collected s t n order1 0
 collected_start s t n order1 e p =
@@ -445,15 +423,19 @@ unfolding common_from
 from_inc s t u d = sorted_inc (keep (holds t) (leaf_labels (drop u (postorder s)))) (distinct_keep (holds t) _ (distinct_drop (postorder s) u (rw (leaf_labels_lem s) d)))
 
 -- with the leaves of the other tree
-pub collected_all : (s t : Tree) (order1 order2 partner : List ℕ) (m : ℕ) → Collected s t 0 order1 m → Partners (nodes_of s) s t partner
-    → ((r : ℕ) → r < m → get_or order2 r 0 ≡ get_or partner (get_or order1 r 0) 0) → Ordered s t order1 order2 m
-collected_all s t order1 order2 partner m c p at = record {
+pub collected_all : (s t : Tree) (order1 order2 : List ℕ) (partner : List (Option ℕ)) (m : ℕ) → Proper s → Collected s t 0 order1 m
+    → Partners (nodes_of s) s t partner
+    → ((r v : ℕ) → r < m → get_or order1 r 0 < 159 → get_or partner (get_or order1 r 0) None ≡ Some v → get_or order2 r 0 ≡ v)
+    → Ordered s t order1 order2 m
+collected_all s t order1 order2 partner m ps c p at = record {
   count = count';
   first = first';
   second = λ r h.
       let l = first' r h in
-      rw (at r (omega (arith, count')))
-      ((p.each (get_or order1 r 0) l.below (get_or (common s t) r []) l.is).held (in_common s t (get_or (common s t) r []) (at_in (common s t) r h)).1);
+      let w =
+      (p.each (get_or order1 r 0) l.below (get_or (common s t) r []) l.is).held
+      (in_common s t (get_or (common s t) r []) (at_in (common s t) r h)).1 in
+      rw (at r w.0 (omega (arith, count')) (omega (arith, l.below, proper_nodes s ps)) w.1) w.2;
 }
   where
     count' : m ≡ length (common s t)
@@ -461,23 +443,6 @@ collected_all s t order1 order2 partner m c p at = record {
 
     first' : Numbered s (common s t) order1
     first' = subst (λ (C : List Label). Numbered s C order1) (from_start s t) c.first
-
--- the same numbers in another array
-pub numbered_same : (t : Tree) (C : List Label) (xs ys : List ℕ) → Numbered t C xs → ((r : ℕ) → r < length C → get_or ys r 0 ≡ get_or xs r 0)
-    → Numbered t C ys
-numbered_same t C xs ys n e r h = rw (e r h) (n r h)
-
--- in narrow entries, which a node's number fits
-pub ordered_narrow : {s t : Tree} {a b : List ℕ} {m : ℕ} → Ordered s t a b m → (a' b' : List ℕ) → m ≤ 80 → Proper s → Proper t
-    → ((i : ℕ) → i < 80 → get_or a i 0 < 256 → get_or a' i 0 ≡ get_or a i 0)
-    → ((i : ℕ) → i < 80 → get_or b i 0 < 256 → get_or b' i 0 ≡ get_or b i 0) → Ordered s t a' b' m
-ordered_narrow {s = s} {t = t} {a = a} {b = b} o a' b' few p q f g = record {
-  count = o.count;
-  first = numbered_same s (common s t) a a' o.first
-      (λ r h. f r (omega (arith, o.count)) (omega (arith, (o.first r h).below, proper_nodes s p)));
-  second = numbered_same t (common s t) b b' o.second
-      (λ r h. g r (omega (arith, o.count)) (omega (arith, (o.second r h).below, proper_nodes t q)));
-}
 
 -- ranks
 

@@ -1,6 +1,6 @@
 -- Common leaves collected from the last node of the first tree to its first, and ranks stored one after the other.
 -- Intermediate: nothing public rests on this text.
-use Rattle.std.specs.Prelude.{ℕ, zero, suc, ◌<◌, ◌≤◌, min, ◌≡◌, true, false, List, [], length, get_or, set, drop, replicate}
+use Rattle.std.specs.Prelude.{ℕ, zero, suc, ◌<◌, ◌≤◌, min, ◌≡◌, true, false, List, [], length, get_or, set, drop, replicate, Option, Some, None}
 use Rattle.trees.specs.Label.{Label, label_less}
 use Rattle.trees.specs.Token.{spelling}
 use Rattle.trees.specs.Tree.{Tree, leaf, node, leaves}
@@ -37,19 +37,19 @@ pub record Collected (s t : Tree) (u : ℕ) (order1 : List ℕ) (m : ℕ) : Type
   pub count : m ≡ length (common_from s t u)
   pub first : Numbered s (common_from s t u) order1
 
--- the leaf of t with label x; 159 if there is none
-pub record PartnerIs (t : Tree) (x : Label) (v : ℕ) : Type 0 where
-  pub held : holds t x ≡ true → LeafIs t v x
-  pub lacked : holds t x ≡ false → v ≡ 159
+-- the leaf of t with label x, if there is one
+pub record PartnerIs (t : Tree) (x : Label) (v : Option ℕ) : Type 0 where
+  pub held : holds t x ≡ true → (w : ℕ) × (v ≡ Some w) × LeafIs t w x
+  pub lacked : holds t x ≡ false → v ≡ None
 
 -- it, for each of the first n nodes of s that is a leaf
-pub record Partners (n : ℕ) (s t : Tree) (partner : List ℕ) : Type 0 where
-  pub each : (u : ℕ) → u < n → (x : Label) → subtree (postorder s) u ≡ leaf x → PartnerIs t x (get_or partner u 0)
+pub record Partners (n : ℕ) (s t : Tree) (partner : List (Option ℕ)) : Type 0 where
+  pub each : (u : ℕ) → u < n → (x : Label) → subtree (postorder s) u ≡ leaf x → PartnerIs t x (get_or partner u None)
 
--- and 159 for an inner node
-pub record NodePartner (s t : Tree) (u v : ℕ) : Type 0 where
+-- and none for an inner node
+pub record NodePartner (s t : Tree) (u : ℕ) (v : Option ℕ) : Type 0 where
   pub at_leaf : (x : Label) → subtree (postorder s) u ≡ leaf x → PartnerIs t x v
-  pub at_node : (a b : Tree) → subtree (postorder s) u ≡ node a b → v ≡ 159
+  pub at_node : (a b : Tree) → subtree (postorder s) u ≡ node a b → v ≡ None
 
 -- the label of leaf u as it is stored
 abbrev pub stored_label : List ℕ → List ℕ → List ℕ → ℕ → Label

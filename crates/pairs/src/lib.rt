@@ -12,7 +12,7 @@ ghost use Rattle.leaves.specs.Numbered.{Numbered};
 ghost use Rattle.table.specs.Choice.{Ranked};
 ghost use Rattle.pairs.specs.PairRead.{unread_tree, PairIs};
 
-use crate::ranks::{NONE, order_in};
+use crate::ranks::order_in;
 use crate::strict::pair_leaves;
 use trees::{Body, Edition, LEAF_LIMIT, NODE_LIMIT, Reason, Refusal, TreeArrays};
 
@@ -78,10 +78,8 @@ pub fn read_pair(options: Options, first: &[u8], second: &[u8]) -> Result<Pair, 
     };
     let tree1 = one.tree;
     let tree2 = two.tree;
-    let mut partner = [NONE; NODE_LIMIT];
-    pair_leaves(options, first, tree1, second, tree2, &mut partner)?;
-    let most = trees::least(leaves1, leaves2);
-    let order = order_in(edition, first, tree1, &partner, most);
+    let partner = pair_leaves(options, first, &tree1, second, &tree2)?;
+    let order = order_in(edition, first, &tree1, &partner, leaves1.min(leaves2));
     Ok(Pair {
         tree1,
         tree2,
@@ -89,12 +87,12 @@ pub fn read_pair(options: Options, first: &[u8], second: &[u8]) -> Result<Pair, 
     })
 }
 
-// Rank n for node u. The test is for safety alone: a tree has no node past 158.
-fn put_rank(rank: &mut [u8; NODE_LIMIT], u: usize, n: usize)
-    ensures { n < 256 → length rank.old ≡ 159 → rank.new ≡ set rank.old u n }
+// The value x for node u. The test is for safety alone: a tree has no node past 158.
+fn put_at<T: Copy>(column: &mut [T; NODE_LIMIT], u: usize, x: T)
+    ensures { length column.old ≡ 159 → column.new ≡ set column.old u x }
 {
     if u < NODE_LIMIT {
-        rank[u] = trees::narrow(n);
+        column[u] = x;
     }
 }
 
@@ -104,12 +102,9 @@ pub fn rank_leaves(order: &[u8; LEAF_LIMIT], m: usize, rank: &mut [u8; NODE_LIMI
     ensures { (t : Tree) (C : List Label) → Proper t → increasing C ≡ true → m ≡ length C → m ≤ 80
         → Numbered t C order.now → Ranked t C rank.new }
 {
-    let n = trees::least(m, LEAF_LIMIT);
     *rank = [NO_RANK; NODE_LIMIT];
-    let mut r: usize = 0;
-    while r < n {
-        put_rank(rank, trees::wide(order[r]), r);
-        r += 1;
+    for r in 0..m.min(LEAF_LIMIT) {
+        put_at(rank, usize::from(order[r]), r as u8);
     }
 }
 
@@ -117,25 +112,9 @@ pub fn rank_leaves(order: &[u8; LEAF_LIMIT], m: usize, rank: &mut [u8; NODE_LIMI
 pub fn entries_at(places: &[usize; LEAF_LIMIT], values: &[u8], count: usize) -> [usize; LEAF_LIMIT]
     ensures { (i : ℕ) → i < count → i < 80 → get_or result i 0 ≡ get_or values.now (get_or places.now i 0) 0 }
 {
-    let n = trees::least(count, LEAF_LIMIT);
-    let mut found = [0usize; LEAF_LIMIT];
-    let mut i: usize = 0;
-    while i < n {
-        found[i] = trees::byte_entry(values, places[i]);
-        i += 1;
-    }
-    found
-}
-
-// The same numbers in wider entries: an order is passed by value, so its entries are narrow, and lent to loops, which take wide ones.
-pub fn widened(order: &[u8; LEAF_LIMIT]) -> [usize; LEAF_LIMIT]
-    ensures { (i : ℕ) → i < 80 → get_or result i 0 ≡ get_or order.now i 0 }
-{
-    let mut found = [0usize; LEAF_LIMIT];
-    let mut i: usize = 0;
-    while i < LEAF_LIMIT {
-        found[i] = trees::wide(order[i]);
-        i += 1;
+    let mut found = [0; LEAF_LIMIT];
+    for i in 0..count.min(LEAF_LIMIT) {
+        found[i] = trees::entry(values, places[i]);
     }
     found
 }

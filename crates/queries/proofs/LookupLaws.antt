@@ -1,5 +1,5 @@
 -- A list's labels looked up: the search for a label's rank, and labels marked one after the other. Assumes nothing.
-use Prim.Native.Nat.{ℕ, suc, ◌+◌, ◌%◌, ◌<◌, ◌≤◌, min}
+use Prim.Native.Nat.{ℕ, suc, ◌+◌, ◌<◌, ◌≤◌, min}
 use mathlib.Core.Path.{◌≡◌, sym, ◌∙◌, ap}
 use mathlib.Core.Bool.{true, false}
 use mathlib.Core.Logic.{◌⊎◌, inl, inr}
@@ -9,6 +9,9 @@ use lib.Dec.{eqb, ltb}
 use lib.ListN.{length, get_or, set, replicate, length-set, length-replicate}
 use lib.Seq.{get_or-set_same, get_or-set_other}
 use borrow.Author.Tests.{eqb-true, eqb-false, lt-ltb, le-ltb}
+use Rattle.trees.specs.declared.Edition.{Edition}
+use Rattle.trees.specs.Edition.{in_edition, key}
+use Rattle.trees.proofs.FoldLaws.{fold_part}
 use Rattle.trees.specs.Label.{Label, same_label, is_in, distinct}
 use Rattle.trees.specs.Token.{Token, spelling}
 use Rattle.trees.specs.Tree.{Tree, decoded}
@@ -26,10 +29,10 @@ use Rattle.triples.proofs.RowLaws.{rank_at}
 use Rattle.trees.specs.Arrays.{node_limit}
 use Rattle.leaves.specs.Find.{found_leaf, leaf_found}
 use Rattle.leaves.proofs.FindLaws.{found_is_some}
-use Rattle.std.specs.Prelude.{is_some}
 use Rattle.leaves.specs.Numbered.{Numbered}
 use Rattle.pairs.specs.OwnLeaves.{OwnLeaves}
 use Rattle.queries.specs.ListRead.{OwnList}
+use Rattle.std.proofs.Common.{Some, None, is_some}
 use Rattle.queries.specs.FirstMarks.{FoundRank, FirstMarked}
 use Rattle.table.specs.Choice.{Marked}
 use Rattle.pairs.proofs.RankLaws.{own_nodes, own_few, own_part, search_found, search_missing, inc_differ}
@@ -55,6 +58,19 @@ pub list_part : {K : List Token} {text start size : List ℕ} {count : ℕ} → 
     → spelling (part_of (get_or start k 0) (get_or size k 0) text) ≡ get_or (map spelling K) k []
 list_part {K} o k h = rw (o.text_is, o.start_is, o.size_is) (part_at K k (omega (arith, o.count_is)))
 
+-- what a token's text stands for, as an edition reads it
+
+pub token_read : (e : Edition) (text : List ℕ) {K : List Token} {start size token : List ℕ} {count : ℕ} → OwnList K (in_edition e text) start size count
+    → (k : ℕ) → k < count → token ≡ leaf_label text start size k → key e token ≡ get_or (map spelling K) k []
+token_read e text {K} {start} {size} o k h d =
+    ap spelling (ap (in_edition e) d ∙ sym (fold_part e (get_or start k 0) (get_or size k 0) text)) ∙ list_part o k h
+
+pub label_read : (e : Edition) (text token : List ℕ) (start size : List ℕ) (u : ℕ) {label : List ℕ} → label ≡ leaf_label text start size u
+    → same_label (spelling (leaf_label (in_edition e text) start size u)) (key e token) ≡ same_label (key e label) (key e token)
+label_read e text token start size u d =
+    ap (λ (x : Label). same_label (spelling x) (key e token))
+    (fold_part e (get_or start u 0) (get_or size u 0) text ∙ ap (in_edition e) (sym d))
+
 -- the search for a rank
 
 module _ {s : Tree} {text left start size : List ℕ} {nodes : ℕ} (o : OwnLeaves s text left start size nodes) (C : List Label) (order : List ℕ)
@@ -62,21 +78,15 @@ module _ {s : Tree} {text left start size : List ℕ} {nodes : ℕ} (o : OwnLeav
   label_is : spelling (leaf_label text start size (get_or order r 0)) ≡ get_or C r []
   label_is = own_part o (get_or order r 0) (get_or C r []) (numbered r h)
 
-  pub rank_here : same_label (spelling (leaf_label text start size (get_or order r 0))) x ≡ true → FoundRank C x r
-  rank_here e = record {
-    at = λ l. sym label_is ∙ same_eq (spelling (leaf_label text start size (get_or order r 0))) x e;
-    missing = λ l. absurd (omega arith);
-  }
+  pub rank_here : same_label (spelling (leaf_label text start size (get_or order r 0))) x ≡ true → FoundRank C x (Some r)
+  rank_here e = (h, sym label_is ∙ same_eq (spelling (leaf_label text start size (get_or order r 0))) x e)
 
   pub not_here : same_label (spelling (leaf_label text start size (get_or order r 0))) x ≡ false → get_or C r [] ≡ x → ⊥
   not_here e d = clash {b = same_label (spelling (leaf_label text start size (get_or order r 0))) x}
       (eq_same (spelling (leaf_label text start size (get_or order r 0))) x (label_is ∙ d)) e
 
-pub rank_missing : (C : List Label) (x : Label) (r : ℕ) → length C ≤ r → ((q : ℕ) → q < length C → get_or C q [] ≡ x → ⊥) → FoundRank C x r
-rank_missing C x r l none = record {
-  at = λ h. absurd (omega arith);
-  missing = λ h. refute (is_in x C) (λ m. let n = number_of C x m in none n.at n.below n.is);
-}
+pub rank_missing : (C : List Label) (x : Label) → ((q : ℕ) → q < length C → get_or C q [] ≡ x → ⊥) → FoundRank C x None
+rank_missing C x none = refute (is_in x C) (λ m. let n = number_of C x m in none n.at n.below n.is)
 
 -- labels marked one after the other
 
@@ -92,7 +102,7 @@ marks_none C K = record {
 }
 
 pub marks_next : (k : ℕ) (C K : List Label) (number : List ℕ) (r x : ℕ) → increasing C ≡ true → distinct K ≡ true → length C ≤ 80
-    → k < length K → k < 80 → r < length C → get_or C r [] ≡ get_or K k [] → x ≡ (k + 1) % 256 → FirstMarked k C K number
+    → k < length K → k < 80 → r < length C → get_or C r [] ≡ get_or K k [] → x ≡ k + 1 → FirstMarked k C K number
     → FirstMarked (k + 1) C K (set number r x)
 marks_next k C K number r x inc dk few hk small hr e v m = record {
   size = length-set number r x ∙ m.size;

@@ -32,7 +32,7 @@ use Rattle.pairs.specs.Outcome.{refused}
 use Rattle.queries.specs.Query.{answer_to, held_by}
 use Rattle.pairs.specs.PairRead.{OwnTrees}
 use Rattle.queries.specs.ListRead.{OwnLabels}
-use Rattle.queries.specs.FirstMarks.{FirstMarked, MarkedTo}
+use Rattle.queries.specs.FirstMarks.{FirstMarked, NotIn}
 use Rattle.queries.specs.Missing.{FirstMissing}
 use Rattle.queries.specs.RankedList.{AskedOf}
 use Rattle.pairs.specs.declared.CommonOrder.{CommonOrder}
@@ -93,21 +93,20 @@ module _ {e : Edition} {first : List ℕ} {tree1 tree2 : TreeArrays} {order : Co
   pub common_ordered : increasing (common (keyed e b.s) (keyed e b.t)) ≡ true
   common_ordered = common_inc (keyed e b.s) (keyed e b.t) (own_proper b.one).different
 
-  module _ {list : List ℕ} {places : LabelPlaces} (l : OwnLabels e list places) {number : List ℕ} {n : ℕ}
-      (marked : MarkedTo n places.count (common (keyed e b.s) (keyed e b.t)) (keys_of e l.xs) number) where
-    pub first_missing : n < places.count
+  module _ {list : List ℕ} {places : LabelPlaces} (l : OwnLabels e list places) where
+    pub first_missing : {n : ℕ} → NotIn n (common (keyed e b.s) (keyed e b.t)) (keys_of e l.xs) → n < places.count
         → FirstMissing (folded e b.s) (folded e b.t) (folded_list e l.xs) (in_edition e first) (in_edition e list) tree1 places n
-    first_missing k = record {
+    first_missing m k = record {
       own = b.one;
       own_list = l.own_list;
       below = omega (arith, l.own_list.count_is);
-      earlier = marked.marks.inside;
-      missing = marked.stopped k;
+      earlier = m.earlier;
+      missing = m.missing;
     }
 
-    pub all_asked : places.count ≤ n → n ≤ places.count
+    pub all_asked : {number : List ℕ} → FirstMarked places.count (common (keyed e b.s) (keyed e b.t)) (keys_of e l.xs) number
         → AskedOf (folded e b.s) (folded e b.t) (folded_list e l.xs) tree1 tree2 order number places
-    all_asked p q = record {
+    all_asked {number} marked = record {
       asked = record {
         one = record {
           valid = b.one.valid;
@@ -136,8 +135,8 @@ module _ {e : Edition} {first : List ℕ} {tree1 tree2 : TreeArrays} {order : Co
       where
         whole_list : FirstMarked (length (keys_of e l.xs)) (common (keyed e b.s) (keyed e b.t)) (keys_of e l.xs) number
         whole_list =
-            let d : n ≡ length (keys_of e l.xs) = omega (arith, l.own_list.count_is, length-map (folded_list e l.xs) spelling) in
-            rw d at marked.marks
+            let d : places.count ≡ length (keys_of e l.xs) = omega (arith, l.own_list.count_is, length-map (folded_list e l.xs) spelling) in
+            rw d at marked
 
 pub list_few : {e : Edition} {list : List ℕ} {places : LabelPlaces} → OwnLabels e list places → places.count ≤ list_limit
 list_few l = omega (arith, l.own_list.count_is, l.own_list.few)

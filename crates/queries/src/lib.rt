@@ -4,7 +4,7 @@
 // No public function has a `requires`. Names that end in 1 are of the first tree, in 2 of the second.
 #![tactic(auto)]
 
-ghost use Rattle.std.specs.Prelude.{◌≡◌, true, cond, List, map, ℕ, ◌-◌, ◌<◌, ◌≤◌, length};
+ghost use Rattle.std.specs.Prelude.{◌≡◌, true, cond, List, map, ℕ, ◌<◌, ◌≤◌, length, IfSome, IfErr};
 ghost use Rattle.trees.specs.declared.Reason.TheVariants.{FirstLacks, SecondLacks};
 ghost use Rattle.trees.specs.Label.{Label};
 ghost use Rattle.trees.specs.Edition.{in_edition, folded, key};
@@ -24,104 +24,79 @@ ghost use Rattle.queries.specs.Missing.{FirstMissing};
 ghost use Rattle.queries.specs.RankedList.{MarksAre};
 
 use lists::{LIST_LIMIT, LabelPlaces};
-use pairs::{CommonOrder, widened};
+use pairs::CommonOrder;
 use table::RANKS;
-use trees::{Body, Edition, LEAF_LIMIT, NODE_LIMIT, Reason, Refusal, TreeArrays, narrow, wide};
+use trees::{Body, Edition, LEAF_LIMIT, Reason, Refusal, TreeArrays};
 
 // Reads a list: where its labels stand in it.
 pub fn read_labels(edition: Edition, text: &[u8], body: Body) -> Result<LabelPlaces, Refusal>
     ensures { ListedIs edition body text.now result }
 {
     let read = lists::read_list(edition, text, body);
-    let answer = read.answer;
-    let places = read.places;
-    match answer {
-        Ok(_) => Ok(places),
-        Err(refusal) => Err(refusal),
-    }
+    read.answer?;
+    Ok(read.places)
 }
 
-// The rank among the m common labels of the one that a token stands for, or m.
+// The rank among the m common labels of the one that a token stands for.
 fn rank_in(
     edition: Edition,
     text1: &[u8],
-    start1: &[u16; NODE_LIMIT],
-    size1: &[u8; NODE_LIMIT],
-    order1: &[usize; LEAF_LIMIT],
+    tree1: &TreeArrays,
+    order1: &[u8; LEAF_LIMIT],
     m: usize,
     token: &[u8],
-) -> usize
+) -> Option<usize>
     requires { m ≤ 80 }
-    ensures upper_bound { result ≤ m }
-    ensures found_rank { (s : Tree) (left : List ℕ) (nodes : ℕ) (C : List Label)
-        → OwnLeaves s (in_edition edition text1.now) left start1.now size1.now nodes
+    ensures upper_bound { IfSome result (λ r. r < m) }
+    ensures found_rank { (s : Tree) (C : List Label)
+        → OwnLeaves s (in_edition edition text1.now) tree1.now.left tree1.now.start tree1.now.size tree1.now.nodes
         → m ≡ length C → Numbered (decoded s) C order1.now → FoundRank C (key edition token.now) result }
 {
-    let mut r: usize = 0;
-    while r < m {
-        if trees::same_label(
-            edition,
-            trees::leaf_label(text1, start1, size1, order1[r]),
-            token,
-        ) {
-            return r;
+    for r in 0..m {
+        let label = trees::leaf_label(text1, &tree1.start, &tree1.size, usize::from(order1[r]));
+        if trees::same_label(edition, label, token) {
+            return Some(r);
         }
-        r += 1;
     }
-    r
+    None
 }
 
-// Marks each common label of the list, by rank, with its number in the list, counted from 1. Returns the number, counted from 0, of the first
-// label of the list that is not common, or how many there are.
+// Marks each common label of the list, by rank, with its number in the list, counted from 1; or the number, counted from 0, of the first label
+// of the list that is not common.
 fn mark(
     edition: Edition,
     text1: &[u8],
-    tree1: TreeArrays,
-    order1: &[usize; LEAF_LIMIT],
+    tree1: &TreeArrays,
+    order1: &[u8; LEAF_LIMIT],
     m: usize,
     list: &[u8],
-    places: LabelPlaces,
-    number: &mut [u8; RANKS],
-) -> usize
-    requires { (m ≤ 80) × (places.count ≤ 80) }
-    ensures upper_bound { result ≤ places.count }
+    places: &LabelPlaces,
+) -> Result<[u8; RANKS], usize>
+    requires { (m ≤ 80) × (places.now.count ≤ 80) }
+    ensures upper_bound { IfErr result (λ n. n < places.now.count) }
     ensures marked_to { (s : Tree) (C : List Label) (K : List Token)
-        → OwnLeaves s (in_edition edition text1.now) tree1.left tree1.start tree1.size tree1.nodes
-        → OwnList K (in_edition edition list.now) places.start places.size places.count
+        → OwnLeaves s (in_edition edition text1.now) tree1.now.left tree1.now.start tree1.now.size tree1.now.nodes
+        → OwnList K (in_edition edition list.now) places.now.start places.now.size places.now.count
         → increasing C ≡ true → m ≡ length C → Numbered (decoded s) C order1.now
-        → MarkedTo result places.count C (map spelling K) number.new }
+        → MarkedTo places.now.count C (map spelling K) result }
 {
-    let start1 = tree1.start;
-    let size1 = tree1.size;
-    let starts = places.start;
-    let sizes = places.size;
-    *number = [0; RANKS];
-    let mut k: usize = 0;
-    while k < places.count {
-        let r = rank_in(
-            edition,
-            text1,
-            &start1,
-            &size1,
-            order1,
-            m,
-            trees::leaf_label(list, &starts, &sizes, k),
-        );
-        if r == m {
-            return k;
-        }
-        number[r] = narrow(k + 1);
-        k += 1;
+    let mut number = [0; RANKS];
+    for k in 0..places.count {
+        let token = trees::leaf_label(list, &places.start, &places.size, k);
+        let Some(r) = rank_in(edition, text1, tree1, order1, m, token) else {
+            return Err(k);
+        };
+        number[r] = (k + 1) as u8;
     }
-    k
+    Ok(number)
 }
 
 // The tree has a leaf with the label that a token stands for.
-fn holds_label(edition: Edition, text: &[u8], tree: TreeArrays, token: &[u8]) -> bool
-    ensures { (t : Tree) → OwnLeaves t (in_edition edition text.now) tree.left tree.start tree.size tree.nodes
+fn holds_label(edition: Edition, text: &[u8], tree: &TreeArrays, token: &[u8]) -> bool
+    ensures { (t : Tree) → OwnLeaves t (in_edition edition text.now) tree.now.left tree.now.start tree.now.size tree.now.nodes
         → result ≡ holds (decoded t) (key edition token.now) }
 {
-    leaves::find_leaf(edition, text, &tree, token).is_some()
+    leaves::find_leaf(edition, text, tree, token).is_some()
 }
 
 // The reason of a label that is not common, if the first tree has it or not.
@@ -139,30 +114,23 @@ fn lack_reason(held: bool) -> Reason
 fn lack(
     edition: Edition,
     first: &[u8],
-    tree1: TreeArrays,
+    tree1: &TreeArrays,
     list: &[u8],
-    places: LabelPlaces,
+    places: &LabelPlaces,
     body: Body,
     n: usize,
 ) -> Refusal
     requires { n < 80 }
     ensures { (s t : Tree) (xs : List Token)
         → FirstMissing (folded edition s) (folded edition t) (folded_list edition xs) (in_edition edition first.now)
-        (in_edition edition list.now) tree1 places n
+        (in_edition edition list.now) tree1.now places.now n
         → held_by body xs (answer_to edition (record { first = s; second = t }) xs) ≡ refused result }
 {
-    let starts = places.start;
-    let sizes = places.size;
-    let held = holds_label(
-        edition,
-        first,
-        tree1,
-        trees::leaf_label(list, &starts, &sizes, n),
-    );
+    let token = trees::leaf_label(list, &places.start, &places.size, n);
     Refusal {
-        reason: lack_reason(held),
+        reason: lack_reason(holds_label(edition, first, tree1, token)),
         body,
-        place: trees::place_entry(&starts, n),
+        place: usize::from(places.start[n]),
     }
 }
 
@@ -170,34 +138,29 @@ fn lack(
 fn mark_few(
     edition: Edition,
     first: &[u8],
-    tree1: TreeArrays,
+    tree1: &TreeArrays,
     order: CommonOrder,
     list: &[u8],
-    places: LabelPlaces,
+    places: &LabelPlaces,
     body: Body,
 ) -> Result<[u8; RANKS], Refusal>
-    requires { (order.count ≤ 80) × (places.count ≤ 80) }
-    ensures { (tree2 : TreeArrays) (b : OwnTrees edition first.now tree1 tree2 order)
-        (l : OwnLabels edition list.now places)
-        → MarksAre edition b.s b.t l.xs body tree1 tree2 order places result }
+    requires { (order.count ≤ 80) × (places.now.count ≤ 80) }
+    ensures { (tree2 : TreeArrays) (b : OwnTrees edition first.now tree1.now tree2 order)
+        (l : OwnLabels edition list.now places.now)
+        → MarksAre edition b.s b.t l.xs body tree1.now tree2 order places.now result }
 {
-    let numbers = order.first;
-    let order1 = widened(&numbers);
-    let mut number = [0u8; RANKS];
-    let n = mark(
+    match mark(
         edition,
         first,
         tree1,
-        &order1,
+        &order.first,
         order.count,
         list,
         places,
-        &mut number,
-    );
-    if n < places.count {
-        return Err(lack(edition, first, tree1, list, places, body, n));
+    ) {
+        Ok(number) => Ok(number),
+        Err(n) => Err(lack(edition, first, tree1, list, places, body, n)),
     }
-    Ok(number)
 }
 
 // Looks up the labels of a list among those that two trees share: each common label's number in the list, counted from 1, by rank; or number
@@ -215,11 +178,8 @@ pub fn mark_list(
         (l : OwnLabels edition list.now places)
         → MarksAre edition b.s b.t l.xs body tree1 tree2 order places result }
 {
-    if LEAF_LIMIT < order.count {
+    if LEAF_LIMIT < order.count || LIST_LIMIT < places.count {
         return Ok([0; RANKS]);
     }
-    if LIST_LIMIT < places.count {
-        return Ok([0; RANKS]);
-    }
-    mark_few(edition, first, tree1, order, list, places, body)
+    mark_few(edition, first, &tree1, order, list, &places, body)
 }

@@ -9,15 +9,14 @@ use native.Mathlib.Omega.{arith}
 use Rattle.pairs.proofs.rank_leaves.Goals as goal
 
 pub loop-r-init : goal.loop-r-init
-loop-r-init c =
-    (omega arith, ranks_start _)
+loop-r-init c = ranks_start _
 
 pub loop-r-preserved : goal.loop-r-preserved
 loop-r-preserved c =
-    let l = c.loop-r in let few = c.least-n.ensures in (omega arith, ranks_next _ _ _ _ l.invariant.1 (λ k. rw c.wide.ensures at (c.put_rank.ensures (omega (arith, few)) k)))
+    ranks_next _ _ _ _ c.loop-r.invariant (λ k. rw c.from.ensures at (c.put_at.ensures k))
 
 pub returns : goal.returns
 returns c =
     λ t C v inc e few n.
-    let a = c.args in let r-is : c.loop-r.r ≡ a.m = omega (arith, c.loop-r.invariant.0, c.loop-r-test.false, c.least-n.ensures) in
-    subst (λ (k : List ℕ). Ranked t C k) (sym (c.loop-r.invariant.1 ∙ ap (ranks_of a.order.now) r-is)) (ranked t C _ _ v inc e n)
+    let a = c.args in let r-is : c.loop-r.r ≡ a.m = omega arith in
+    subst (λ (k : List ℕ). Ranked t C k) (sym (c.loop-r.invariant ∙ ap (ranks_of a.order.now) r-is)) (ranked t C _ _ v inc e n)

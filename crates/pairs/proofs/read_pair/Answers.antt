@@ -28,25 +28,25 @@ pair_leaves-requires c =
     let two = tree_read_lem a.options.edition T a.second.now _ _ c.read_tree-two.ensures c.in-Ok-answer2.is in
     (tree_few one, tree_few two)
 
-pub returns-in_err-pair_leaves : goal.returns-in_err-pair_leaves
-returns-in_err-pair_leaves c =
+pub returns-in_err-partner : goal.returns-in_err-partner
+returns-in_err-partner c =
     let a = c.args in let one = tree_read_lem a.options.edition S a.first.now _ _ c.read_tree-one.ensures c.in-Ok.is in
     let two = tree_read_lem a.options.edition T a.second.now _ _ c.read_tree-two.ensures c.in-Ok-answer2.is in
-    let p = c.pair_leaves.ensures one.of two.of (tree_leaves one) (tree_leaves two) in
+    let p = c.in_err-partner.ensures one.of two.of (tree_leaves one) (tree_leaves two) in
     let r = err_from_is_err_and c.from_residual.result c.from_residual.ensures.1 in
-    rw (r.1, r.2) (trees_stray a.options a.first.now a.second.now one.of one.is two.of two.is _ (sym c.in_err-pair_leaves.was ∙ p.told))
+    rw (r.1, r.2) (trees_stray a.options a.first.now a.second.now one.of one.is two.of two.is _ p)
 
 pub order_in-order-requires : goal.order_in-order-requires
 order_in-order-requires c =
     let a = c.args in let one = tree_read_lem a.options.edition S a.first.now _ _ c.read_tree-one.ensures c.in-Ok.is in
-    (tree_few one, omega (arith, c.least-most.ensures, tree_count one))
+    (tree_few one, omega (arith, c.min.ensures, tree_count one))
 
 pub returns : goal.returns
 returns c =
     let a = c.args in let one = tree_read_lem a.options.edition S a.first.now _ _ c.read_tree-one.ensures c.in-Ok.is in
     let two = tree_read_lem a.options.edition T a.second.now _ _ c.read_tree-two.ensures c.in-Ok-answer2.is in
-    let p = c.pair_leaves.ensures one.of two.of (tree_leaves one) (tree_leaves two) in
-    let k = all_shared a.options one.of two.of (sym c.in_ok-pair_leaves.was ∙ p.told) in
+    let p = c.in_ok-partner.ensures one.of two.of (tree_leaves one) (tree_leaves two) in
+    let k = all_shared a.options one.of two.of p.1 in
     let d = c.order_in-order.ensures.ordered (folded a.options.edition one.of) (folded a.options.edition two.of) (tree_leaves one)
-    (tree_leaves two).valid (c.least-most.ensures ∙ ap₂ min (tree_most one) (tree_most two)) p.partners in
+    (tree_leaves two).valid (c.min.ensures ∙ ap₂ min (tree_most one) (tree_most two)) p.0 in
     pair_clear a.options a.first.now a.second.now _ one two k c.order_in-order.ensures.count_bound d

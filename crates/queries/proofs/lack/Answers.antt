@@ -1,19 +1,16 @@
 -- `queries::lack` meets its contract. Assumes nothing.
-use mathlib.Core.Path.{◌∙◌, ap, sym}
+use mathlib.Core.Path.{◌∙◌, ap}
 use native.Mathlib.Omega.{arith}
-use Rattle.trees.specs.Edition.{in_edition, folded, keyed}
-use Rattle.trees.proofs.FoldLaws.{fold_part}
-use Rattle.trees.specs.Token.{spelling}
+use Rattle.trees.specs.Edition.{folded, keyed}
 use Rattle.agreement.specs.Closer.{holds}
 use Rattle.queries.proofs.MarkLaws.{lack_told_of}
-use Rattle.queries.proofs.LookupLaws.{list_part}
+use Rattle.queries.proofs.LookupLaws.{token_read}
 use Rattle.queries.proofs.lack.Goals as goal
 
 pub returns : goal.returns
 returns c =
     λ s t xs h.
-    let g = c.args in let token = c.leaf_label.ensures in let p = ap spelling (ap (in_edition g.edition) token ∙ sym (fold_part g.edition _ _ g.list.now)) ∙ list_part h.own_list
-    g.n (omega (arith, h.below, h.own_list.count_is)) in
-    let has = c.holds_label-held in let held = has.ensures (folded g.edition s) h.own ∙ ap (holds (keyed g.edition s)) p in
-    rw (c.lack_reason.ensures, c.place_entry.ensures) (lack_told_of g.edition s t xs _ _ _ _ g.n h g.body
-    has.result held)
+    let g = c.args in
+    let x = token_read g.edition g.list.now h.own_list g.n (omega (arith, h.below, h.own_list.count_is)) c.leaf_label-token.ensures in
+    let held = c.holds_label.ensures (folded g.edition s) h.own ∙ ap (holds (keyed g.edition s)) x in
+    rw (c.lack_reason.ensures, c.from.ensures) (lack_told_of g.edition s t xs _ _ _ _ g.n h g.body _ held)

@@ -1,5 +1,5 @@
 -- `queries::rank_in` meets its contract. Assumes nothing.
-use Prim.Native.Nat.{ℕ, ◌-◌, ◌<◌, ◌≤◌}
+use Prim.Native.Nat.{ℕ, ◌<◌}
 use mathlib.Core.Path.{◌≡◌}
 use mathlib.Core.List.{List, []}
 use lib.ListN.{length, get_or}
@@ -11,8 +11,6 @@ use Rattle.pairs.specs.OwnLeaves.{OwnLeaves}
 use Rattle.queries.proofs.rank_in.Given as goal
 
 abbrev pub invariant-loop-r : goal.invariant-loop-r
-invariant-loop-r l = (l.r ≤ l.m) × ((s : Tree) (left : List ℕ) (nodes : ℕ) (C : List Label) → OwnLeaves s (in_edition l.edition l.text1) left l.start1 l.size1 nodes
-    → l.m ≡ length C → Numbered (decoded s) C l.order1 → (q : ℕ) → q < l.r → get_or C q [] ≡ key l.edition l.token → ⊥)
-
-abbrev pub decreases-loop-r : goal.decreases-loop-r
-decreases-loop-r l = l.m - l.r
+invariant-loop-r l = (s : Tree) (C : List Label)
+    → OwnLeaves s (in_edition l.edition l.text1) l.tree1.left l.tree1.start l.tree1.size l.tree1.nodes
+    → l.m ≡ length C → Numbered (decoded s) C l.order1 → (q : ℕ) → q < l.r → get_or C q [] ≡ key l.edition l.token → ⊥

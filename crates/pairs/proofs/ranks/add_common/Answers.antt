@@ -1,22 +1,21 @@
 -- `ranks::add_common` meets its contract. Assumes nothing.
 use Prim.Native.Nat.{◌+◌}
-use native.Mathlib.Omega.{arith}
 use Rattle.pairs.specs.CommonRanks.{common_from}
 use Rattle.trees.specs.Tree.{decoded}
 use Rattle.trees.proofs.TokenLaws.{valid_decoded}
-use Rattle.pairs.proofs.RankLaws.{own_proper, own_nodes, stored_at, collected_full, collected_none, collected_add, from_inc}
+use Rattle.pairs.proofs.RankLaws.{own_proper, own_nodes, stored_at, tested_none, tested_some, collected_full, collected_none, collected_add, from_inc}
 use Rattle.pairs.proofs.ranks.add_common.Goals as goal
 
 pub returns-then-m-most-clause-collected : goal.returns-then-m-most-clause-collected
-returns-then-m-most-clause-collected c = λ s t left nodes o vt b h p k.
+returns-then-m-most-clause-collected c = λ s t o vt b h p k.
     collected_full (own_proper o) (valid_decoded t vt) (rw (← own_nodes o) h) p k _ b c.if-m-most.true
 
-pub returns-then-v-ge-NONE-clause-collected : goal.returns-then-v-ge-NONE-clause-collected
-returns-then-v-ge-NONE-clause-collected c = λ s t left nodes o vt b h p k.
-    collected_none (own_proper o) (valid_decoded t vt) (rw (← own_nodes o) h) p k c.if-v-ge-NONE.true
+pub returns-then-is_none-clause-collected : goal.returns-then-is_none-clause-collected
+returns-then-is_none-clause-collected c = λ s t o vt b h p k.
+    collected_none (own_proper o) (valid_decoded t vt) (rw (← own_nodes o) h) p k (tested_none _ _ c.is_none.ensures c.if-is_none.true)
 
 pub returns-clause-collected : goal.returns-clause-collected
-returns-clause-collected c = λ s t left nodes o vt b h p k.
-    collected_add (own_proper o) (valid_decoded t vt) (rw (← own_nodes o) h) p k (omega (arith, c.if-v-ge-NONE.false)) _ (stored_at o _) _
-    (c.insert_leaf.ensures s left nodes (common_from (decoded s) (decoded t) (c.args.u + 1)) o
+returns-clause-collected c = λ s t o vt b h p k.
+    collected_add (own_proper o) (valid_decoded t vt) (rw (← own_nodes o) h) p k (tested_some _ _ c.is_none.ensures c.if-is_none.false) _ (stored_at o _) _
+    (c.insert_leaf.ensures s (common_from (decoded s) (decoded t) (c.args.u + 1)) o
     (from_inc (decoded s) (decoded t) _ (own_proper o).different) k.count k.first k.size1)

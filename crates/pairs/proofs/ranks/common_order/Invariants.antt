@@ -8,9 +8,7 @@ use Rattle.pairs.specs.CommonRanks.{Partners, most_common, Collected}
 use Rattle.pairs.proofs.ranks.common_order.Given as goal
 
 abbrev pub invariant-loop-u : goal.invariant-loop-u
-invariant-loop-u l = (l.m ≤ l.most) × (l.u ≤ l.initial.u) × ((s t : Tree) → OwnLeaves s (in_edition l.edition l.text1) l.left1 l.start1 l.size1 (l.initial.u) → Valid t
-    → l.most ≡ most_common (decoded s) (decoded t) → Partners (l.initial.u) (decoded s) (decoded t) l.partner
+invariant-loop-u l = (l.m ≤ l.most) × ((s t : Tree)
+    → OwnLeaves s (in_edition l.edition l.text1) l.tree1.left l.tree1.start l.tree1.size l.tree1.nodes → Valid t
+    → l.most ≡ most_common (decoded s) (decoded t) → Partners l.tree1.nodes (decoded s) (decoded t) l.partner
     → Collected (decoded s) (decoded t) l.u l.order1 l.m)
-
-abbrev pub decreases-loop-u : goal.decreases-loop-u
-decreases-loop-u l = l.u

@@ -1,5 +1,5 @@
 -- `ranks::place_of` meets its contract. Assumes nothing.
-use Prim.Native.Nat.{ℕ, ◌-◌, ◌≤◌}
+use Prim.Native.Nat.{◌-◌, ◌≤◌}
 use mathlib.Core.Path.{◌≡◌}
 use mathlib.Core.Bool.{true}
 use mathlib.Core.List.{List}
@@ -15,7 +15,7 @@ use Rattle.pairs.proofs.RankLaws.{Halved}
 use Rattle.pairs.proofs.ranks.place_of.Given as goal
 
 abbrev pub invariant-loop-low : goal.invariant-loop-low
-invariant-loop-low l = (l.low ≤ l.high) × (l.high ≤ l.m) × ((t : Tree) (left : List ℕ) (nodes : ℕ) (C : List Label) → OwnLeaves t (in_edition l.edition l.text) left l.start l.size nodes
+invariant-loop-low l = (l.low ≤ l.high) × (l.high ≤ l.m) × ((t : Tree) (C : List Label) → OwnLeaves t (in_edition l.edition l.text) l.tree.left l.tree.start l.tree.size l.tree.nodes
     → increasing C ≡ true → l.m ≡ length C → Numbered (decoded t) C l.order → Halved (stored_bytes l.label) C l.low l.high)
 
 abbrev pub decreases-loop-low : goal.decreases-loop-low

@@ -5,35 +5,18 @@ use Rattle.pairs.proofs.StrayLaws.{lone_start, lone_found, lone_next, lone_none}
 use Rattle.pairs.proofs.strict.lone_leaf.Goals as goal
 
 pub loop-u-init : goal.loop-u-init
-loop-u-init c =
-    (omega arith, λ s t left_is nodes_is v p. lone_start s t)
+loop-u-init c = λ s t left_is nodes_is v p. lone_start s t
 
 pub returns-then-is_lone-clause-lone : goal.returns-then-is_lone-clause-lone
 returns-then-is_lone-clause-lone c = λ s t left_is nodes_is v p.
-    record {
-      found = λ h.
-          lone_found left_is nodes_is v p _ (c.loop-u.invariant.1 s t left_is nodes_is v p)
-          (omega (arith, c.loop-u-test.true))
-          (sym (rw c.wide.ensures at c.is_lone.ensures) ∙ c.if-is_lone.true);
-      missing = λ h. absurd (omega (arith, nodes_is, c.loop-u-test.true));
-    }
+    lone_found left_is nodes_is v p _ (c.loop-u.invariant s t left_is nodes_is v p) (omega arith)
+    (sym (rw c.from.ensures at c.is_lone.ensures) ∙ c.if-is_lone.true)
 
 pub loop-u-preserved : goal.loop-u-preserved
-loop-u-preserved c = (
-  omega arith,
-  λ s t left_is nodes_is v p.
-      lone_next left_is nodes_is v p _ (c.loop-u.invariant.1 s t left_is nodes_is v p) (omega
-      (arith, c.loop-u-test.true))
-      (sym (rw c.wide.ensures at c.is_lone.ensures) ∙ c.if-is_lone.false),
-)
+loop-u-preserved c = λ s t left_is nodes_is v p.
+    lone_next left_is nodes_is v p _ (c.loop-u.invariant s t left_is nodes_is v p) (omega arith)
+    (sym (rw c.from.ensures at c.is_lone.ensures) ∙ c.if-is_lone.false)
 
 pub returns-clause-lone : goal.returns-clause-lone
 returns-clause-lone c = λ s t left_is nodes_is v p.
-    record {
-      found = λ h. absurd (omega (arith, nodes_is, c.loop-u-test.false));
-      missing = λ h. lone_none left_is nodes_is v p c.loop-u.u (c.loop-u.invariant.1 s t left_is nodes_is v p) (omega (
-        arith,
-        nodes_is,
-        h,
-      ));
-    }
+    lone_none left_is nodes_is v p c.loop-u.u (c.loop-u.invariant s t left_is nodes_is v p) (omega arith)
