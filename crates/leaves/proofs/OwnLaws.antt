@@ -23,10 +23,12 @@ use Rattle.trees.proofs.LabelLaws.{same_eq, eq_same}
 use Rattle.trees.proofs.ArrayLaws.{own_stands, good_at, label_inside, few_nodes}
 use Rattle.trees.proofs.PostorderLaws.{laid_arrays, length_postorder, label_shown, LeafAt, leaf_at, subtree_in, holds_leaf}
 use Rattle.trees.proofs.FoldLaws.{fold_part}
-use Rattle.trees.proofs.EditionLaws.{text_folded, arrays_folded, valid_folded}
+use Rattle.trees.proofs.EditionLaws.{text_folded, arrays_folded, valid_folded, valid_spelled}
 use Rattle.trees.proofs.RelabelLaws.{nodes_relabel}
 use Rattle.trees.proofs.DecodedLaws.{decoded_nodes, token_of_leaf, leaf_of_token}
-use Rattle.leaves.specs.Find.{labelled, leaf_from, found_leaf, found_in, ShowsLeaf}
+use Rattle.leaves.specs.Find.{labelled, leaf_from, found_leaf, found_in, leaf_found_in, ShowsLeaf}
+use Rattle.leaves.proofs.FindLaws.{found_here, found_none}
+use Rattle.std.proofs.Common.{Some, None}
 
 -- what the search finds in a tree's own arrays
 abbrev pub own_found : Tree → Label → ℕ
@@ -177,3 +179,15 @@ module _ (e : Edition) (t : Tree) (x : Label) where
             ap spelling (sym (fold_part e (get_or (arrays_of t).start (found_in e t x) 0) (get_or (arrays_of t).size (found_in e t x) 0) (text_of t)))
             ∙ (rw (text_folded e t, arrays_folded e t) at (own_spelling (folded e t) w (found_in e t x) x below f.is));
       }
+
+  -- as an option
+  nodes_few : ValidIn e t → min (nodes_of t) node_limit ≡ nodes_of t
+  nodes_few v = let h = few_nodes t (valid_spelled e t v) in omega arith
+
+  pub found_some_in : ValidIn e t → is_in x (leaves (keyed e t)) ≡ true → leaf_found_in e t x ≡ Some (found_in e t x)
+  found_some_in v h =
+      let n = nodes_few v in
+      sym (found_here _ _ _ _ _ _ (found_in e t x) (omega (arith, (found_shown v h).below, n)) refl)
+
+  pub found_none_in : ValidIn e t → is_in x (leaves (keyed e t)) ≡ false → leaf_found_in e t x ≡ None
+  found_none_in v h = sym (found_none _ _ _ _ _ _ (nodes_few v ∙ sym (missing_in v h)))

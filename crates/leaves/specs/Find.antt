@@ -32,6 +32,10 @@ leaf_found text left start size x nodes =
 abbrev pub found_in : Edition → Tree → Label → ℕ
 found_in e t x = found_leaf (in_edition e (text_of t)) (arrays_of t).left (arrays_of t).start (arrays_of t).size x (nodes_of t)
 
+-- what `find_leaf` finds there
+abbrev pub leaf_found_in : Edition → Tree → Label → Option ℕ
+leaf_found_in e t x = leaf_found (in_edition e (text_of t)) (arrays_of t).left (arrays_of t).start (arrays_of t).size x (nodes_of t)
+
 -- node u of the tree's arrays is a leaf, and the part of the text that shows it has the key x
 pub record ShowsLeaf (e : Edition) (t : Tree) (u : ℕ) (x : Label) : Type 0 where
   pub below : u < nodes_of t
