@@ -14,7 +14,7 @@ use Rattle.trees.specs.declared.Body.TheVariants.{K}
 use Rattle.trees.specs.declared.Refusal.{Refusal}
 use Rattle.trees.specs.Bytes.{kind_of}
 use Rattle.trees.proofs.FoldLaws.{fold_size, kind_folded}
-use Rattle.lists.specs.declared.Fault.{Fault}
+use Rattle.trees.specs.declared.Halt.{Halt}
 use Rattle.lists.specs.declared.LabelPlaces.{LabelPlaces}
 use Rattle.lists.specs.declared.Mode.{Mode}
 use Rattle.lists.specs.declared.Mode.TheVariants as In
@@ -66,7 +66,7 @@ module _ (text : List ℕ) (body : Body) (mode : Mode) (p : LabelPlaces) (i : �
               ∙ from_here;
         }
 
-    pub running_stop : (f : Fault) → Leads (Err f) p' (step_of text k i (mode_in mode p) p.start p.size)
+    pub running_stop : (f : Halt) → Leads (Err f) p' (step_of text k i (mode_in mode p) p.start p.size)
         → (p'' : LabelPlaces) → told_read body (Err f) p'' ≡ list_read body (read_list text)
     unfolding told_read list_read
     running_stop f stopped p'' =
@@ -81,7 +81,7 @@ module _ (text : List ℕ) (body : Body) (mode : Mode) (p : LabelPlaces) (i : �
       let last : i ≡ length text = omega (arith, h, r.inside) in
       rw last at r.ready
 
-  pub running_end : (a : Result ℕ Fault) (p' : LabelPlaces) → length text ≤ i
+  pub running_end : (a : Result ℕ Halt) (p' : LabelPlaces) → length text ≤ i
       → EndsAs body a p' (end_at text body (mode_in mode p) (length text) p.start p.size)
       → told_read body a p' ≡ list_read body (read_list text)
   unfolding told_read answer_of run_from
@@ -112,7 +112,7 @@ module _ (first self : Reader) (mode : Mode) (at : ℕ) (g : Going first self mo
   same_text = rw (g.edition_kept, g.text_kept) refl
 
   module _
-      (k : Kind) (new : Reader) (o : Result Mode Fault) (more : at < length first.text.now) (kind : k ≡ kind_of (get_or first.text.now at 0))
+      (k : Kind) (new : Reader) (o : Result Mode Halt) (more : at < length first.text.now) (kind : k ≡ kind_of (get_or first.text.now at 0))
       (stepped : Steps self new o (step_of (text_in self) k at (mode_in mode self.places) self.places.start self.places.size))
     where
       inside : at < length (text_in first)
@@ -132,7 +132,7 @@ module _ (first self : Reader) (mode : Mode) (at : ℕ) (g : Going first self mo
             text_kept = stepped.text_kept ∙ g.text_kept;
           }
 
-      pub going_stop : (f : Fault) → o ≡ Err f → (body : Body) (p : LabelPlaces)
+      pub going_stop : (f : Halt) → o ≡ Err f → (body : Body) (p : LabelPlaces)
           → told_read body (Err f) p ≡ list_read body (read_list_in first.edition first.text.now)
       going_stop f e body p =
           running_stop (text_in first) body mode self.places at (g.runs body) k new.places inside folded f (rw e at leads) p
@@ -146,7 +146,7 @@ module _ (first self : Reader) (mode : Mode) (at : ℕ) (g : Going first self mo
       rw (g.text_kept, ← fold_size first.edition first.text.now)
       (ready_end (text_in first) K mode self.places at (g.runs K) (past h))
 
-  pub going_end : (body : Body) (o : Result ℕ Fault) (p : LabelPlaces) → length first.text.now ≤ at
+  pub going_end : (body : Body) (o : Result ℕ Halt) (p : LabelPlaces) → length first.text.now ≤ at
       → EndsAs body o p (end_at (text_in self) body (mode_in mode self.places) (length self.text.now) self.places.start self.places.size)
       → told_read body o p ≡ list_read body (read_list_in first.edition first.text.now)
   going_end body o p h e =

@@ -16,7 +16,7 @@ use Rattle.trees.specs.Stored.{part_of, is_among}
 use Rattle.trees.specs.Reading.{refused}
 use Rattle.lists.specs.declared.Mode.{Mode}
 use Rattle.lists.specs.declared.Mode.TheVariants as In
-use Rattle.lists.specs.declared.Fault.{Fault}
+use Rattle.trees.specs.declared.Halt.{Halt}
 use Rattle.lists.specs.declared.Reader.{Reader}
 use Rattle.lists.specs.declared.LabelPlaces.{LabelPlaces}
 use Rattle.lists.specs.declared.ListRead.{ListRead}
@@ -46,7 +46,7 @@ mode_in (In.Bare first len) p = Bare first len p.count
 mode_in (In.Quoted first len) p = Quoted first len p.count
 mode_in In.Closed p = Closed p.count
 
-abbrev pub move_in : Result Mode Fault → LabelPlaces → Move
+abbrev pub move_in : Result Mode Halt → LabelPlaces → Move
 move_in (Ok m) p = Next (mode_in m p)
 move_in (Err f) p = Stop f.0 f.1
 
@@ -60,12 +60,12 @@ abbrev pub after : Move → List ℕ → List ℕ → After
 after o start size = record { outcome = o; start = start; size = size }
 
 -- a reader's step leads where the machine's does; what a refusal leaves in the arrays is free
-abbrev pub Leads : Result Mode Fault → LabelPlaces → After → Type 0
+abbrev pub Leads : Result Mode Halt → LabelPlaces → After → Type 0
 Leads (Ok m) p a = after (Next (mode_in m p)) p.start p.size ≡ a
 Leads (Err f) p a = Stop f.0 f.1 ≡ a.outcome
 
 -- a step leads from one reader to another, of the same text
-pub record Steps (old new : Reader) (result : Result Mode Fault) (a : After) : Type 0 where
+pub record Steps (old new : Reader) (result : Result Mode Halt) (a : After) : Type 0 where
   pub leads : Leads result new.places a
   pub edition_kept : new.edition ≡ old.edition
   pub text_kept : new.text ≡ old.text
@@ -121,11 +121,11 @@ abbrev pub grown : LabelPlaces → (first len : ℕ) → LabelPlaces
 grown p first len = record { count = p.count + 1; start = set p.start p.count first; size = set p.size p.count len }
 
 -- a label has ended: `repeats` is told, or its place is kept
-abbrev pub Kept : (repeats : Bool) → (first len : ℕ) → (old new : LabelPlaces) → Result (Unit {0}) Fault → Type 0
+abbrev pub Kept : (repeats : Bool) → (first len : ℕ) → (old new : LabelPlaces) → Result (Unit {0}) Halt → Type 0
 Kept repeats first len old new (Ok _) = (repeats ≡ false) × (new ≡ grown old first len)
 Kept repeats first len old new (Err f) = (repeats ≡ true) × (f ≡ record { 0 = Repeated; 1 = first })
 
-pub record Ends (old new : Reader) (first len : ℕ) (result : Result (Unit {0}) Fault) : Type 0 where
+pub record Ends (old new : Reader) (first len : ℕ) (result : Result (Unit {0}) Halt) : Type 0 where
   pub kept : Kept (repeat_of (text_in old) old.places.start old.places.size old.places.count first len) first len old.places new.places result
   pub edition_kept : new.edition ≡ old.edition
   pub text_kept : new.text ≡ old.text
@@ -220,12 +220,12 @@ end_at text body (Quoted first len count) at start size =
 end_at text body (Closed count) at start size = ended (Ok count) start size
 
 -- a reader's answer where the text ends, about the given body, is the machine's
-abbrev pub EndsAs : Body → Result ℕ Fault → LabelPlaces → AtEnd → Type 0
+abbrev pub EndsAs : Body → Result ℕ Halt → LabelPlaces → AtEnd → Type 0
 EndsAs body (Ok n) p a = (ended (Ok n) p.start p.size ≡ a) × (p.count ≡ n)
 EndsAs body (Err f) p a = Err (record { reason = f.0; body = body; place = f.1 }) ≡ a.answer
 
 -- with the places of a list that was read
-unfoldable pub told_read : Body → Result ℕ Fault → LabelPlaces → ListRead
+unfoldable pub told_read : Body → Result ℕ Halt → LabelPlaces → ListRead
 unfolding places_of
 told_read body (Ok n) p = record { answer = Ok n; places = p }
 told_read body (Err f) p = record { answer = Err (record { reason = f.0; body = body; place = f.1 }); places = places_of [] }

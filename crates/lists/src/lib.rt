@@ -9,7 +9,7 @@ ghost use Rattle.trees.specs.Edition.{in_edition};
 ghost use Rattle.trees.specs.Slots.{SlotMarks};
 ghost use Rattle.lists.specs.ReadList.{list_limit, list_read, places_of, read_list_in};
 
-use trees::{Body, Edition, Kind, LABEL_LIMIT, Reason, Refusal, SLOTS};
+use trees::{Body, Edition, Halt, Kind, LABEL_LIMIT, Reason, Refusal, SLOTS};
 
 // The most labels of a list.
 pub const LIST_LIMIT: usize = 80;
@@ -39,10 +39,6 @@ enum Mode {
     Quoted(usize, usize),
     Closed,
 }
-
-// Why a text is turned down, and the place.
-#[derive(Clone, Copy)]
-struct Fault(Reason, usize);
 
 // A text and what is read of it so far: the labels that are complete, and marks for them.
 #[derive(Drop)]
@@ -84,31 +80,31 @@ impl<'a> Reader<'a> {
 
     // A label begins with the byte at `at`. The 81st is refused before it is compared.
     #[tactic(auto, unfolding(crate::specs::ListMachine::begin_of))]
-    fn begin(&self, mode: Mode, at: usize) -> Result<Mode, Fault>
+    fn begin(&self, mode: Mode, at: usize) -> Result<Mode, Halt>
         ensures { move_in result self.now.places ≡ begin_of at self.now.places.count (mode_in mode self.now.places) }
     {
         if self.places.count < LIST_LIMIT {
             Ok(mode)
         } else {
-            Err(Fault(Reason::TooMany, at))
+            Err(Halt(Reason::TooMany, at))
         }
     }
 
     // A byte where a label must begin: a quote opens one.
     #[tactic(auto, unfolding(crate::specs::ListMachine::due_of))]
-    fn due(&self, kind: Kind, at: usize) -> Result<Mode, Fault>
+    fn due(&self, kind: Kind, at: usize) -> Result<Mode, Halt>
         ensures { move_in result self.now.places ≡ due_of kind at self.now.places.count }
     {
         match kind {
             Kind::Label => self.begin(Mode::Bare(at, 1), at),
             Kind::Quote => self.begin(Mode::Quoted(at, 0), at),
-            _ => Err(Fault(Reason::BadByte, at)),
+            _ => Err(Halt(Reason::BadByte, at)),
         }
     }
 
     // The label of `len` bytes from `first` has ended: a repeat is told at its first byte, else its place is kept. A label whose slot has no
     // mark is compared with nothing.
-    fn keep(&mut self, first: usize, len: usize) -> Result<(), Fault>
+    fn keep(&mut self, first: usize, len: usize) -> Result<(), Halt>
         requires { Fits first len self.old.places.count }
         ensures { Ends self.old self.new first len result }
     {
@@ -125,7 +121,7 @@ impl<'a> Reader<'a> {
             &self.seen,
             slot,
         ) {
-            return Err(Fault(Reason::Repeated, first));
+            return Err(Halt(Reason::Repeated, first));
         }
         self.seen[slot] = 1;
         self.places.start[count] = trees::narrow_place(first);
@@ -136,19 +132,19 @@ impl<'a> Reader<'a> {
 
     // One more byte of a label that has `len`.
     #[tactic(auto, unfolding(crate::specs::ListMachine::more_of))]
-    fn more(&self, mode: Mode, len: usize, at: usize) -> Result<Mode, Fault>
+    fn more(&self, mode: Mode, len: usize, at: usize) -> Result<Mode, Halt>
         ensures { move_in result self.now.places ≡ more_of at len (mode_in mode self.now.places) }
     {
         if len < LABEL_LIMIT {
             Ok(mode)
         } else {
-            Err(Fault(Reason::LabelTooLong, at))
+            Err(Halt(Reason::LabelTooLong, at))
         }
     }
 
     // A byte inside or just after a bare label. The byte past a label's limit is refused before the label is compared.
     #[tactic(auto, unfolding(crate::specs::ListMachine::bare_of))]
-    fn bare(&mut self, first: usize, len: usize, kind: Kind, at: usize) -> Result<Mode, Fault>
+    fn bare(&mut self, first: usize, len: usize, kind: Kind, at: usize) -> Result<Mode, Halt>
         requires { Fits first len self.old.places.count }
         ensures { Steps self.old self.new result
             (bare_of (text_in self.old) kind at first len self.old.places.count self.old.places.start self.old.places.size) }
@@ -161,14 +157,14 @@ impl<'a> Reader<'a> {
             }
             _ => {
                 self.keep(first, len)?;
-                Err(Fault(Reason::BadByte, at))
+                Err(Halt(Reason::BadByte, at))
             }
         }
     }
 
     // A byte after the opening quote at `first` and `len` bytes. A closing quote ends the label, which is compared only now.
     #[tactic(auto, unfolding(crate::specs::ListMachine::quoted_of))]
-    fn quoted(&mut self, first: usize, len: usize, kind: Kind, at: usize) -> Result<Mode, Fault>
+    fn quoted(&mut self, first: usize, len: usize, kind: Kind, at: usize) -> Result<Mode, Halt>
         requires { Fits first (len + 2) self.old.places.count }
         ensures { Steps self.old self.new result
             (quoted_of (text_in self.old) kind at first len self.old.places.count self.old.places.start self.old.places.size) }
@@ -178,29 +174,29 @@ impl<'a> Reader<'a> {
             Kind::Blank => self.more(Mode::Quoted(first, len + 1), len, at),
             Kind::Quote => {
                 if len == 0 {
-                    return Err(Fault(Reason::BadByte, at));
+                    return Err(Halt(Reason::BadByte, at));
                 }
                 self.keep(first, len + 2)?;
                 Ok(Mode::Closed)
             }
-            _ => Err(Fault(Reason::BadByte, at)),
+            _ => Err(Halt(Reason::BadByte, at)),
         }
     }
 
     // A byte just after a closing quote.
     #[tactic(auto, unfolding(crate::specs::ListMachine::closed_of))]
-    fn after_quote(&self, kind: Kind, at: usize) -> Result<Mode, Fault>
+    fn after_quote(&self, kind: Kind, at: usize) -> Result<Mode, Halt>
         ensures { move_in result self.now.places ≡ closed_of kind at self.now.places.count }
     {
         match kind {
             Kind::Comma => Ok(Mode::Due),
-            _ => Err(Fault(Reason::BadByte, at)),
+            _ => Err(Halt(Reason::BadByte, at)),
         }
     }
 
     // One byte, by where the reader stands.
     #[tactic(auto, unfolding(crate::specs::ListMachine::step_of))]
-    fn step(&mut self, mode: Mode, kind: Kind, at: usize) -> Result<Mode, Fault>
+    fn step(&mut self, mode: Mode, kind: Kind, at: usize) -> Result<Mode, Halt>
         requires { Ready mode self.old.places at }
         ensures { Steps self.old self.new result
             (step_of (text_in self.old) kind at (mode_in mode self.old.places) self.old.places.start self.old.places.size) }
@@ -216,7 +212,7 @@ impl<'a> Reader<'a> {
 
     // The text ends, which also completes a bare label: how many labels it has.
     #[tactic(auto, unfolding(crate::specs::ListMachine::end_at))]
-    fn at_end(&mut self, mode: Mode) -> Result<usize, Fault>
+    fn at_end(&mut self, mode: Mode) -> Result<usize, Halt>
         requires { Ready mode self.old.places (length self.old.text.now) }
         ensures { (body : Body) → EndsAs body result self.new.places
             (end_at (text_in self.old) body (mode_in mode self.old.places) (length self.old.text.now) self.old.places.start
@@ -229,12 +225,12 @@ impl<'a> Reader<'a> {
                 Ok(self.places.count)
             }
             Mode::Closed => Ok(self.places.count),
-            _ => Err(Fault(Reason::EndsTooSoon, self.text.len())),
+            _ => Err(Halt(Reason::EndsTooSoon, self.text.len())),
         }
     }
 
     // Reads the whole text: how many labels it has, or the fault with the smallest place.
-    fn read(&mut self) -> Result<usize, Fault>
+    fn read(&mut self) -> Result<usize, Halt>
         requires { self.old.places ≡ places_of [] }
         ensures { (body : Body) → told_read body result self.new.places
             ≡ list_read body (read_list_in self.old.edition self.old.text.now) }
@@ -250,6 +246,7 @@ impl<'a> Reader<'a> {
 }
 
 // Reads a list of labels, which are compared by an edition; a refusal names `body`.
+#[tactic(auto, unfolding(crate::specs::ListMachine::told_read))]
 pub fn read_list(edition: Edition, text: &[u8], body: Body) -> ListRead
     ensures { result ≡ list_read body (read_list_in edition text.now) }
 {
@@ -259,12 +256,8 @@ pub fn read_list(edition: Edition, text: &[u8], body: Body) -> ListRead
             answer: Ok(count),
             places: reader.places,
         },
-        Err(Fault(reason, place)) => ListRead {
-            answer: Err(Refusal {
-                reason,
-                body,
-                place,
-            }),
+        Err(halt) => ListRead {
+            answer: Err(halt.of(body)),
             places: no_labels(),
         },
     }

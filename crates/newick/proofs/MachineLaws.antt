@@ -11,7 +11,7 @@ use Rattle.trees.specs.declared.Reason.TheVariants.{BadByte, Repeated}
 use Rattle.newick.specs.declared.Mode.{Mode}
 use Rattle.newick.specs.declared.Mode.TheVariants.{Due, Inside, Quoted, After, Done}
 use Rattle.newick.specs.Machine.{Scan}
-use Rattle.newick.specs.declared.Fault.{Fault}
+use Rattle.trees.specs.declared.Halt.{Halt}
 use Rattle.newick.specs.declared.Reader.{Reader}
 use Rattle.std.specs.Prelude.{Ok}
 use Rattle.newick.specs.Machine.{Arrays, Progress, on, halt, progress_of, repeat_of, due_of, after_of, leaf_scan, leaf_arrays, leaf_of, after_leaf}
@@ -98,7 +98,7 @@ module _ (m : Mode) (new : Reader) (text : List ℕ) (st : Scan) (a : Arrays) (f
       )
 
 -- where the label repeats, that decides
-pub end_stops : (f : Fault) (text : List ℕ) (st : Scan) (a : Arrays) (first len i : ℕ) (k : Kind)
+pub end_stops : (f : Halt) (text : List ℕ) (st : Scan) (a : Arrays) (first len i : ℕ) (k : Kind)
     → halt f.0 f.1 ≡ leaf_of text st a first len → halt f.0 f.1 ≡ label_end text st a first len i k
 unfolding label_end
 end_stops f text st a first len i k h = ap (λ (o : Progress). after_leaf o st.nodes i k) h

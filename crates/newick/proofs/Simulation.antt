@@ -24,7 +24,7 @@ use Rattle.trees.proofs.ReadingLaws.{run_end, none_first, repeats_unclosed}
 use Rattle.newick.specs.declared.Mode.TheVariants.{Due}
 use Rattle.newick.specs.Machine.{Scan}
 use Rattle.newick.specs.declared.Mode.{Mode}
-use Rattle.newick.specs.declared.Fault.{Fault}
+use Rattle.trees.specs.declared.Halt.{Halt}
 use Rattle.newick.specs.declared.Reader.{Reader}
 use Rattle.std.specs.Prelude.{Option, None, Result, Ok, Err}
 use Rattle.newick.specs.ReadTree.{Opened, Phase, node_due, in_label, in_quotes, after_node, ended, read_from, end_of}
@@ -122,7 +122,7 @@ pub goes_on_so : (text : List ℕ) (m n : Mode) (old new : Reader) (i : ℕ) →
 goes_on_so text m n old new i S h e = leads_so text (scan_in m old) (arrays_in old) i S (progress_of (Ok n) new) h e
 
 -- where it stops the reading does
-pub stops_so : (text : List ℕ) (m : Mode) (old new : Reader) (i : ℕ) (body : Body) (f : Fault) → Simulates text (scan_in m old) (arrays_in old) i
+pub stops_so : (text : List ℕ) (m : Mode) (old new : Reader) (i : ℕ) (body : Body) (f : Halt) → Simulates text (scan_in m old) (arrays_in old) i
     → i < length text → progress_of (Err f) new ≡ move_of m text (scan_in m old) (arrays_in old) i (kind_of (get_or text i 0))
     → turned_down (refusal body f.0 f.1) ≡ tree_read body (read_tree text)
 stops_so text m old new i body f S h e =
@@ -180,7 +180,7 @@ module _ (text : List ℕ) (st : Scan) (a : Arrays) (i : ℕ) (S : Simulates tex
       subst (Ends text body st a) (sym answer)
       (ends_by body S.ph F (omega (arith, place_in F)) (ap (expected S.ph S.s S.seen st i) (sym d) ∙ S.told))
 
-pub ends_reader : (text : List ℕ) (m : Mode) (r : Reader) (i : ℕ) (body : Body) (x : Result ℕ Fault) → Simulates text (scan_in m r) (arrays_in r) i
+pub ends_reader : (text : List ℕ) (m : Mode) (r : Reader) (i : ℕ) (body : Body) (x : Result ℕ Halt) → Simulates text (scan_in m r) (arrays_in r) i
     → length text ≤ i → told body x ≡ answer_of m text body (scan_in m r) r.tree.start r.tree.size
     → told_read body x r.tree ≡ tree_read body (read_tree text)
 ends_reader text m r i body (Ok n) S end e = ends_so text (scan_in m r) (arrays_in r) i S body (Ok n) end e

@@ -17,7 +17,7 @@ use Rattle.trees.specs.Stored.{part_of, is_among}
 use Rattle.trees.specs.Token.{token_limit}
 use Rattle.newick.specs.declared.Mode.{Mode}
 use Rattle.newick.specs.declared.Mode.TheVariants.{Due, Inside, Quoted, After, Done}
-use Rattle.newick.specs.declared.Fault.{Fault}
+use Rattle.trees.specs.declared.Halt.{Halt}
 use Rattle.newick.specs.declared.Reader.{Reader}
 use Rattle.newick.specs.declared.TreeRead.{TreeRead}
 
@@ -61,12 +61,12 @@ scan_in m r = scan m r.depth r.opens r.tree.nodes
 abbrev pub arrays_in : Reader → Arrays
 arrays_in r = arrays r.stack r.tree.left r.tree.right r.tree.start r.tree.size
 
-abbrev pub progress_of : Result Mode Fault → Reader → Progress
+abbrev pub progress_of : Result Mode Halt → Reader → Progress
 progress_of (Ok m) r = on (scan_in m r) (arrays_in r)
 progress_of (Err f) r = halt f.0 f.1
 
 -- a step leads from one reader to another, of the same text
-pub record Steps (old new : Reader) (result : Result Mode Fault) (p : Progress) : Type 0 where
+pub record Steps (old new : Reader) (result : Result Mode Halt) (p : Progress) : Type 0 where
   pub progress : progress_of result new ≡ p
   pub edition_kept : new.edition ≡ old.edition
   pub text_kept : new.text ≡ old.text
@@ -218,12 +218,12 @@ with_arrays answer nodes l r s z =
     record { answer = answer; tree = record { nodes = nodes; left = l; right = r; start = s; size = z } }
 
 -- an answer about the given body
-abbrev pub told : Body → Result ℕ Fault → Result ℕ Refusal
+abbrev pub told : Body → Result ℕ Halt → Result ℕ Refusal
 told body (Ok n) = Ok n
 told body (Err f) = refusal body f.0 f.1
 
 -- with the arrays of a tree that was read
-abbrev pub told_read : Body → Result ℕ Fault → TreeArrays → TreeRead
+abbrev pub told_read : Body → Result ℕ Halt → TreeArrays → TreeRead
 told_read body (Ok n) tree = record { answer = Ok n; tree = tree }
 told_read body (Err f) tree = turned_down (refusal body f.0 f.1)
 

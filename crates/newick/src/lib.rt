@@ -13,7 +13,8 @@ ghost use Rattle.trees.specs.Slots.{SlotMarks, slot_of};
 ghost use Rattle.newick.specs.ReadTree.{read_tree_in, tree_read};
 
 use trees::{
-    Body, Edition, Kind, LABEL_LIMIT, LEAF_LIMIT, NODE_LIMIT, Reason, Refusal, SLOTS, TreeArrays,
+    Body, Edition, Halt, Kind, LABEL_LIMIT, LEAF_LIMIT, NODE_LIMIT, Reason, Refusal, SLOTS,
+    TreeArrays,
 };
 
 // The most `(` of a tree, one less than its leaves.
@@ -36,10 +37,6 @@ enum Mode {
     After(usize),
     Done,
 }
-
-// Why a text is turned down, and the place.
-#[derive(Clone, Copy)]
-struct Fault(Reason, usize);
 
 // A text and what is read of it so far: how many `(` are open, how many were read, the first child of each open `(` that has one, the nodes
 // that are complete, and marks for their labels. Memory is fixed: `stack` is an array with `depth` entries in use, and no Vec.
@@ -113,14 +110,14 @@ impl<'a> Reader<'a> {
 
     // A byte where a node must begin.
     #[tactic(auto, unfolding(crate::specs::Machine::due_of))]
-    fn on_due(&mut self, kind: Kind, at: usize) -> Result<Mode, Fault>
+    fn on_due(&mut self, kind: Kind, at: usize) -> Result<Mode, Halt>
         ensures { Steps self.old self.new result (due_of (scan_in Due self.old) (arrays_in self.old) at kind) }
     {
         match kind {
             Kind::Label => Ok(Mode::Inside(at, 1)),
             Kind::Open => {
                 if self.opens == OPEN_LIMIT {
-                    return Err(Fault(Reason::TooMany, at));
+                    return Err(Halt(Reason::TooMany, at));
                 }
                 self.stack[self.depth] = None;
                 self.depth += 1;
@@ -128,21 +125,21 @@ impl<'a> Reader<'a> {
                 Ok(Mode::Due)
             }
             Kind::Quote => Ok(Mode::Quoted(at, 0)),
-            _ => Err(Fault(Reason::BadByte, at)),
+            _ => Err(Halt(Reason::BadByte, at)),
         }
     }
 
     // `)` after node `u`: the innermost `(` has its first child already, and becomes a node.
     #[tactic(auto, unfolding(crate::specs::Machine::close_of, crate::specs::Machine::closed))]
-    fn on_close(&mut self, u: usize, at: usize) -> Result<Mode, Fault>
+    fn on_close(&mut self, u: usize, at: usize) -> Result<Mode, Halt>
         requires { Ready (After u) (scan_in (After u) self.old) }
         ensures { Steps self.old self.new result (close_of (scan_in (After u) self.old) (arrays_in self.old) u at) }
     {
         if self.depth == 0 {
-            return Err(Fault(Reason::BadByte, at));
+            return Err(Halt(Reason::BadByte, at));
         }
         let Some(child) = self.stack[self.depth - 1] else {
-            return Err(Fault(Reason::BadByte, at));
+            return Err(Halt(Reason::BadByte, at));
         };
         let nodes = self.tree.nodes;
         self.tree.left[nodes] = child;
@@ -154,15 +151,15 @@ impl<'a> Reader<'a> {
 
     // `,` after node `u`: the innermost `(` lacks its first child, and `u` is that child.
     #[tactic(auto, unfolding(crate::specs::Machine::comma_of, crate::specs::Machine::parted))]
-    fn on_comma(&mut self, u: usize, at: usize) -> Result<Mode, Fault>
+    fn on_comma(&mut self, u: usize, at: usize) -> Result<Mode, Halt>
         requires { Ready (After u) (scan_in (After u) self.old) }
         ensures { Steps self.old self.new result (comma_of (scan_in (After u) self.old) (arrays_in self.old) u at) }
     {
         if self.depth == 0 {
-            return Err(Fault(Reason::BadByte, at));
+            return Err(Halt(Reason::BadByte, at));
         }
         if self.stack[self.depth - 1].is_some() {
-            return Err(Fault(Reason::BadByte, at));
+            return Err(Halt(Reason::BadByte, at));
         }
         self.stack[self.depth - 1] = Some(trees::narrow(u));
         Ok(Mode::Due)
@@ -170,7 +167,7 @@ impl<'a> Reader<'a> {
 
     // A byte just after node `u`.
     #[tactic(auto, unfolding(crate::specs::Machine::after_of))]
-    fn on_after(&mut self, u: usize, kind: Kind, at: usize) -> Result<Mode, Fault>
+    fn on_after(&mut self, u: usize, kind: Kind, at: usize) -> Result<Mode, Halt>
         requires { Ready (After u) (scan_in (After u) self.old) }
         ensures { Steps self.old self.new result (after_of (scan_in (After u) self.old) (arrays_in self.old) u at kind) }
     {
@@ -181,15 +178,15 @@ impl<'a> Reader<'a> {
                 if self.depth == 0 {
                     Ok(Mode::Done)
                 } else {
-                    Err(Fault(Reason::BadByte, at))
+                    Err(Halt(Reason::BadByte, at))
                 }
             }
-            _ => Err(Fault(Reason::BadByte, at)),
+            _ => Err(Halt(Reason::BadByte, at)),
         }
     }
 
     // The label of `len` bytes from `first` is complete: a repeat is told at its first byte, else the label is a leaf.
-    fn on_leaf(&mut self, first: usize, len: usize) -> Result<Mode, Fault>
+    fn on_leaf(&mut self, first: usize, len: usize) -> Result<Mode, Halt>
         requires { Fits self.old.depth self.old.opens self.old.tree.nodes first len }
         ensures { (m : Mode) → Steps self.old self.new result
             (leaf_of (text_in self.old) (scan_in m self.old) (arrays_in self.old) first len) }
@@ -197,7 +194,7 @@ impl<'a> Reader<'a> {
         let token = trees::part(self.text, first, len);
         let slot = trees::slot(self.edition, token);
         if self.repeats(token, slot) {
-            return Err(Fault(Reason::Repeated, first));
+            return Err(Halt(Reason::Repeated, first));
         }
         self.seen[slot] = 1;
         let nodes = self.tree.nodes;
@@ -217,7 +214,7 @@ impl<'a> Reader<'a> {
         len: usize,
         kind: Kind,
         at: usize,
-    ) -> Result<Mode, Fault>
+    ) -> Result<Mode, Halt>
         requires { Ready (Inside first len) (scan_in (Inside first len) self.old) }
         ensures { Steps self.old self.new result
             (label_end (text_in self.old) (scan_in (Inside first len) self.old) (arrays_in self.old) first len at kind) }
@@ -229,7 +226,7 @@ impl<'a> Reader<'a> {
 
     // A byte inside or just after a bare label.
     #[tactic(auto, unfolding(crate::specs::Machine::inside_of))]
-    fn on_inside(&mut self, first: usize, len: usize, kind: Kind, at: usize) -> Result<Mode, Fault>
+    fn on_inside(&mut self, first: usize, len: usize, kind: Kind, at: usize) -> Result<Mode, Halt>
         requires { Ready (Inside first len) (scan_in (Inside first len) self.old) }
         ensures { Steps self.old self.new result
             (inside_of (text_in self.old) (scan_in (Inside first len) self.old) (arrays_in self.old) first len at kind) }
@@ -239,7 +236,7 @@ impl<'a> Reader<'a> {
                 if len < LABEL_LIMIT {
                     Ok(Mode::Inside(first, len + 1))
                 } else {
-                    Err(Fault(Reason::LabelTooLong, at))
+                    Err(Halt(Reason::LabelTooLong, at))
                 }
             }
             _ => self.on_label_end(first, len, kind, at),
@@ -248,19 +245,19 @@ impl<'a> Reader<'a> {
 
     // A byte that may stand between quotes, after the quote at `first` and `inner` bytes.
     #[tactic(auto, unfolding(crate::specs::Machine::inner_of))]
-    fn on_inner(&self, first: usize, inner: usize, at: usize) -> Result<Mode, Fault>
+    fn on_inner(&self, first: usize, inner: usize, at: usize) -> Result<Mode, Halt>
         ensures { progress_of result self.now ≡ inner_of (scan_in (Quoted first inner) self.now) (arrays_in self.now) first inner at }
     {
         if inner < LABEL_LIMIT {
             Ok(Mode::Quoted(first, inner + 1))
         } else {
-            Err(Fault(Reason::LabelTooLong, at))
+            Err(Halt(Reason::LabelTooLong, at))
         }
     }
 
     // A byte after the opening quote at `first` and `len` bytes. A closing quote ends the label, which is compared only now.
     #[tactic(auto, unfolding(crate::specs::Machine::quoted_of, crate::specs::Machine::closing_of))]
-    fn on_quoted(&mut self, first: usize, len: usize, kind: Kind, at: usize) -> Result<Mode, Fault>
+    fn on_quoted(&mut self, first: usize, len: usize, kind: Kind, at: usize) -> Result<Mode, Halt>
         requires { Ready (Quoted first len) (scan_in (Quoted first len) self.old) }
         ensures { Steps self.old self.new result
             (quoted_of (text_in self.old) (scan_in (Quoted first len) self.old) (arrays_in self.old) first len at kind) }
@@ -269,17 +266,17 @@ impl<'a> Reader<'a> {
             Kind::Label | Kind::Blank => self.on_inner(first, len, at),
             Kind::Quote => {
                 if len == 0 {
-                    return Err(Fault(Reason::BadByte, at));
+                    return Err(Halt(Reason::BadByte, at));
                 }
                 self.on_leaf(first, len + 2)
             }
-            _ => Err(Fault(Reason::BadByte, at)),
+            _ => Err(Halt(Reason::BadByte, at)),
         }
     }
 
     // One byte, by where the scan stands.
     #[tactic(auto, unfolding(crate::specs::Machine::move_of))]
-    fn step(&mut self, mode: Mode, kind: Kind, at: usize) -> Result<Mode, Fault>
+    fn step(&mut self, mode: Mode, kind: Kind, at: usize) -> Result<Mode, Halt>
         requires { Ready mode (scan_in mode self.old) }
         ensures { Steps self.old self.new result
             (move_of mode (text_in self.old) (scan_in mode self.old) (arrays_in self.old) at kind) }
@@ -289,13 +286,13 @@ impl<'a> Reader<'a> {
             Mode::Inside(first, len) => self.on_inside(first, len, kind, at),
             Mode::Quoted(first, len) => self.on_quoted(first, len, kind, at),
             Mode::After(u) => self.on_after(u, kind, at),
-            Mode::Done => Err(Fault(Reason::BadByte, at)),
+            Mode::Done => Err(Halt(Reason::BadByte, at)),
         }
     }
 
     // The answer where the text ends: how many leaves it has.
     #[tactic(auto, using(trees::proofs::FoldLaws::fold_size, trees::proofs::FoldLaws::fold_part), unfolding(crate::specs::Machine::answer_of, crate::specs::Machine::repeat_of))]
-    fn at_end(&self, mode: Mode) -> Result<usize, Fault>
+    fn at_end(&self, mode: Mode) -> Result<usize, Halt>
         ensures { (body : Body) → told body result
             ≡ answer_of mode (text_in self.now) body (scan_in mode self.now) self.now.tree.start self.now.tree.size }
     {
@@ -304,17 +301,17 @@ impl<'a> Reader<'a> {
             Mode::Inside(first, len) => {
                 let token = trees::part(self.text, first, len);
                 if self.repeats(token, trees::slot(self.edition, token)) {
-                    Err(Fault(Reason::Repeated, first))
+                    Err(Halt(Reason::Repeated, first))
                 } else {
-                    Err(Fault(Reason::EndsTooSoon, self.text.len()))
+                    Err(Halt(Reason::EndsTooSoon, self.text.len()))
                 }
             }
-            _ => Err(Fault(Reason::EndsTooSoon, self.text.len())),
+            _ => Err(Halt(Reason::EndsTooSoon, self.text.len())),
         }
     }
 
     // Reads the whole text: how many leaves it has, or the fault with the smallest place. No byte is read past one that is at fault.
-    fn read(&mut self) -> Result<usize, Fault>
+    fn read(&mut self) -> Result<usize, Halt>
         requires { Fresh self.old.edition self.old.text.now self.old }
         ensures { (body : Body) → told_read body result self.new.tree
             ≡ tree_read body (read_tree_in self.old.edition self.old.text.now) }
@@ -340,12 +337,8 @@ pub fn read_tree(edition: Edition, text: &[u8], body: Body) -> TreeRead
             answer: Ok(leaves),
             tree: reader.tree,
         },
-        Err(Fault(reason, place)) => TreeRead {
-            answer: Err(Refusal {
-                reason,
-                body,
-                place,
-            }),
+        Err(halt) => TreeRead {
+            answer: Err(halt.of(body)),
             tree: no_tree(),
         },
     }

@@ -100,6 +100,24 @@ pub struct Refusal {
     pub place: usize,
 }
 
+// Where a reader of a body halts: why, and at which byte.
+#[derive(Clone, Copy, PartialEq, Eq)]
+pub struct Halt(pub Reason, pub usize);
+
+impl Halt {
+    // The refusal of the body.
+    pub fn of(self, body: Body) -> Refusal
+        ensures { result ≡ record { reason = self.0; body = body; place = self.1 } }
+    {
+        let Halt(reason, place) = self;
+        Refusal {
+            reason,
+            body,
+            place,
+        }
+    }
+}
+
 // The bytes of a label, kept apart from any text: the first `len` of them count.
 #[derive(Clone, Copy)]
 pub struct LabelBytes<const N: usize> {
