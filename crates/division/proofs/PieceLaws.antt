@@ -1,10 +1,10 @@
 -- The pieces' labels by rank are found at the places of the first tree's leaves. Assumes nothing.
-use Prim.Native.Nat.{ℕ, ◌+◌, ◌<◌, min}
+use Prim.Native.Nat.{ℕ, ◌<◌, min}
 use mathlib.Core.Path.{◌≡◌, sym, ◌∙◌, ap, ap₂, subst}
-use mathlib.Core.Bool.{Bool, true, false}
+use mathlib.Core.Bool.{true}
 use mathlib.Core.List.{List, []}
 use native.Mathlib.Omega.{arith}
-use lib.ListN.{length, get_or, set, replicate, length-set, length-replicate}
+use lib.ListN.{length, get_or}
 use Rattle.trees.specs.declared.Edition.{Edition}
 use Rattle.trees.specs.declared.TreeArrays.{TreeArrays}
 use Rattle.trees.specs.Edition.{folded, keyed}
@@ -13,7 +13,6 @@ use Rattle.trees.specs.Stored.{part_of}
 use Rattle.trees.specs.Text.{text_of}
 use Rattle.trees.specs.Token.{Token}
 use Rattle.trees.specs.Tree.{Tree, Proper}
-use Rattle.trees.proofs.EntryLaws.{store_next}
 use Rattle.trees.proofs.TokenLaws.{valid_decoded}
 use Rattle.lists.specs.ReadList.{keys_of}
 use Rattle.leaves.specs.Numbered.{LeafIs}
@@ -26,24 +25,12 @@ use Rattle.pairs.specs.Outcome.{found}
 use Rattle.pairs.proofs.LeafPlaces.{own_start, own_size}
 use Rattle.pairs.proofs.RankLaws.{proper_nodes}
 use Rattle.places.specs.declared.PieceList.{PieceList}
-use Rattle.places.specs.PieceRanks.{PieceRanks}
+use Rattle.places.specs.PieceRanks.{PieceRanks, rank_at}
 use Rattle.queries.specs.Query.{answer_to, held_by, required_of, required_set}
 use Rattle.queries.specs.RankedList.{RankedArrays}
 use Rattle.division.specs.declared.PiecePlaces.{PiecePlaces}
 use Rattle.division.specs.PiecesAt.{pieces_for, label_at, PiecesAt}
-use Rattle.division.specs.PiecesByRank.{leaf_of_rank, EntriesOf, AtRanks}
-
-pub entries_none : (ranks order values : List ℕ) → EntriesOf 0 ranks order values (replicate {A = ℕ} 159 0)
-entries_none ranks order values = record { size = length-replicate {A = ℕ} 159 0; each = λ i h. absurd (omega arith) }
-
-pub entries_next : (n : ℕ) (ranks order values old : List ℕ) (x : ℕ) → n < 159 → x ≡ get_or values (leaf_of_rank order (get_or ranks n 0)) 0
-    → EntriesOf n ranks order values old → EntriesOf (n + 1) ranks order values (set old n x)
-entries_next n ranks order values old x h e k =
-    record {
-      size = length-set old n x ∙ k.size;
-      each =
-          store_next (λ i y. y ≡ get_or values (leaf_of_rank order (get_or ranks i 0)) 0) old n x (omega (arith, k.size)) k.each e;
-    }
+use Rattle.division.specs.PiecesByRank.{leaf_of_rank, AtRanks}
 
 -- the trees agree on a required list for which a set is found
 module _ (e : Edition) (s t : Tree) (xs : List Token) (proper : Proper (keyed e s)) (different : distinct (keys_of e xs) ≡ true) where
@@ -79,16 +66,16 @@ module _ (e : Edition) (s t : Tree) (xs : List Token) (tree : TreeArrays) (order
       least : {n : ℕ} → n < 159 → min n 158 ≡ n
       least h = omega arith
 
-  module _ (list : PieceList) (p : PiecePlaces) (ranks : PieceRanks (keyed e s) (keyed e t) (keys_of e xs) list.count list.rank list.head)
+  module _ (list : PieceList) (p : PiecePlaces) (ranks : PieceRanks (keyed e s) (keyed e t) (keys_of e xs) list)
       (there : AtRanks list order tree.start tree.size p) where
     at : (i : ℕ) → i < p.count → i < list.count
     at i h = omega (arith, there.count_is)
 
-    leaf_at : (i : ℕ) → i < list.count → LeafIs (keyed e s) (leaf_of_rank order (get_or list.rank i 0)) (label_at e s t xs i)
+    leaf_at : (i : ℕ) → i < list.count → LeafIs (keyed e s) (leaf_of_rank order (rank_at list i)) (label_at e s t xs i)
     unfolding pieces_for
     leaf_at i h =
-        subst (λ (x : Label). LeafIs (keyed e s) (leaf_of_rank order (get_or list.rank i 0)) x) (ranks.label_is i h)
-        (leaf_there (get_or list.rank i 0) (ranks.common_rank i h))
+        subst (λ (x : Label). LeafIs (keyed e s) (leaf_of_rank order (rank_at list i)) x) (ranks.label_is i h)
+        (leaf_there (rank_at list i) (ranks.common_rank i h))
 
     pub pieces_at_lem : PiecesAt e s t xs p
     unfolding pieces_for
@@ -97,13 +84,13 @@ module _ (e : Edition) (s t : Tree) (xs : List Token) (tree : TreeArrays) (order
           count_is = there.count_is ∙ ranks.count_is;
           start_is = λ i h.
               there.starts.each i (at i h)
-              ∙ ap (λ (q : TreeArrays). get_or q.start (leaf_of_rank order (get_or list.rank i 0)) 0) one.arrays_is
+              ∙ ap (λ (q : TreeArrays). get_or q.start (leaf_of_rank order (rank_at list i)) 0) one.arrays_is
               ∙ own_start (folded e s) one.valid _ _ (leaf_at i (at i h));
           size_is = λ i h.
               there.sizes.each i (at i h)
-              ∙ ap (λ (q : TreeArrays). get_or q.size (leaf_of_rank order (get_or list.rank i 0)) 0) one.arrays_is
+              ∙ ap (λ (q : TreeArrays). get_or q.size (leaf_of_rank order (rank_at list i)) 0) one.arrays_is
               ∙ own_size (folded e s) one.valid _ _ (leaf_at i (at i h));
-          head_is = λ i h. ap (λ (l : List Bool). get_or l i false) there.heads ∙ ranks.head_is i (at i h);
+          head_is = λ i h. there.heads.each i (at i h) ∙ ranks.head_is i (at i h);
         }
 
 -- such a place is that of the label as the first tree spells it

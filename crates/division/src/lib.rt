@@ -49,14 +49,15 @@ fn places_at(
     requires { list.count ≤ 159 }
     ensures { AtRanks list order1.now start1.now size1.now result }
 {
-    let ranks = list.rank;
-    let head = list.head;
     let mut start = [0u16; ITEMS];
     let mut size = [0u8; ITEMS];
+    let mut head = [false; ITEMS];
     for i in 0..list.count {
-        let u = leaf_of(order1, ranks[i]);
+        let item = list.items[i];
+        let u = leaf_of(order1, item.rank);
         start[i] = start1[u];
         size[i] = size1[u];
+        head[i] = item.head;
     }
     PiecePlaces {
         count: list.count,

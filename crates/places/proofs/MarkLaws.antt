@@ -1,90 +1,26 @@
 -- The stored list of ranks, entry by entry and line by line, and the labels that it shows. Assumes nothing.
-use Prim.Native.Nat.{ℕ, zero, suc, ◌+◌, ◌%◌, ◌<◌, ◌≤◌}
+use Prim.Native.Nat.{ℕ, zero, suc, ◌+◌, ◌<◌, ◌≤◌}
 use mathlib.Core.Path.{◌≡◌, refl, sym, ◌∙◌, ap, subst}
 use mathlib.Core.Bool.{Bool, true, false, cond}
 use mathlib.Core.List.{List, [], ◌∷◌, ◌++◌, append_assoc, append-nil}
 use native.Mathlib.Omega.{arith}
 use lib.Dec.{eqb}
-use lib.ListN.{length, get_or, set, take, length-set, length-append, get_or-append}
-use lib.Seq.{get_or-set_same, get_or-set_other, get_or-append_seam, take-suc, take-length}
+use lib.ListN.{length, get_or, take}
+use lib.Seq.{take-suc, take-length}
 use borrow.Author.Tests.{eq-eqb, ne_eqb, lt-ltb, le-ltb}
 use Rattle.trees.specs.Label.{Label, is_in}
-use Rattle.trees.proofs.EntryLaws.{below_next}
 use Rattle.agreement.specs.Sets.{keep}
 use Rattle.agreement.proofs.KeepLaws.{keep_append}
 use Rattle.pieces.specs.Pieces.{Piece, listed}
 use Rattle.pieces.specs.Items.{Item, no_item, items_with, items_of}
 use Rattle.places.specs.Nodes.{HeadOn, no_leaf, leaf_there}
-use Rattle.places.specs.Marks.{Mark, no_mark, leaf_marks, head_marks, line_marks, marks_to, ListHolds}
-
--- one entry more
-
-pub hold_none : (rank : List ℕ) (head : List Bool) → length rank ≡ 159 → length head ≡ 159 → ListHolds 0 rank head []
-hold_none rank head r h = record {
-  rank_size = r;
-  head_size = h;
-  count_is = refl;
-  rank_is = λ i l. absurd (omega arith);
-  head_is = λ i l. absurd (omega arith);
-}
-
-module _ {count : ℕ} {rank : List ℕ} {head : List Bool} {L : List Mark} (x : Mark) (h : ListHolds count rank head L) where
-  longer : length (L ++ (x ∷ [])) ≡ length L + 1
-  longer = length-append L (x ∷ [])
-
-  -- there is no room
-  pub hold_full : 159 ≤ count → ListHolds count rank head (L ++ (x ∷ []))
-  hold_full l = record {
-    rank_size = h.rank_size;
-    head_size = h.head_size;
-    count_is = omega (arith, h.count_is, longer);
-    rank_is = λ i k.
-        h.rank_is i k ∙ ap (λ (e : Mark). e.rank) (sym (get_or-append L (x ∷ []) no_mark i (omega (arith, h.count_is))));
-    head_is = λ i k.
-        h.head_is i k ∙ ap (λ (e : Mark). e.head) (sym (get_or-append L (x ∷ []) no_mark i (omega (arith, h.count_is))));
-  }
-
-  pub hold_more : count < 159 → ListHolds (count + 1) (set rank count x.rank) (set head count x.head) (L ++ (x ∷ []))
-  hold_more l = record {
-    rank_size = length-set rank count x.rank ∙ h.rank_size;
-    head_size = length-set head count x.head ∙ h.head_size;
-    count_is = omega (arith, h.count_is, longer);
-    rank_is =
-        below_next (λ i. get_or (set rank count x.rank) i 0 ≡ (get_or (L ++ (x ∷ [])) i no_mark).rank) count
-        (λ i k.
-        get_or-set_other rank count i x.rank 0 (omega arith) ∙ h.rank_is i k
-        ∙ ap (λ (e : Mark). e.rank) (sym (get_or-append L (x ∷ []) no_mark i (omega (arith, size)))))
-        (get_or-set_same rank count x.rank 0 (omega (arith, h.rank_size)) ∙ ap (λ (e : Mark). e.rank) (sym last));
-    head_is =
-        below_next (λ i. get_or (set head count x.head) i false ≡ (get_or (L ++ (x ∷ [])) i no_mark).head) count
-        (λ i k.
-        get_or-set_other head count i x.head false (omega arith) ∙ h.head_is i k
-        ∙ ap (λ (e : Mark). e.head) (sym (get_or-append L (x ∷ []) no_mark i (omega (arith, size)))))
-        (get_or-set_same head count x.head false (omega (arith, h.head_size)) ∙ ap (λ (e : Mark). e.head) (sym last));
-  }
-    where
-      size : count ≡ length L
-      size = omega (arith, h.count_is)
-
-      last : get_or (L ++ (x ∷ [])) count no_mark ≡ x
-      last = ap (λ (n : ℕ). get_or (L ++ (x ∷ [])) n no_mark) size ∙ get_or-append_seam L x [] no_mark
+use Rattle.places.specs.declared.Mark.{Mark}
+use Rattle.places.specs.declared.PieceList.{PieceList}
+use Rattle.places.specs.Marks.{no_mark, leaf_marks, head_marks, line_marks, marks_to, ListHolds}
 
 -- the same list in another form
-pub hold_as : {count : ℕ} {rank : List ℕ} {head : List Bool} {L M : List Mark} → L ≡ M → ListHolds count rank head L
-    → ListHolds count rank head M
+pub hold_as : {list : PieceList} {L M : List Mark} → L ≡ M → ListHolds list L → ListHolds list M
 hold_as e h = rw (← e) h
-
--- a leaf that is on the line, or not
-
-pub leaf_passed : (L : List Mark) (line : List ℕ) (j r w : ℕ) → w ≡ get_or line r 0 → (w ≡ j → ⊥)
-    → L ≡ L ++ cond (eqb (get_or line r 0) j) (record { rank = r; head = false } ∷ []) []
-leaf_passed L line j r w e n = rw (← e, ne_eqb w j n) (sym (append-nil L))
-
-pub leaf_taken : (L : List Mark) (line : List ℕ) (j r w x : ℕ) → w ≡ get_or line r 0 → w ≡ j → x ≡ r % 256 → r < 80
-    → L ++ (record { rank = x; head = false } ∷ []) ≡ L ++ cond (eqb (get_or line r 0) j) (record { rank = r; head = false } ∷ []) []
-leaf_taken L line j r w x e d n h =
-    let same : x ≡ r = omega arith in
-    rw (← e, eq-eqb w j d, same) refl
 
 pub leaves_none : (L : List Mark) (line : List ℕ) (j : ℕ) → L ≡ L ++ leaf_marks line j 0
 unfolding leaf_marks

@@ -32,6 +32,8 @@ use Rattle.pieces.proofs.TotalLaws.{total_few}
 use Rattle.pieces.proofs.ItemLaws.{items_count}
 use Rattle.places.specs.Nodes.{TreeRanks, RankNumbers, rank_among, line_at, HeadOn, no_leaf, leaf_there, LinesByRank}
 use Rattle.places.specs.Marks.{no_mark, line_marks, marks_to, ListHolds}
+use Rattle.places.specs.declared.Mark.{Mark}
+use Rattle.places.specs.declared.PieceList.{PieceList}
 use Rattle.places.specs.PieceRanks.{PieceRanks}
 use Rattle.places.proofs.RankLaws.{marked_rank, rank_own}
 use Rattle.places.proofs.TopLaws.{top_head, top_none}
@@ -313,19 +315,18 @@ module _ {s t : Tree} {K : List Label} {tree1 tree2 : TreeArrays} {rank1 rank2 :
       (all_shown s t K tree1 tree2 rank1 rank2 n number one two posed.different posed.required agree line1 line2 tops tops2
       (first s (common s t) K one posed.count_is) (second t (common s t) K two posed.count_is) line heads lines)
 
-  pub pieces_stored : (size : ℕ) (rank : List ℕ) (head : List Bool) → ListHolds size rank head (marks_to line heads n 159)
-      → PieceRanks s t K size rank head
-  pieces_stored size rank head h = record {
+  pub pieces_stored : (list : PieceList) → ListHolds list (marks_to line heads n 159) → PieceRanks s t K list
+  pieces_stored list h = record {
     count_is = many;
-    common_rank = λ i l. rw (h.rank_is i l) (at i l).0;
-    label_is = λ i l. rw (h.rank_is i l) (at i l).1;
-    head_is = λ i l. h.head_is i l ∙ (at i l).2;
+    common_rank = λ i l. subst (λ (m : Mark). m.rank < length (common s t)) (sym (h.item_is i l)) (at i l).0;
+    label_is = λ i l. ap (λ (m : Mark). get_or (common s t) m.rank []) (h.item_is i l) ∙ (at i l).1;
+    head_is = λ i l. ap (λ (m : Mark). m.head) (h.item_is i l) ∙ (at i l).2;
   }
     where
       marks : length (marks_to line heads n 159) ≡ total (pieces s t K)
       marks = shows_length shown ∙ items_count (pieces s t K)
 
-      many : size ≡ total (pieces s t K)
+      many : list.count ≡ total (pieces s t K)
       many =
           omega (
             arith,
@@ -334,7 +335,7 @@ module _ {s t : Tree} {K : List Label} {tree1 tree2 : TreeArrays} {rank1 rank2 :
             total_few s t K posed.one.proper.different posed.different posed.required (ranks_few posed),
           )
 
-      at : (i : ℕ) → i < size
+      at : (i : ℕ) → i < list.count
           → ((get_or (marks_to line heads n 159) i no_mark).rank < length (common s t))
           × (get_or (common s t) (get_or (marks_to line heads n 159) i no_mark).rank [] ≡ (get_or (items_of (pieces s t K)) i no_item).label)
           × ((get_or (marks_to line heads n 159) i no_mark).head ≡ (get_or (items_of (pieces s t K)) i no_item).head)

@@ -1,10 +1,7 @@
 -- The list of ranks as it is stored line by line. Intermediate: nothing public rests on this text.
-use Rattle.std.specs.Prelude.{ℕ, zero, suc, ◌<◌, min, ◌≡◌, Bool, true, false, cond, List, [], ◌∷◌, ◌++◌, eqb, ltb, length, get_or}
-
--- a rank, and whether it is a line's head
-pub record Mark : Type 0 where
-  pub rank : ℕ
-  pub head : Bool
+use Rattle.std.specs.Prelude.{ℕ, zero, suc, ◌<◌, min, ◌≡◌, true, false, cond, List, [], ◌∷◌, ◌++◌, eqb, ltb, length, get_or}
+use Rattle.places.specs.declared.Mark.{Mark}
+use Rattle.places.specs.declared.PieceList.{PieceList}
 
 abbrev pub no_mark : Mark
 no_mark = record { rank = 0; head = false }
@@ -30,9 +27,7 @@ marks_to line heads m zero = []
 marks_to line heads m (suc j) = marks_to line heads m j ++ line_marks line m j (get_or heads j 0)
 
 -- the first entries are these marks, as many as there is room for
-pub record ListHolds (count : ℕ) (rank : List ℕ) (head : List Bool) (marks : List Mark) : Type 0 where
-  pub rank_size : length rank ≡ 159
-  pub head_size : length head ≡ 159
-  pub count_is : count ≡ min 159 (length marks)
-  pub rank_is : (i : ℕ) → i < count → get_or rank i 0 ≡ (get_or marks i no_mark).rank
-  pub head_is : (i : ℕ) → i < count → get_or head i false ≡ (get_or marks i no_mark).head
+pub record ListHolds (list : PieceList) (marks : List Mark) : Type 0 where
+  pub size : length list.items ≡ 159
+  pub count_is : list.count ≡ min 159 (length marks)
+  pub item_is : (i : ℕ) → i < list.count → get_or list.items i no_mark ≡ get_or marks i no_mark

@@ -27,13 +27,19 @@ mod upward;
 // Room for all labels on the lines: at most n + k - 1, with n common and k required leaves.
 pub const ITEMS: usize = 2 * LEAF_LIMIT - 1;
 
+// A label's rank, and whether it is its line's required one.
+#[derive(Clone, Copy)]
+pub struct Mark {
+    pub rank: u8,
+    pub head: bool,
+}
+
 // The pieces as one list of ranks: each line's required label, if there is one, then the leaves of that line in label order.
-// `head` marks the required labels. The first `count` entries count.
+// The first `count` entries count.
 #[derive(Clone, Copy)]
 pub struct PieceList {
     pub count: usize,
-    pub rank: [u8; ITEMS],
-    pub head: [bool; ITEMS],
+    pub items: [Mark; ITEMS],
 }
 
 // The numbers of a tree's nodes from the root down, and the heads of their places.
@@ -95,7 +101,7 @@ pub fn pieces_of(
 ) -> PieceList
     ensures piece_ranks { (s t : Tree) (K : List Label)
         → Posed s t K tree1 tree2 rank1.now rank2.now m number.now count
-        → Agree s t (set_of K) → PieceRanks s t K result.count result.rank result.head }
+        → Agree s t (set_of K) → PieceRanks s t K result }
     ensures count_bound { result.count ≤ 159 }
 {
     let n = m.min(LEAF_LIMIT);

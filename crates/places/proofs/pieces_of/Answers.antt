@@ -10,4 +10,4 @@ returns-clause-piece_ranks c =
     c.tree_lines-first.result.line c.tree_lines-second.result.line
     c.tree_lines-first.result.top c.tree_lines-second.result.top c.lines_of-lines.result.line
     c.lines_of-lines.result.heads
-    c.tree_lines-first.ensures c.tree_lines-second.ensures c.lines_of-lines.ensures _ _ _ h
+    c.tree_lines-first.ensures c.tree_lines-second.ensures c.lines_of-lines.ensures _ h

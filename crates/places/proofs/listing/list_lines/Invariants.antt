@@ -3,4 +3,4 @@ use Rattle.places.specs.Marks.{marks_to, ListHolds}
 use Rattle.places.proofs.listing.list_lines.Given as goal
 
 abbrev pub invariant-loop-j : goal.invariant-loop-j
-invariant-loop-j l = ListHolds l.count l.rank l.head (marks_to l.line l.tops l.m l.j)
+invariant-loop-j l = ListHolds l.list (marks_to l.line l.tops l.m l.j)
