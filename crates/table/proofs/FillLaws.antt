@@ -1,6 +1,7 @@
 -- The row of a node from the rows of its children: which rows are used, that there are enough, and which are left alone. Assumes
 -- nothing.
 use Rattle.std.proofs.Common.{◌≡◌, ℕ, zero, suc, ◌+◌, ◌-◌, ◌*◌, ◌<◌, ◌≤◌, min, Bool, true, false, cond, eqb, ltb, ◌⊎◌, List, length, sym, refl, ap, ◌∙◌, inl, inr, arith, length-append, ltb-false, ltb-true, eqb-true, get_or, slice_index}
+use Rattle.table.specs.declared.columns.TreeColumns.{TreeColumns}
 use borrow.Author.Tests.{eqb-false}
 use Rattle.trees.specs.Label.{Label}
 use Rattle.trees.specs.Tree.{Tree, leaf, node, leaves, leaf_limit}
@@ -9,7 +10,7 @@ use Rattle.trees.proofs.Bools.{bool_cases}
 use Rattle.agreement.specs.Weights.{best}
 use Rattle.agreement.specs.Powers.{power}
 use Rattle.table.specs.declared.fill.Children.{Children}
-use Rattle.table.specs.Table.{column_at, nodes_at, weight_place, join_need, need, SplitAt, Shape, RowTo}
+use Rattle.table.specs.Table.{weight_place, join_need, need, SplitAt, Shape, RowTo}
 use Rattle.table.specs.Table.{Filling, Spared, Filled, Rows, InnerRow, Joined, SpanRow, NodeRow}
 use Rattle.table.specs.Solving.{TopIs}
 use Rattle.table.proofs.RowLaws.{NodeCase, is_leaf, is_node_lem, node_case, row_apart, rank_kept, span_best}
@@ -72,7 +73,7 @@ few_rows t few = go (bool_cases (ltb 6 (need t)))
     go (inr e) = ltb-false 6 (need t) e
 
 -- the weights' row is as it was
-filling_kept : (first second : List ℕ) (ss ts : List Tree) (w : Label → ℕ) (area area' : List ℕ) → Shape first (nodes_at first)
+filling_kept : (first second : TreeColumns) (ss ts : List Tree) (w : Label → ℕ) (area area' : List ℕ) → Shape first first.nodes
     → ((v : ℕ) → v < 159 → slice_index area' (8 * 159 + v) ≡ slice_index area (8 * 159 + v)) → Filling first second ss ts w area
     → Filling first second ss ts w area'
 filling_kept first second ss ts w area area' shape same f = record {
@@ -82,14 +83,14 @@ filling_kept first second ss ts w area area' shape same f = record {
   few = f.few;
   light = f.light;
   ranks = λ u hu x p.
-      rank_kept second (nodes_at second) ts w x (column_at first 2 u) _ _ (same (column_at first 2 u) (omega (arith, shape.ranked u hu)))
+      rank_kept second second.nodes ts w x (slice_index first.rank u) _ _ (same (slice_index first.rank u) (omega (arith, shape.ranked u hu)))
       (f.ranks u hu x p);
 }
 
-module _ (first second : List ℕ) (u row other next : ℕ) (hu : u < nodes_at first) (area0 area3 : List ℕ) where
+module _ (first second : TreeColumns) (u row other next : ℕ) (hu : u < first.nodes) (area0 area3 : List ℕ) where
   -- a leaf
-  pub leaf_made : nodes_at second ≤ 159 → column_at first 0 u ≡ u → column_at first 2 u ≤ 80
-      → SpanRow (nodes_at second) second (column_at first 2 u) row area0 area3 → NodeRow first second u row other next area0 area3
+  pub leaf_made : second.nodes ≤ 159 → slice_index first.left u ≡ u → slice_index first.rank u ≤ 80
+      → SpanRow second.nodes second (slice_index first.rank u) row area0 area3 → NodeRow first second u row other next area0 area3
   leaf_made few e small made = record {
     sized = made.sized;
     filled = λ ss ts w sh f rows. record {
@@ -99,34 +100,34 @@ module _ (first second : List ℕ) (u row other next : ℕ) (hu : u < nodes_at f
   }
     where
       go : (ss ts : List Tree) (w : Label → ℕ) → length area0 ≡ 1431 → Filling first second ss ts w area0
-          → NodeCase ss (column_at first 0 u) (column_at first 1 u) u (subtree ss u)
-          → RowTo (nodes_at second) ts w (subtree ss u) row area3
+          → NodeCase ss (slice_index first.left u) (slice_index first.right u) u (subtree ss u)
+          → RowTo second.nodes ts w (subtree ss u) row area3
       go ss ts w sh f (is_leaf x _ p) = record {
         right = λ v hv.
             made.each sh v hv
-            ∙ (rw p (span_best second (nodes_at second) ts w f.two few x (column_at first 2 u) _ small (f.ranks u hu x p) (suc v) v (omega arith) hv));
+            ∙ (rw p (span_best second second.nodes ts w f.two few x (slice_index first.rank u) _ small (f.ranks u hu x p) (suc v) v (omega arith) hv));
       }
       go ss ts w sh f (is_node_lem a b p) = absurd (omega arith)
 
   -- an inner node
-  module _ (c : Children) (area1 area2 : List ℕ) (shape : Shape first (nodes_at first)) (few2 : nodes_at second ≤ 159)
-      (inner : column_at first 0 u ≡ u → ⊥) (room : next < 8) (split : SplitAt first u c)
+  module _ (c : Children) (area1 area2 : List ℕ) (shape : Shape first first.nodes) (few2 : second.nodes ≤ 159)
+      (inner : slice_index first.left u ≡ u → ⊥) (room : next < 8) (split : SplitAt first u c)
       (one : NodeRow first second c.more other row next area0 area1)
       (two : NodeRow first second c.fewer next row (next + 1) area1 area2)
       (join : Joined second c.swapped row other next area2 area3) where
     module _ (ss ts : List Tree) (w : Label → ℕ) (sh : length area0 ≡ 1431) (f : Filling first second ss ts w area0)
         (rows : Rows (subtree ss u) row other next) where
       abbrev P : Tree
-      P = subtree ss (column_at first 0 u)
+      P = subtree ss (slice_index first.left u)
 
       abbrev Q : Tree
-      Q = subtree ss (column_at first 1 u)
+      Q = subtree ss (slice_index first.right u)
 
-      module _ (la : column_at first 0 u < u) (lb : column_at first 1 u < u) (p : subtree ss u ≡ node P Q) where
+      module _ (la : slice_index first.left u < u) (lb : slice_index first.right u < u) (p : subtree ss u ≡ node P Q) where
         needs_more_lem : c.swapped ≡ ltb (need P) (need Q)
         needs_more_lem =
             split.swapped_is
-            ∙ (rw (f.needs (column_at first 0 u) (omega arith), f.needs (column_at first 1 u) (omega arith)) refl)
+            ∙ (rw (f.needs (slice_index first.left u) (omega arith), f.needs (slice_index first.right u) (omega arith)) refl)
 
         enough : (next + cond c.swapped (need Q) (need P) ≤ 8) × (next + 1 + cond c.swapped (need P) (need Q) ≤ 8)
         enough = need_split (need P) (need Q) next (omega (arith, rows.enough, need_node (subtree ss u) P Q p)) c.swapped needs_more_lem
@@ -141,7 +142,7 @@ module _ (first second : List ℕ) (u row other next : ℕ) (hu : u < nodes_at f
         need_fewer : need (subtree ss c.fewer) ≡ cond c.swapped (need P) (need Q)
         need_fewer = rw split.fewer_is (need_of c.swapped _ _)
 
-        fill1 : Filled (nodes_at second) ts w (subtree ss c.more) other row next area0 area1
+        fill1 : Filled second.nodes ts w (subtree ss c.more) other row next area0 area1
         fill1 = one.filled ss ts w sh f (record {
           row_low = rows.other_low;
           other_low = rows.row_low;
@@ -156,7 +157,7 @@ module _ (first second : List ℕ) (u row other next : ℕ) (hu : u < nodes_at f
           before = inr (omega arith);
         }
 
-        fill2 : Filled (nodes_at second) ts w (subtree ss c.fewer) next row (next + 1) area1 area2
+        fill2 : Filled second.nodes ts w (subtree ss c.fewer) next row (next + 1) area1 area2
         fill2 =
             two.filled ss ts w (one.sized sh)
             (filling_kept first second ss ts w area0 area1 shape (λ v hv. fill1.kept 8 v hv weights) f)
@@ -174,7 +175,7 @@ module _ (first second : List ℕ) (u row other next : ℕ) (hu : u < nodes_at f
           before = inl (omega (arith, rows.other_low));
         }
 
-        row_more : RowTo (nodes_at second) ts w (subtree ss c.more) other area2
+        row_more : RowTo second.nodes ts w (subtree ss c.more) other area2
         row_more = record { right = λ v hv. fill2.kept other v (omega arith) spared_other ∙ fill1.right.right v hv }
 
         sh2 : length area2 ≡ 1431
@@ -183,10 +184,10 @@ module _ (first second : List ℕ) (u row other next : ℕ) (hu : u < nodes_at f
         few_leaves : length (leaves (node P Q)) ≤ leaf_limit
         few_leaves = rw (← p) (f.few u hu)
 
-        made : (b : Bool) → c.more ≡ cond b (column_at first 1 u) (column_at first 0 u)
-            → c.fewer ≡ cond b (column_at first 0 u) (column_at first 1 u)
-            → InnerRow (nodes_at second) second (cond b next other) (cond b other next) row area2 area3
-            → RowTo (nodes_at second) ts w (node P Q) row area3
+        made : (b : Bool) → c.more ≡ cond b (slice_index first.right u) (slice_index first.left u)
+            → c.fewer ≡ cond b (slice_index first.left u) (slice_index first.right u)
+            → InnerRow second.nodes second (cond b next other) (cond b other next) row area2 area3
+            → RowTo second.nodes ts w (node P Q) row area3
         made true em ef j =
             j.right_row ts w P Q sh2 f.two f.light few_leaves (λ e. omega (arith, rows.row_low)) (λ e. rows.apart (sym e))
             (rw ef at fill2.right) (rw em at row_more)
@@ -208,11 +209,11 @@ module _ (first second : List ℕ) (u row other next : ℕ) (hu : u < nodes_at f
             later (inl a) = inl (omega arith)
             later (inr a) = inr a
 
-        node_filled : Filled (nodes_at second) ts w (subtree ss u) row other next area0 area3
+        node_filled : Filled second.nodes ts w (subtree ss u) row other next area0 area3
         node_filled = record { right = rw p (made c.swapped split.more_is split.fewer_is join); kept = kept_all }
 
-      case_filled : NodeCase ss (column_at first 0 u) (column_at first 1 u) u (subtree ss u)
-          → Filled (nodes_at second) ts w (subtree ss u) row other next area0 area3
+      case_filled : NodeCase ss (slice_index first.left u) (slice_index first.right u) u (subtree ss u)
+          → Filled second.nodes ts w (subtree ss u) row other next area0 area3
       case_filled (is_leaf x e p) = absurd (inner e)
       case_filled (is_node_lem la lb p) = node_filled la lb p
 
@@ -232,53 +233,53 @@ positive a b = go (ltb a b) refl (ltb b a) refl
     go false p false q = omega arith
 
 -- where no row is left a node cannot come
-pub nothing_made : (first second : List ℕ) (u row other next : ℕ) (area : List ℕ) → 8 ≤ next
-    → (column_at first 0 u ≡ u → ⊥) → u < nodes_at first → NodeRow first second u row other next area area
+pub nothing_made : (first second : TreeColumns) (u row other next : ℕ) (area : List ℕ) → 8 ≤ next
+    → (slice_index first.left u ≡ u → ⊥) → u < first.nodes → NodeRow first second u row other next area area
 nothing_made first second u row other next area full inner hu = record {
   sized = λ e. e;
   filled = λ ss ts w sh f rows. absurd (go ss rows.enough (node_case (f.one.laid u hu)));
 }
   where
-    go : (ss : List Tree) → next + need (subtree ss u) ≤ 8 → NodeCase ss (column_at first 0 u) (column_at first 1 u) u (subtree ss u) → ⊥
+    go : (ss : List Tree) → next + need (subtree ss u) ≤ 8 → NodeCase ss (slice_index first.left u) (slice_index first.right u) u (subtree ss u) → ⊥
     go ss k (is_leaf x e p) = inner e
     go ss k (is_node_lem a b p) =
-        omega (arith, need_node (subtree ss u) _ _ p, positive (need (subtree ss (column_at first 0 u))) (need (subtree ss (column_at first 1 u))))
+        omega (arith, need_node (subtree ss u) _ _ p, positive (need (subtree ss (slice_index first.left u))) (need (subtree ss (slice_index first.right u))))
 
 -- children have smaller numbers
-pub child_low : (first : List ℕ) (u : ℕ) (c : Children) → Shape first (nodes_at first) → u < nodes_at first → (column_at first 0 u ≡ u → ⊥)
+pub child_low : (first : TreeColumns) (u : ℕ) (c : Children) → Shape first first.nodes → u < first.nodes → (slice_index first.left u ≡ u → ⊥)
     → SplitAt first u c → (c.more < u) × (c.fewer < u)
 child_low first u c shape hu inner split = go c.swapped split.more_is split.fewer_is
   where
-    la : column_at first 0 u < u
+    la : slice_index first.left u < u
     la = omega (arith, shape.left_low u hu, inner)
 
-    lb : column_at first 1 u < u
+    lb : slice_index first.right u < u
     lb = shape.inner u hu inner
 
-    go : (b : Bool) → c.more ≡ cond b (column_at first 1 u) (column_at first 0 u) → c.fewer ≡ cond b (column_at first 0 u) (column_at first 1 u)
+    go : (b : Bool) → c.more ≡ cond b (slice_index first.right u) (slice_index first.left u) → c.fewer ≡ cond b (slice_index first.left u) (slice_index first.right u)
         → (c.more < u) × (c.fewer < u)
     go true em ef = (omega (arith, lb), omega (arith, la))
     go false em ef = (omega (arith, la), omega (arith, lb))
 
 -- the root's row
-pub top_made : (first second : List ℕ) (n m top : ℕ) (area area' : List ℕ) → n ≡ nodes_at first → m ≡ nodes_at second → 0 < nodes_at second
-    → nodes_at second ≤ 159 → NodeRow first second (n - 1) 0 1 2 area area' → top ≡ slice_index area' (m - 1) → TopIs first second top area area'
+pub top_made : (first second : TreeColumns) (n m top : ℕ) (area area' : List ℕ) → n ≡ first.nodes → m ≡ second.nodes → 0 < second.nodes
+    → second.nodes ≤ 159 → NodeRow first second (n - 1) 0 1 2 area area' → top ≡ slice_index area' (m - 1) → TopIs first second top area area'
 top_made first second n m top area area' en em some few made e = record { greatest = greatest' }
   where
     greatest' : (ss ts : List Tree) (w : Label → ℕ) → length area ≡ 1431 → Filling first second ss ts w area
-        → need (subtree ss (nodes_at first - 1)) ≤ 6
-        → (top ≡ best w (subtree ss (nodes_at first - 1)) (subtree ts (nodes_at second - 1)))
+        → need (subtree ss (first.nodes - 1)) ≤ 6
+        → (top ≡ best w (subtree ss (first.nodes - 1)) (subtree ts (second.nodes - 1)))
         × ((r : ℕ) → r < 159 → slice_index area' (weight_place r) ≡ slice_index area (weight_place r))
     greatest' ss ts w sh f low = (
-      e ∙ ap (λ (k : ℕ). get_or area' k 0) place ∙ filled.right.right (nodes_at second - 1) (omega arith)
-          ∙ ap (λ (k : ℕ). best w (subtree ss (k - 1)) (subtree ts (nodes_at second - 1))) en,
+      e ∙ ap (λ (k : ℕ). get_or area' k 0) place ∙ filled.right.right (second.nodes - 1) (omega arith)
+          ∙ ap (λ (k : ℕ). best w (subtree ss (k - 1)) (subtree ts (second.nodes - 1))) en,
       λ r hr. filled.kept 8 r hr (record { not_row = λ d. omega arith; not_other = λ d. omega arith; before = inr (omega arith) }),
     )
       where
-        place : m - 1 ≡ 0 * 159 + (nodes_at second - 1)
+        place : m - 1 ≡ 0 * 159 + (second.nodes - 1)
         place = omega arith
 
-        filled : Filled (nodes_at second) ts w (subtree ss (n - 1)) 0 1 2 area area'
+        filled : Filled second.nodes ts w (subtree ss (n - 1)) 0 1 2 area area'
         filled = made.filled ss ts w sh f (record {
           row_low = omega arith;
           other_low = omega arith;

@@ -1,6 +1,7 @@
 -- From the weights by rank to the answer: they stand for weights of labels, the cell of both roots is the greatest weight, and it tells
 -- the set. Assumes nothing.
 use Rattle.std.proofs.Common.{◌≡◌, ℕ, suc, ◌+◌, ◌-◌, ◌*◌, ◌/◌, ◌%◌, ◌<◌, ◌≤◌, min, Bool, true, false, cond, Option, Some, None, eqb, ◌⊎◌, ◌↔◌, List, [], length, get_or, replicate, sym, refl, ap, ◌∙◌, inl, inr, arith, eq-eqb, ne_eqb, eqb-true, slice_index}
+use Rattle.table.specs.declared.columns.TreeColumns.{TreeColumns}
 use lib.ListN.{length-replicate}
 use Rattle.std.proofs.lemmas.Option.{none-some}
 use Rattle.trees.specs.declared.TreeArrays.{TreeArrays}
@@ -25,7 +26,7 @@ use Rattle.agreement.proofs.PowerLaws.{sum_small, power_rank}
 use Rattle.agreement.proofs.Tells.{full_places, common_few, told_set, told_size, told_eight}
 use Rattle.agreement.proofs.Recurrence.{best_greatest}
 use Rattle.agreement.proofs.DemandLaws.{largest_exactly, eight_exactly}
-use Rattle.table.specs.Table.{column_at, nodes_at, weight_place, Filling}
+use Rattle.table.specs.Table.{weight_place, Filling}
 use Rattle.table.specs.Weighing.{unit_of, WeightsPut, Powers, bits_of, Bits}
 use Rattle.table.specs.Choice.{Marked, Given, Posed, chosen_from, Solved}
 use Rattle.table.specs.Solving.{OwnColumns, TopIs, Weighed}
@@ -70,14 +71,14 @@ module _ (s t : Tree) (K : List Label) (proper : Proper s) where
       go true = omega (arith, sum_small leaf_limit C (same_label x), full_places)
       go false = omega (arith, sum_small leaf_limit C (same_label x), full_places)
 
-  module _ (first second : List ℕ) (one : OwnColumns s C first) (two : OwnColumns t C second) (f : ℕ → ℕ)
+  module _ (first second : TreeColumns) (one : OwnColumns s C first) (two : OwnColumns t C second) (f : ℕ → ℕ)
       (weighs : (r : ℕ) → r < length C → f r ≡ w (get_or C r [])) (nothing : f 80 ≡ 0) where
     module _ (u v : ℕ) (x y : Label) (p : LeafIs s u x) (q : LeafIs t v y) where
       abbrev a : ℕ
-      a = column_at first 2 u
+      a = slice_index first.rank u
 
       abbrev b : ℕ
-      b = column_at second 2 v
+      b = slice_index second.rank v
 
       ranks_same : x ≡ y → cond (eqb b a) (f a) 0 ≡ w x
       unfolding holds
@@ -125,16 +126,16 @@ module _ (s t : Tree) (K : List Label) (proper : Proper s) where
 
 -- the cell of both roots, for any weights
 
-module _ (w : Label → ℕ) (s t : Tree) (C : List Label) (first second area area' : List ℕ) (top : ℕ) (one : OwnColumns s C first)
+module _ (w : Label → ℕ) (s t : Tree) (C : List Label) (first second : TreeColumns) (area area' : List ℕ) (top : ℕ) (one : OwnColumns s C first)
     (two : OwnColumns t C second) (sh : length area ≡ 1431)
     (filling : Filling first second (postorder s) (postorder t) w area) (top_is : TopIs first second top area area') where
-  root1 : subtree (postorder s) (nodes_at first - 1) ≡ s
-  root1 = root_last s (nodes_at first - 1) (omega (arith, one.nodes_is, nodes_pos s))
+  root1 : subtree (postorder s) (first.nodes - 1) ≡ s
+  root1 = root_last s (first.nodes - 1) (omega (arith, one.nodes_is, nodes_pos s))
 
-  root2 : subtree (postorder t) (nodes_at second - 1) ≡ t
-  root2 = root_last t (nodes_at second - 1) (omega (arith, two.nodes_is, nodes_pos t))
+  root2 : subtree (postorder t) (second.nodes - 1) ≡ t
+  root2 = root_last t (second.nodes - 1) (omega (arith, two.nodes_is, nodes_pos t))
 
-  pub told : (top ≡ best w (subtree (postorder s) (nodes_at first - 1)) (subtree (postorder t) (nodes_at second - 1)))
+  pub told : (top ≡ best w (subtree (postorder s) (first.nodes - 1)) (subtree (postorder t) (second.nodes - 1)))
       × ((r : ℕ) → r < 159 → slice_index area' (weight_place r) ≡ slice_index area (weight_place r))
   told = top_is.greatest (postorder s) (postorder t) w sh filling (rw root1 (few_rows s one.proper.few))
 
@@ -144,7 +145,7 @@ module _ (w : Label → ℕ) (s t : Tree) (C : List Label) (first second area ar
 -- and for those of the common labels
 
 module _ (s t : Tree) (K : List Label) (tree1 tree2 : TreeArrays) (rank1 rank2 : List ℕ) (m : ℕ) (number : List ℕ) (count : ℕ)
-    (posed : Posed s t K tree1 tree2 rank1 rank2 m number count) (first second : List ℕ)
+    (posed : Posed s t K tree1 tree2 rank1 rank2 m number count) (first second : TreeColumns)
     (columns1 : (v : Tree) (C : List Label) → length C ≤ 80 → Given v C tree1 rank1 → OwnColumns v C first)
     (columns2 : (v : Tree) (C : List Label) → length C ≤ 80 → Given v C tree2 rank2 → OwnColumns v C second)
     (n : ℕ) (ranks : n ≡ min m 80) (area1 area2 : List ℕ)

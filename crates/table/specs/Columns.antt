@@ -1,51 +1,62 @@
 -- A tree's columns as they are stored node by node. Intermediate: nothing public rests on this text.
-use Rattle.std.specs.Prelude.{◌≡◌, ℕ, ◌%◌, ◌<◌, ◌≤◌, min, cond, ◌⊎◌, List, length, ◌==◌, ◌≢◌, nat_lt, slice_index}
-use Rattle.table.specs.Table.{column_at, join_need, nodes_at, LeafOf}
+use Rattle.std.specs.Prelude.{◌≡◌, ℕ, ◌%◌, ◌<◌, ◌≤◌, min, cond, List, length, ◌==◌, ◌≢◌, nat_lt, slice_index}
+use Rattle.table.specs.declared.columns.TreeColumns.{TreeColumns}
+use Rattle.table.specs.Table.{join_need, LeafOf}
 
 -- child a of node u, whose other child is b, as it is stored: if they do not both come before u, it is taken for a leaf
 unfoldable pub child_at : ℕ → ℕ → ℕ → ℕ
 child_at a b u = cond (nat_lt a u) (cond (nat_lt b u) a u) u
 
 -- the rows that node u with the stored children a and b needs
-abbrev pub need_at : List ℕ → ℕ → ℕ → ℕ → ℕ
-need_at columns u a b = cond (a == u) 0 (join_need (column_at columns 3 a) (column_at columns 3 b))
+abbrev pub need_at : TreeColumns → ℕ → ℕ → ℕ → ℕ
+need_at columns u a b = cond (a == u) 0 (join_need (slice_index columns.rows a) (slice_index columns.rows b))
 
 -- the first node below node u with the stored left child a
-abbrev pub low_at : List ℕ → ℕ → ℕ → ℕ
-low_at columns u a = cond (a == u) u (column_at columns 4 a)
+abbrev pub low_at : TreeColumns → ℕ → ℕ → ℕ
+low_at columns u a = cond (a == u) u (slice_index columns.low a)
 
 -- where node u with the stored left child a and the rank n is stored as the leaf of its rank: an inner node where no leaf is
 abbrev pub leaf_place : ℕ → ℕ → ℕ → ℕ
 leaf_place u a n = cond (a == u) n 81
 
--- one entry is stored
-pub record ColumnPut (k u x : ℕ) (old new : List ℕ) : Type 0 where
-  pub size : length new ≡ length old
-  pub at : length old ≡ 955 → column_at new k u ≡ x
-  pub others : (j q : ℕ) → q < 159 → (j ≢ k) ⊎ (q ≢ u) → column_at new j q ≡ column_at old j q
-  pub nodes_kept : nodes_at new ≡ nodes_at old
+-- each array has its size
+pub record Sized (columns : TreeColumns) : Type 0 where
+  pub left_size : length columns.left ≡ 159
+  pub right_size : length columns.right ≡ 159
+  pub rank_size : length columns.rank ≡ 159
+  pub rows_size : length columns.rows ≡ 159
+  pub low_size : length columns.low ≡ 159
+  pub leaf_size : length columns.leaf ≡ 159
+
+-- every node but u is as it was
+pub record Kept (u : ℕ) (old new : TreeColumns) : Type 0 where
+  pub left : (q : ℕ) → (q ≢ u) → slice_index new.left q ≡ slice_index old.left q
+  pub right : (q : ℕ) → (q ≢ u) → slice_index new.right q ≡ slice_index old.right q
+  pub rank : (q : ℕ) → (q ≢ u) → slice_index new.rank q ≡ slice_index old.rank q
+  pub rows : (q : ℕ) → (q ≢ u) → slice_index new.rows q ≡ slice_index old.rows q
+  pub low : (q : ℕ) → (q ≢ u) → slice_index new.low q ≡ slice_index old.low q
 
 -- the entries of node u, which has these children and this rank in the arrays
-pub record NodeIs (a b rank u : ℕ) (columns : List ℕ) : Type 0 where
-  pub left_is : column_at columns 0 u ≡ child_at a b u
-  pub right_is : column_at columns 1 u ≡ child_at b a u
-  pub rank_is : column_at columns 2 u ≡ min rank 80
-  pub need_is : column_at columns 3 u ≡ need_at columns u (child_at a b u) (child_at b a u) % 256
-  pub low_is : column_at columns 4 u ≡ low_at columns u (child_at a b u) % 256
+pub record NodeIs (a b rank u : ℕ) (columns : TreeColumns) : Type 0 where
+  pub left_is : slice_index columns.left u ≡ child_at a b u
+  pub right_is : slice_index columns.right u ≡ child_at b a u
+  pub rank_is : slice_index columns.rank u ≡ min rank 80
+  pub need_is : slice_index columns.rows u ≡ need_at columns u (child_at a b u) (child_at b a u) % 256
+  pub low_is : slice_index columns.low u ≡ low_at columns u (child_at a b u) % 256
 
 -- node u is stored, a leaf also as that of its rank; every other node and rank, and the number of nodes, stay
-pub record NodePut (u a b rank : ℕ) (old new : List ℕ) : Type 0 where
-  pub size : length new ≡ length old
-  pub is : length old ≡ 955 → NodeIs a b rank u new
-  pub others : (k q : ℕ) → k < 5 → q < 159 → (q ≢ u) → column_at new k q ≡ column_at old k q
-  pub leaf_is : length old ≡ 955 → column_at new 0 u ≡ u → column_at new 5 (column_at new 2 u) ≡ u
-  pub leaves_kept : length old ≡ 955 → (r : ℕ) → r ≤ 80 → (column_at new 0 u ≡ u → column_at new 2 u ≢ r)
-      → column_at new 5 r ≡ column_at old 5 r
-  pub nodes_kept : nodes_at new ≡ nodes_at old
+pub record NodePut (u a b rank : ℕ) (old new : TreeColumns) : Type 0 where
+  pub size : Sized old → Sized new
+  pub is : Sized old → NodeIs a b rank u new
+  pub others : Kept u old new
+  pub leaf_is : Sized old → slice_index new.left u ≡ u → slice_index new.leaf (slice_index new.rank u) ≡ u
+  pub leaves_kept : Sized old → (r : ℕ) → r ≤ 80 → (slice_index new.left u ≡ u → slice_index new.rank u ≢ r)
+      → slice_index new.leaf r ≡ slice_index old.leaf r
+  pub nodes_kept : new.nodes ≡ old.nodes
 
 -- the first n nodes are stored
-pub record Gathered (n : ℕ) (left right rank : List ℕ) (nodes : ℕ) (columns : List ℕ) : Type 0 where
-  pub size : length columns ≡ 955
-  pub count : nodes_at columns ≡ nodes
+pub record Gathered (n : ℕ) (left right rank : List ℕ) (nodes : ℕ) (columns : TreeColumns) : Type 0 where
+  pub size : Sized columns
+  pub count : columns.nodes ≡ nodes
   pub each : (u : ℕ) → u < n → NodeIs (slice_index left u) (slice_index right u) (slice_index rank u) u columns
-  pub leaf_of : (r : ℕ) → r ≤ 80 → LeafOf columns n r (column_at columns 5 r)
+  pub leaf_of : (r : ℕ) → r ≤ 80 → LeafOf columns n r (slice_index columns.leaf r)

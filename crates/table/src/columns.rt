@@ -1,18 +1,29 @@
-// A tree's nodes as columns of bytes in one array, so that it is lent as one: left children, right children, ranks, how many rows
-// of the table a node needs beside two, and the first node below; then, by rank, the leaf. The last entry is the number of nodes.
-ghost use Rattle.std.specs.Prelude.{◌≡◌, ◌%◌, ◌<◌, ◌≤◌, List, length};
+// A tree's nodes as columns of bytes, so that they are lent as one.
+ghost use Rattle.std.specs.Prelude.{◌≡◌, ◌<◌, ◌≤◌, List, length};
 ghost use Rattle.trees.specs.Label.{Label};
 ghost use Rattle.trees.specs.Tree.{Tree};
 ghost use Rattle.table.specs.Table.{join_need};
-ghost use Rattle.table.specs.Columns.{child_at, need_at, low_at, leaf_place, ColumnPut, NodePut, Gathered};
+ghost use Rattle.table.specs.Columns.{child_at, need_at, low_at, leaf_place, NodePut, Gathered};
 ghost use Rattle.table.specs.Choice.{Given};
 ghost use Rattle.table.specs.Solving.{Rooted, OwnColumns};
 
-use crate::fill::{COLUMNS, NODES, ROW, column};
 use trees::{LEAF_LIMIT, NODE_LIMIT, TreeArrays};
 
 // No leaf's rank.
 const INNER: usize = LEAF_LIMIT + 1;
+
+// By node: left children, right children, ranks, how many rows of the table it needs beside two, and the first node below. By rank the
+// leaf; 255, past every node, where there is none. Nodes are numbered children first, and a leaf is its own left child.
+#[derive(Clone, Copy)]
+pub(crate) struct TreeColumns {
+    pub(crate) left: [u8; NODE_LIMIT],
+    pub(crate) right: [u8; NODE_LIMIT],
+    pub(crate) rank: [u8; NODE_LIMIT],
+    pub(crate) rows: [u8; NODE_LIMIT],
+    pub(crate) low: [u8; NODE_LIMIT],
+    pub(crate) leaf: [u8; NODE_LIMIT],
+    pub(crate) nodes: usize,
+}
 
 // The rows that a node needs, from what its children need.
 fn joined_need(a: usize, b: usize) -> usize
@@ -39,28 +50,6 @@ fn child(a: usize, b: usize, u: usize) -> usize
     if b < u { a } else { u }
 }
 
-// The rows that node u with children a and b needs; a leaf is its own left child.
-fn needed(columns: &[u8; COLUMNS], u: usize, a: usize, b: usize) -> usize
-    requires { (u < 159) × (a ≤ u) × (b ≤ u) }
-    ensures { result ≡ need_at columns.now u a b }
-{
-    if a == u {
-        return 0;
-    }
-    joined_need(column(columns, 3, a), column(columns, 3, b))
-}
-
-// The first node below node u with left child a.
-fn first_below(columns: &[u8; COLUMNS], u: usize, a: usize) -> usize
-    requires { (u < 159) × (a ≤ u) }
-    ensures { result ≡ low_at columns.now u a }
-{
-    if a == u {
-        return u;
-    }
-    column(columns, 4, a)
-}
-
 // Where node u with left child a and rank n is stored as the leaf of its rank; an inner node where no leaf is.
 fn leaf_place(u: usize, a: usize, n: usize) -> usize
     requires { n ≤ 80 }
@@ -70,30 +59,46 @@ fn leaf_place(u: usize, a: usize, n: usize) -> usize
     if a == u { n } else { INNER }
 }
 
-fn put(columns: &mut [u8; COLUMNS], k: usize, u: usize, x: usize)
-    requires { (k < 6) × (u < 159) }
-    ensures { ColumnPut k u (x % 256) columns.old columns.new }
-{
-    let i = k * ROW + u;
-    columns[i] = trees::narrow(x);
-}
+impl TreeColumns {
+    // The rows that node u with children a and b needs; a leaf is its own left child.
+    fn needed(&self, u: usize, a: usize, b: usize) -> usize
+        requires { (u < 159) × (a ≤ u) × (b ≤ u) }
+        ensures { result ≡ need_at self.now u a b }
+    {
+        if a == u {
+            return 0;
+        }
+        joined_need(usize::from(self.rows[a]), usize::from(self.rows[b]))
+    }
 
-// Node u, which has these children and this rank in the arrays.
-fn put_node(columns: &mut [u8; COLUMNS], u: usize, left: usize, right: usize, rank: usize)
-    requires { u < 159 }
-    ensures { NodePut u left right rank columns.old columns.new }
-{
-    let a = child(left, right, u);
-    let b = child(right, left, u);
-    let need = needed(columns, u, a, b);
-    let low = first_below(columns, u, a);
-    let n = trees::least(rank, LEAF_LIMIT);
-    put(columns, 0, u, a);
-    put(columns, 1, u, b);
-    put(columns, 2, u, n);
-    put(columns, 3, u, need);
-    put(columns, 4, u, low);
-    put(columns, 5, leaf_place(u, a, n), u);
+    // The first node below node u with left child a.
+    fn first_below(&self, u: usize, a: usize) -> usize
+        requires { (u < 159) × (a ≤ u) }
+        ensures { result ≡ low_at self.now u a }
+    {
+        if a == u {
+            return u;
+        }
+        usize::from(self.low[a])
+    }
+
+    // Stores node u, which has these children and this rank in the arrays.
+    fn put(&mut self, u: usize, left: usize, right: usize, rank: usize)
+        requires { u < 159 }
+        ensures { NodePut u left right rank self.old self.new }
+    {
+        let a = child(left, right, u);
+        let b = child(right, left, u);
+        let need = self.needed(u, a, b);
+        let low = self.first_below(u, a);
+        let n = trees::least(rank, LEAF_LIMIT);
+        self.left[u] = trees::narrow(a);
+        self.right[u] = trees::narrow(b);
+        self.rank[u] = trees::narrow(n);
+        self.rows[u] = trees::narrow(need);
+        self.low[u] = trees::narrow(low);
+        self.leaf[leaf_place(u, a, n)] = trees::narrow(u);
+    }
 }
 
 // The columns of the first `nodes` nodes.
@@ -102,22 +107,26 @@ fn gathered(
     right: &[u8; NODE_LIMIT],
     rank: &[u8; NODE_LIMIT],
     nodes: usize,
-) -> [u8; COLUMNS]
+) -> TreeColumns
     requires { nodes ≤ 159 }
     ensures { Gathered nodes left.now right.now rank.now nodes result }
 {
-    let mut columns = [255u8; COLUMNS];
-    columns[NODES] = trees::narrow(nodes);
-    let mut u: usize = 0;
-    while u < nodes {
-        put_node(
-            &mut columns,
+    let mut columns = TreeColumns {
+        left: [0; NODE_LIMIT],
+        right: [0; NODE_LIMIT],
+        rank: [0; NODE_LIMIT],
+        rows: [0; NODE_LIMIT],
+        low: [0; NODE_LIMIT],
+        leaf: [255; NODE_LIMIT],
+        nodes,
+    };
+    for u in 0..nodes {
+        columns.put(
             u,
-            trees::wide(left[u]),
-            trees::wide(right[u]),
-            trees::wide(rank[u]),
+            usize::from(left[u]),
+            usize::from(right[u]),
+            usize::from(rank[u]),
         );
-        u += 1;
     }
     columns
 }
@@ -126,14 +135,11 @@ fn gathered(
 fn nodes_in(nodes: usize) -> usize
     ensures { (0 < result) × (result ≤ 159) × (0 < nodes → nodes ≤ 159 → result ≡ nodes) }
 {
-    if nodes == 0 {
-        return 1;
-    }
-    trees::least(nodes, NODE_LIMIT)
+    nodes.clamp(1, NODE_LIMIT)
 }
 
 // The columns of a tree by its arrays and its leaves' ranks.
-pub(crate) fn columns_of(tree: TreeArrays, rank: &[u8; NODE_LIMIT]) -> [u8; COLUMNS]
+pub(crate) fn columns_of(tree: TreeArrays, rank: &[u8; NODE_LIMIT]) -> TreeColumns
     ensures rooted { Rooted result }
     ensures own_columns { (t : Tree) (C : List Label) → length C ≤ 80 → Given t C tree rank.now → OwnColumns t C result }
 {

@@ -2,14 +2,14 @@
 // which their subtrees agree (001, Lemma 3.1). The row of a node of the first tree is needed until its parent's row
 // is made, so that a few rows are enough.
 //
-// A weight takes 94 bits. The area has eight rows of cells and, in a ninth, the weights of the common labels by rank. The columns of a
-// tree are one array (columns.rt). Nodes are numbered children first, and a leaf is its own left child. Arrays are lent: by value they
-// would cost more than the work.
+// A weight takes 94 bits. The area has eight rows of cells and, in a ninth, the weights of the common labels by rank. Arrays
+// are lent: by value they would cost more than the work.
 ghost use Rattle.std.specs.Prelude.{◌≡◌, ◌<◌, ◌≤◌, slice_index};
-ghost use Rattle.table.specs.Table.{column_at, inner_at, cell_at, span_at, Shape};
-ghost use Rattle.table.specs.Table.{nodes_at, SplitAt, InnerRow, Joined, SpanRow, NodeRow};
+ghost use Rattle.table.specs.Table.{inner_at, cell_at, span_at, Shape};
+ghost use Rattle.table.specs.Table.{SplitAt, InnerRow, Joined, SpanRow, NodeRow};
 ghost use Rattle.table.specs.Solving.{Rooted, TopIs};
 
+use crate::columns::TreeColumns;
 use trees::NODE_LIMIT;
 
 // The cells of a row, and the rows of cells; then comes the row of weights.
@@ -20,21 +20,6 @@ const ROWS: usize = 8;
 pub(crate) const WEIGHTS: usize = ROWS * ROW;
 
 pub(crate) const AREA: usize = WEIGHTS + ROW;
-
-// The entries of a tree's columns; the last is the number of nodes.
-pub(crate) const NODES: usize = 6 * NODE_LIMIT;
-
-pub(crate) const COLUMNS: usize = NODES + 1;
-
-// The entry of node u in column k: 0 left children, 1 right children, 2 ranks, 3 rows needed, 4 the first node below. In column 5 the
-// entry of rank u is its leaf.
-pub(crate) fn column(columns: &[u8; COLUMNS], k: usize, u: usize) -> usize
-    requires { (k < 6) × (u < 159) }
-    ensures { result ≡ column_at columns.now k u }
-{
-    let i = k * ROW + u;
-    trees::wide(columns[i])
-}
 
 // Two inner nodes: below one child of either, or the children paired. The rows of the first node's children start at a and b, its
 // own at u; v has children c and d.
@@ -60,7 +45,7 @@ fn inner_cell(
 
 // The cell of an inner node, whose row starts at u and its children's at a and b, and node v.
 fn pair_cell(
-    second: &[u8; COLUMNS],
+    second: &TreeColumns,
     area: &[u128; AREA],
     a: usize,
     b: usize,
@@ -68,23 +53,23 @@ fn pair_cell(
     v: usize,
 ) -> u128
     requires a_bound { (a ≤ 1272) × (b ≤ 1272) × (u ≤ 1272) × (v < 159) }
-    requires v_bound { (column_at second.now 0 v ≤ v) × (column_at second.now 1 v ≤ v) }
+    requires v_bound { (slice_index second.now.left v ≤ v) × (slice_index second.now.right v ≤ v) }
     ensures { result ≡ cell_at (slice_index area.now) second.now a b u v }
 {
-    let c = column(second, 0, v);
+    let c = usize::from(second.left[v]);
     if c == v {
         return area[a + v].max(area[b + v]);
     }
-    let d = column(second, 1, v);
+    let d = usize::from(second.right[v]);
     inner_cell(area, a, b, u, c, d, v)
 }
 
 // The cell of leaf `at` of the second tree and a node v from it on: the leaf's weight if it is below v.
-fn span_cell(second: &[u8; COLUMNS], weight: u128, at: usize, v: usize) -> u128
+fn span_cell(second: &TreeColumns, weight: u128, at: usize, v: usize) -> u128
     requires { (v < 159) × (at ≤ v) }
     ensures { result ≡ span_at second.now weight at v }
 {
-    if column(second, 4, v) <= at {
+    if usize::from(second.low[v]) <= at {
         return weight;
     }
     0
@@ -92,21 +77,21 @@ fn span_cell(second: &[u8; COLUMNS], weight: u128, at: usize, v: usize) -> u128
 
 // The row of leaf u. It is 0 but for the nodes above the leaf with the same rank, which come after that leaf.
 fn fill_leaf(
-    first: &[u8; COLUMNS],
-    second: &[u8; COLUMNS],
+    first: &TreeColumns,
+    second: &TreeColumns,
     area: &mut [u128; AREA],
     u: usize,
     row: usize,
 )
-    requires second_bound { nodes_at second.now ≤ 159 }
-    requires u_bound { (u < 159) × (column_at first.now 2 u ≤ 80) × (row < 8) }
-    ensures { SpanRow (nodes_at second.now) second.now (column_at first.now 2 u) row
+    requires second_bound { second.now.nodes ≤ 159 }
+    requires u_bound { (u < 159) × (slice_index first.now.rank u ≤ 80) × (row < 8) }
+    ensures { SpanRow second.now.nodes second.now (slice_index first.now.rank u) row
         area.old area.new }
 {
-    let rank = column(first, 2, u);
+    let rank = usize::from(first.rank[u]);
     let weight = area[WEIGHTS + rank];
-    let at = column(second, 5, rank);
-    let nodes = trees::wide(second[NODES]);
+    let at = usize::from(second.leaf[rank]);
+    let nodes = second.nodes;
     let clear = trees::least(at, nodes);
     let start = row * ROW;
     for v in 0..clear {
@@ -118,19 +103,13 @@ fn fill_leaf(
 }
 
 // The row of an inner node from the rows of its children.
-fn fill_inner(
-    second: &[u8; COLUMNS],
-    area: &mut [u128; AREA],
-    left: usize,
-    right: usize,
-    row: usize,
-)
-    requires shape { Shape second.now (nodes_at second.now) }
+fn fill_inner(second: &TreeColumns, area: &mut [u128; AREA], left: usize, right: usize, row: usize)
+    requires shape { Shape second.now second.now.nodes }
     requires left_bound { (left < 8) × (right < 8) × (row < 8) }
-    ensures { InnerRow (nodes_at second.now) second.now left right row
+    ensures { InnerRow second.now.nodes second.now left right row
         area.old area.new }
 {
-    let nodes = trees::wide(second[NODES]);
+    let nodes = second.nodes;
     let a = left * ROW;
     let b = right * ROW;
     let u = row * ROW;
@@ -147,13 +126,13 @@ struct Children {
     swapped: bool,
 }
 
-fn children_of(first: &[u8; COLUMNS], u: usize) -> Children
-    requires { (u < 159) × (column_at first.now 0 u ≤ u) × (column_at first.now 1 u ≤ u) }
+fn children_of(first: &TreeColumns, u: usize) -> Children
+    requires { (u < 159) × (slice_index first.now.left u ≤ u) × (slice_index first.now.right u ≤ u) }
     ensures { SplitAt first.now u result }
 {
-    let a = column(first, 0, u);
-    let b = column(first, 1, u);
-    if column(first, 3, a) < column(first, 3, b) {
+    let a = usize::from(first.left[u]);
+    let b = usize::from(first.right[u]);
+    if usize::from(first.rows[a]) < usize::from(first.rows[b]) {
         Children {
             more: b,
             fewer: a,
@@ -170,14 +149,14 @@ fn children_of(first: &[u8; COLUMNS], u: usize) -> Children
 
 // The row of an inner node from row `other`, of the child that needed more rows, and row `next`, of the second one.
 fn join_rows(
-    second: &[u8; COLUMNS],
+    second: &TreeColumns,
     area: &mut [u128; AREA],
     swapped: bool,
     row: usize,
     other: usize,
     next: usize,
 )
-    requires shape { Shape second.now (nodes_at second.now) }
+    requires shape { Shape second.now second.now.nodes }
     requires row_bound { (row < 8) × (other < 8) × (next < 8) }
     ensures { Joined second.now swapped row other next area.old area.new }
 {
@@ -191,20 +170,20 @@ fn join_rows(
 // The row of node u of the first tree. The child that needs more rows is done first, into the other row; then the second child,
 // into row `next`. A tree of 80 leaves needs six rows beside two, so that the test for a next one is for safety alone.
 fn fill_node(
-    first: &[u8; COLUMNS],
-    second: &[u8; COLUMNS],
+    first: &TreeColumns,
+    second: &TreeColumns,
     area: &mut [u128; AREA],
     u: usize,
     row: usize,
     other: usize,
     next: usize,
 )
-    requires shape { Shape first.now (nodes_at first.now) × Shape second.now (nodes_at second.now) }
-    requires u_bound { (u < nodes_at first.now) × (row < 8) × (other < 8) }
+    requires shape { Shape first.now first.now.nodes × Shape second.now second.now.nodes }
+    requires u_bound { (u < first.now.nodes) × (row < 8) × (other < 8) }
     ensures { NodeRow first.now second.now u row other next
         area.old area.new }
 {
-    if column(first, 0, u) == u {
+    if usize::from(first.left[u]) == u {
         fill_leaf(first, second, area, u, row);
         return;
     }
@@ -219,16 +198,16 @@ fn fill_node(
 
 // The greatest weight of a set on which the trees agree.
 pub(crate) fn root_weight(
-    first: &[u8; COLUMNS],
-    second: &[u8; COLUMNS],
+    first: &TreeColumns,
+    second: &TreeColumns,
     area: &mut [u128; AREA],
 ) -> u128
     requires { Rooted first.now × Rooted second.now }
     ensures { TopIs first.now second.now result
         area.old area.new }
 {
-    let u = trees::wide(first[NODES]) - 1;
-    let v = trees::wide(second[NODES]) - 1;
+    let u = first.nodes - 1;
+    let v = second.nodes - 1;
     fill_node(first, second, area, u, 0, 1, 2);
     area[v]
 }

@@ -6,9 +6,9 @@ use Rattle.table.proofs.fill.pair_cell.Goals as goal
 pub returns-then-c-v : goal.returns-then-c-v
 unfolding cell_at
 returns-then-c-v c =
-    rw (eq-eqb _ _ (sym c.column-c.ensures ∙ c.if-c-v.true)) c.max.ensures
+    rw (eq-eqb _ _ (sym c.from-c.ensures ∙ c.if-c-v.true)) c.max.ensures
 
 pub returns : goal.returns
 unfolding cell_at
 returns c =
-    rw (← c.column-c.ensures, ← c.column-d.ensures, ne_eqb _ _ c.if-c-v.false) c.inner_cell.ensures
+    rw (← c.from-c.ensures, ← c.from-d.ensures, ne_eqb _ _ c.if-c-v.false) c.inner_cell.ensures

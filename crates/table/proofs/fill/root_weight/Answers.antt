@@ -5,5 +5,5 @@ use Rattle.table.proofs.fill.root_weight.Goals as goal
 
 pub returns : goal.returns
 returns c =
-    let p = c.requires in top_made _ _ _ _ _ _ _ c.wide-u.ensures c.wide-v.ensures p.1.root p.1.shape.few
+    let p = c.requires in top_made _ _ _ _ _ _ _ refl refl p.1.root p.1.shape.few
     c.fill_node.ensures refl
