@@ -1,8 +1,11 @@
 -- The digits of a number by value. C-13: "make the decimal digits of a place without division or remainder, by subtracting powers of ten.
 -- For every place they are the same as before".
 use Rattle.std.specs.Prelude.{ℕ, zero, suc, ◌^◌, List, [], ◌∷◌, take}
-use Rattle.decimals.specs.declared.Numeral.{Numeral}
+use Rattle.trees.specs.declared.ShortBytes.{ShortBytes}
 use Rattle.decimals.specs.Decimal.{digit_room}
+
+abbrev pub Numeral : Type 0
+Numeral = ShortBytes digit_room
 
 -- the digits of a numeral; if the length exceeds 20, the array's 20 bytes count
 unfoldable pub numeral_bytes : Numeral → List ℕ

@@ -3,19 +3,17 @@
 // No public function has a `requires`.
 #![tactic(auto)]
 
-ghost use Rattle.std.specs.Prelude.{◌≡◌, ◌+◌, ◌-◌, ◌*◌, ◌<◌, length, drop, replicate};
+ghost use Rattle.std.specs.Prelude.{◌≡◌, ◌+◌, ◌-◌, ◌*◌, ◌<◌, ◌≤◌, length, drop, replicate};
 ghost use Rattle.decimals.specs.Decimal.{decimal_of, digit_room};
 ghost use Rattle.decimals.specs.Numeral.{numeral_bytes, ten_powers};
+
+use trees::ShortBytes;
 
 // The digits that a number may have.
 pub const DIGIT_ROOM: usize = 20;
 
-// Decimal digits: the first `len` bytes count.
-#[derive(Clone, Copy)]
-pub struct Numeral {
-    pub bytes: [u8; DIGIT_ROOM],
-    pub len: usize,
-}
+// Decimal digits.
+pub type Numeral = ShortBytes<DIGIT_ROOM>;
 
 // How often a power was subtracted from a number, and what is left of it.
 #[derive(Clone, Copy)]
@@ -56,16 +54,15 @@ fn powers() -> [usize; DIGIT_ROOM]
 // How many digits n has: one more for each power from 10 on that it reaches.
 fn digit_count(n: usize, powers: &[usize; DIGIT_ROOM]) -> usize
     requires { powers.now ≡ ten_powers }
-    ensures { result ≡ length (decimal_of n) }
+    ensures count { result ≡ length (decimal_of n) }
+    ensures few { result ≤ digit_room }
 {
-    let mut k: usize = 1;
-    while k < DIGIT_ROOM {
+    for k in 1..DIGIT_ROOM {
         if n < powers[k] {
             return k;
         }
-        k += 1;
     }
-    k
+    DIGIT_ROOM
 }
 
 // Subtracts a power of ten as often as possible: the digit at its place.
@@ -94,12 +91,10 @@ pub fn digits(n: usize) -> Numeral
     let len = digit_count(n, &powers);
     let mut bytes = [0u8; DIGIT_ROOM];
     let mut rest = n;
-    let mut i: usize = 0;
-    while i < len {
+    for i in 0..len {
         let taken = take_digit(rest, powers[len - 1 - i]);
         bytes[i] = b'0' + taken.times;
         rest = taken.rest;
-        i += 1;
     }
-    Numeral { bytes, len }
+    ShortBytes { bytes, len }
 }

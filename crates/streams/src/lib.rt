@@ -12,10 +12,7 @@ fn read_some<R: Read>(input: &mut R, buf: &mut [u8]) -> usize
     ensures bound { result ≤ length buf.new }
     ensures bytes { Consumes (R.remaining input.old) (R.remaining input.new) (take result buf.new) }
 {
-    match input.read(buf) {
-        Ok(n) => n,
-        Err(_) => 0,
-    }
+    input.read(buf).unwrap_or(0)
 }
 
 // Reads until `buf` is full, the input ends or a read fails, and returns how many bytes it put at the start of `buf`. They are the next of the
@@ -39,8 +36,5 @@ pub fn read_full<R: Read>(input: &mut R, buf: &mut [u8]) -> usize
 pub fn write_all<W: Write>(output: &mut W, bytes: &[u8]) -> bool
     ensures { IsTrue result → Appends (W.contents output.old) (W.contents output.new) bytes.now }
 {
-    match output.write_all(bytes) {
-        Ok(()) => true,
-        Err(_) => false,
-    }
+    output.write_all(bytes).is_ok()
 }

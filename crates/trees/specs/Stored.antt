@@ -1,7 +1,7 @@
 -- Labels kept apart from their text, and parts of a text.
 use Rattle.std.specs.Prelude.{ℕ, zero, suc, ◌+◌, ◌-◌, min, Bool, true, false, cond, ◌||◌, List, [], ◌++◌, map, leb, length, get_or, take, drop, replicate}
 use Rattle.trees.specs.declared.Edition.{Edition}
-use Rattle.trees.specs.declared.LabelBytes.{LabelBytes}
+use Rattle.trees.specs.declared.ShortBytes.{ShortBytes}
 use Rattle.trees.specs.Label.{Label, label_limit, same_label}
 use Rattle.trees.specs.Token.{Token, bare_byte, spelling, written_byte, quoted_token, token_of, token_limit}
 use Rattle.trees.specs.Reading.{quote_first}
@@ -9,10 +9,10 @@ use Rattle.trees.specs.Edition.{fold_byte}
 
 -- the bytes of a label apart from any text: as decoded, and as it is printed
 abbrev pub StoredLabel : Type 0
-StoredLabel = LabelBytes label_limit
+StoredLabel = ShortBytes label_limit
 
 abbrev pub ShownLabel : Type 0
-ShownLabel = LabelBytes token_limit
+ShownLabel = ShortBytes token_limit
 
 -- the label that is stored; if the length exceeds the array, all its bytes count
 unfoldable pub stored_bytes : StoredLabel → Label

@@ -118,20 +118,20 @@ impl Halt {
     }
 }
 
-// The bytes of a label, kept apart from any text: the first `len` of them count.
+// A few bytes, kept apart from any text: the first `len` of them count.
 #[derive(Clone, Copy)]
-pub struct LabelBytes<const N: usize> {
+pub struct ShortBytes<const N: usize> {
     pub bytes: [u8; N],
     pub len: usize,
 }
 
 // A label as decoded.
-pub type StoredLabel = LabelBytes<LABEL_LIMIT>;
+pub type StoredLabel = ShortBytes<LABEL_LIMIT>;
 
 // A label as it is printed, with quotes where it needs them.
-pub type ShownLabel = LabelBytes<TOKEN_LIMIT>;
+pub type ShownLabel = ShortBytes<TOKEN_LIMIT>;
 
-impl<const N: usize> LabelBytes<N> {
+impl<const N: usize> ShortBytes<N> {
     // The bytes that count: the first `len`, or all of them where they are fewer.
     pub fn as_slice(&self) -> &[u8]
         ensures { result.now ≡ take self.now.len self.now.bytes }
@@ -537,7 +537,7 @@ pub fn stored(edition: Edition, token: &[u8]) -> StoredLabel
     for i in 0..len {
         bytes[i] = x.decode(edition, x.bytes[i]);
     }
-    LabelBytes { bytes, len }
+    ShortBytes { bytes, len }
 }
 
 // A leaf's label, as an edition reads it, kept apart from the text.
@@ -611,5 +611,5 @@ pub fn shown(label: StoredLabel) -> ShownLabel
     for i in 0..len {
         bytes[i] = form_byte(x, quoted, i);
     }
-    LabelBytes { bytes, len }
+    ShortBytes { bytes, len }
 }
