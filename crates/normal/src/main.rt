@@ -13,6 +13,7 @@ const INPUT_ROOM: usize = TREE_ROOM + TOKEN_LIMIT + 1;
 // More than any refusal's line takes.
 const REFUSAL_ROOM: usize = 4096;
 
+// As in `text_vectors`: a crate for both would be longer than the function.
 fn print_refusal<W: Write>(output: &mut W, refusal: Refusal) {
     let mut area = [0u8; REFUSAL_ROOM];
     let out: &mut [u8] = &mut area;

@@ -4,8 +4,6 @@
 // eight bytes, the highest first. `T` and `L` are a tree and a list under the second edition.
 #![tactic(auto)]
 
-ghost use Rattle.std.specs.Prelude.{◌+◌, ◌≤◌, ◌<◌, length};
-
 use lists::LabelPlaces;
 use std::io::{Read, Write};
 use trees::{Body, Edition, Reason, Refusal, TREE_ROOM};
@@ -16,6 +14,10 @@ const REFUSAL_ROOM: usize = 4096;
 // No text of a case is longer than the greatest number of two bytes.
 const CASE_ROOM: usize = 65536;
 
+// More cases than any stream has.
+const CASES: usize = 100000;
+
+// As in `normal`: a crate for both would be longer than the function.
 fn print_refusal<W: Write>(output: &mut W, refusal: Refusal) {
     let mut area = [0u8; REFUSAL_ROOM];
     let out: &mut [u8] = &mut area;
@@ -40,41 +42,21 @@ fn print_tree<W: Write>(output: &mut W, edition: Edition, text: &[u8]) {
     }
 }
 
-// Label i of a list, with a comma before it unless it is the first.
-fn print_label<W: Write>(
-    output: &mut W,
-    text: &[u8],
-    start: &[u16; 80],
-    size: &[u8; 80],
-    i: usize,
-) {
-    if 80 <= i {
-        return;
-    }
-    if 0 < i {
-        streams::write_all(output, b",");
-    }
-    streams::write_all(output, trees::leaf_label(text, start, size, i));
-}
-
-fn print_labels<W: Write>(
-    output: &mut W,
-    text: &[u8],
-    start: &[u16; 80],
-    size: &[u8; 80],
-    count: usize,
-) {
-    let mut i: usize = 0;
-    while i < count {
-        print_label(output, text, start, size, i);
-        i += 1;
+// The labels of a list, as they stand in it, with commas between them.
+fn print_labels<W: Write>(output: &mut W, text: &[u8], places: LabelPlaces) {
+    for i in 0..places.count {
+        if 0 < i {
+            streams::write_all(output, b",");
+        }
+        streams::write_all(
+            output,
+            trees::leaf_label(text, &places.start, &places.size, i),
+        );
     }
 }
 
 fn print_number<W: Write>(output: &mut W, n: usize) {
-    let numeral = decimals::digits(n);
-    let bytes = numeral.bytes;
-    streams::write_all(output, trees::first_bytes(&bytes, numeral.len));
+    streams::write_all(output, decimals::digits(n).as_slice());
 }
 
 fn print_list<W: Write>(output: &mut W, edition: Edition, text: &[u8]) {
@@ -84,63 +66,33 @@ fn print_list<W: Write>(output: &mut W, edition: Edition, text: &[u8]) {
         print_refusal(output, refusal);
         return;
     }
-    let places = read.places;
-    let start = places.start;
-    let size = places.size;
     streams::write_all(output, b"list ");
-    print_number(output, places.count);
+    print_number(output, read.places.count);
     streams::write_all(output, b" ");
-    print_labels(output, text, &start, &size, places.count);
+    print_labels(output, text, read.places);
     streams::write_all(output, b"\n");
 }
 
-fn wide(b: u8) -> usize
-    ensures { result < 256 }
-{
-    b as usize
-}
-
-// The number that two bytes represent.
-fn two(text: &[u8], at: usize) -> usize
-    requires { at + 2 ≤ length text.now }
-    ensures { result < 65536 }
-{
-    wide(text[at]) * 256 + wide(text[at + 1])
-}
-
-// The number that four bytes represent.
-fn four(text: &[u8], at: usize) -> usize
-    requires { at + 4 ≤ length text.now }
-    ensures { result < 4294967296 }
-{
-    two(text, at) * 65536 + two(text, at + 2)
-}
-
 fn print_place<W: Write>(output: &mut W, text: &[u8]) {
-    if text.len() < 8 {
-        return;
+    if let Ok(place) = <[u8; 8]>::try_from(trees::part(text, 0, 8)) {
+        print_refusal(
+            output,
+            Refusal {
+                reason: Reason::BadByte,
+                body: Body::S,
+                place: usize::from_be_bytes(place),
+            },
+        );
     }
-    print_refusal(
-        output,
-        Refusal {
-            reason: Reason::BadByte,
-            body: Body::S,
-            place: four(text, 0) * 4294967296 + four(text, 4),
-        },
-    );
 }
 
 fn print_case<W: Write>(output: &mut W, kind: u8, text: &[u8]) {
-    if kind == b't' {
-        print_tree(output, Edition::One, text);
-    } else if kind == b'T' {
-        print_tree(output, Edition::Two, text);
-    } else if kind == b'l' {
-        print_list(output, Edition::One, text);
-    } else if kind == b'L' {
-        print_list(output, Edition::Two, text);
-    } else {
-        print_place(output, text);
+    match kind {
+        b't' => print_tree(output, Edition::One, text),
+        b'T' => print_tree(output, Edition::Two, text),
+        b'l' => print_list(output, Edition::One, text),
+        b'L' => print_list(output, Edition::Two, text),
+        _ => print_place(output, text),
     }
 }
 
@@ -151,7 +103,7 @@ fn run_case<R: Read, W: Write>(input: &mut R, output: &mut W) -> bool {
     if got < 3 {
         return false;
     }
-    let size = two(&head, 1);
+    let size = usize::from(u16::from_be_bytes([head[1], head[2]]));
     let mut area = [0u8; CASE_ROOM];
     let body: &mut [u8] = &mut area;
     let n = streams::read_full(input, &mut body[..size]);
@@ -162,11 +114,9 @@ fn run_case<R: Read, W: Write>(input: &mut R, output: &mut W) -> bool {
 fn main(rt: HostRuntime) {
     let mut input = rt.stdin();
     let mut output = rt.stdout();
-    let mut left: usize = 100000;
-    while 0 < left {
+    for _ in 0..CASES {
         if !run_case(&mut input, &mut output) {
             return;
         }
-        left -= 1;
     }
 }

@@ -2,19 +2,14 @@
 // and the job.
 #![tactic(auto)]
 
-ghost use Rattle.std.specs.Prelude.{◌<◌};
-
 use lines::LINES_ROOM;
 use std::io::{Read, Write};
 
 // No job of a case is longer than the greatest number of two bytes.
 const CASE_ROOM: usize = 65536;
 
-fn wide(b: u8) -> usize
-    ensures { result < 256 }
-{
-    b as usize
-}
+// More cases than any stream has.
+const CASES: usize = 100000;
 
 // What is printed for one job.
 fn run_job<W: Write>(output: &mut W, text: &[u8]) {
@@ -31,7 +26,7 @@ fn run_case<R: Read, W: Write>(input: &mut R, output: &mut W) -> bool {
     if got < 2 {
         return false;
     }
-    let size = wide(head[0]) * 256 + wide(head[1]);
+    let size = usize::from(u16::from_be_bytes(head));
     let mut area = [0u8; CASE_ROOM];
     let body: &mut [u8] = &mut area;
     let n = streams::read_full(input, &mut body[..size]);
@@ -42,11 +37,9 @@ fn run_case<R: Read, W: Write>(input: &mut R, output: &mut W) -> bool {
 fn main(rt: HostRuntime) {
     let mut input = rt.stdin();
     let mut output = rt.stdout();
-    let mut left: usize = 100000;
-    while 0 < left {
+    for _ in 0..CASES {
         if !run_case(&mut input, &mut output) {
             return;
         }
-        left -= 1;
     }
 }
