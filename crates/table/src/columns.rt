@@ -91,7 +91,7 @@ impl TreeColumns {
         let b = child(right, left, u);
         let need = self.needed(u, a, b);
         let low = self.first_below(u, a);
-        let n = trees::least(rank, LEAF_LIMIT);
+        let n = rank.min(LEAF_LIMIT);
         self.left[u] = trees::narrow(a);
         self.right[u] = trees::narrow(b);
         self.rank[u] = trees::narrow(n);

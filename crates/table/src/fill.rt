@@ -92,7 +92,7 @@ fn fill_leaf(
     let weight = area[WEIGHTS + rank];
     let at = usize::from(second.leaf[rank]);
     let nodes = second.nodes;
-    let clear = trees::least(at, nodes);
+    let clear = at.min(nodes);
     let start = row * ROW;
     for v in 0..clear {
         area[start + v] = 0;

@@ -63,7 +63,7 @@ pub fn largest_set(
     ensures false_after { (n : ℕ) → result ≡ Some n → (k : ℕ) → m ≤ k → slice_index_or chosen.new k false ≡ false }
     ensures left_alone { result ≡ None → chosen.new ≡ chosen.old }
 {
-    let common = trees::least(m, LEAF_LIMIT);
+    let common = m.min(LEAF_LIMIT);
     let mut area = [0u128; AREA];
     let top = weigh(tree1, tree2, rank1, rank2, common, number, &mut area);
     if held(top) != count {

@@ -8,7 +8,7 @@ fn low_at(left: &[u8; 159], low: &[usize; 159], u: usize) -> usize
     requires { u < 159 }
     ensures { result ≡ cond (ltb (get_or left.now u 0) u) (get_or low.now (get_or left.now u 0) 0) u }
 {
-    let child = trees::wide(left[u]);
+    let child = usize::from(left[u]);
     if child < u { low[child] } else { u }
 }
 

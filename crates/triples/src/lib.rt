@@ -122,10 +122,10 @@ fn lacking(
 {
     for k in 0..places.count {
         if nodes1 <= leaf1[k] {
-            return Err(lacks(Reason::FirstLacks, trees::place_entry(&places.start, k)));
+            return Err(lacks(Reason::FirstLacks, usize::from(places.start[k])));
         }
         if nodes2 <= leaf2[k] {
-            return Err(lacks(Reason::SecondLacks, trees::place_entry(&places.start, k)));
+            return Err(lacks(Reason::SecondLacks, usize::from(places.start[k])));
         }
     }
     Ok(())
@@ -140,9 +140,9 @@ pub fn first_clash(one: &RankedLeaves, two: &RankedLeaves, count: usize) -> Opti
         → RankedTree t xs two.now.left two.now.nodes two.now.leaf
         → result ≡ clash_ranks xs (first_clash s t xs) }
 {
-    let most = trees::least(count, 80);
-    let end1 = trees::least(one.nodes, 159);
-    let end2 = trees::least(two.nodes, 159);
+    let most = count.min(80);
+    let end1 = one.nodes.min(159);
+    let end2 = two.nodes.min(159);
     let low1 = lows(&one.left, end1);
     let low2 = lows(&two.left, end2);
     for i in 0..most {
@@ -174,9 +174,9 @@ fn told(three: Option<Indices>, order: &[usize; 80], places: &LabelPlaces) -> Op
 {
     let three = three?;
     Some(Indices {
-        first: trees::place_entry(&places.start, order[three.first]),
-        second: trees::place_entry(&places.start, order[three.second]),
-        third: trees::place_entry(&places.start, order[three.third]),
+        first: usize::from(places.start[order[three.first]]),
+        second: usize::from(places.start[order[three.second]]),
+        third: usize::from(places.start[order[three.third]]),
     })
 }
 

@@ -17,18 +17,18 @@ returns-in-Some-clause-ranks c =
     let row1 = c.lca_row-row1.result in
     let row2 = c.lca_row-row2.result in
     let own : ℕ → ℕ → Bool = λ p q. apart_of (get_or row1 p 0) (get_or row1 q 0) (get_or row2 p 0) (get_or row2 q 0) in
-    subst (λ (m : ℕ). Ranks m (Some c.in-Some.three)) c.least-most.ensures
-    (ranks_found own c.least-most.result c.loop-i.i c.in-Some.three c.loop-i-test.true
+    subst (λ (m : ℕ). Ranks m (Some c.in-Some.three)) c.min-most.ensures
+    (ranks_found own c.min-most.result c.loop-i.i c.in-Some.three c.loop-i-test.true
     (sym c.in-Some.is ∙ c.clash_with.ensures own (λ p q _ _ _. refl)))
 
 pub returns-in-Some-clause-value : goal.returns-in-Some-clause-value
 returns-in-Some-clause-value c =
-    let n = c.least-most.result in let i = c.loop-i.i in let a = c.args in
+    let n = c.min-most.result in let i = c.loop-i.i in let a = c.args in
     λ s t xs inc len few p q.
     let d = inc_distinct xs inc in
-    let l : n ≡ length xs = omega (arith, c.least-most.ensures) in
+    let l : n ≡ length xs = omega (arith, c.min-most.ensures) in
     let tells = rows_tell s t xs d a.one.now.left a.one.now.nodes a.one.now.leaf a.two.now.left a.two.now.nodes a.two.now.leaf p q
-    c.lows-low1.result c.lows-low2.result _ _ c.least-end1.ensures c.least-end2.ensures c.lows-low1.ensures c.lows-low2.ensures
+    c.lows-low1.result c.lows-low2.result _ _ c.min-end1.ensures c.min-end2.ensures c.lows-low1.ensures c.lows-low2.ensures
     n i c.lca_row-row1.result c.lca_row-row2.result l c.loop-i-test.true c.lca_row-row1.ensures c.lca_row-row2.ensures in
     let told = sym c.in-Some.is ∙ c.clash_with.ensures (clash_at s t xs i) tells in
     let first = sym (from_hit (λ k. ltb (second_of (clash_at s t xs k) n k) n) n i (three_some (clash_at s t xs i) n i c.in-Some.three told))
@@ -37,10 +37,10 @@ returns-in-Some-clause-value c =
 
 pub loop-i-preserved : goal.loop-i-preserved
 loop-i-preserved c =
-    let n = c.least-most.result in let i = c.loop-i.i in let a = c.args in
+    let n = c.min-most.result in let i = c.loop-i.i in let a = c.args in
     λ s t xs inc l p q.
     let tells = rows_tell s t xs (inc_distinct xs inc) a.one.now.left a.one.now.nodes a.one.now.leaf a.two.now.left a.two.now.nodes
-    a.two.now.leaf p q c.lows-low1.result c.lows-low2.result _ _ c.least-end1.ensures c.least-end2.ensures c.lows-low1.ensures
+    a.two.now.leaf p q c.lows-low1.result c.lows-low2.result _ _ c.min-end1.ensures c.min-end2.ensures c.lows-low1.ensures
     c.lows-low2.ensures n i c.lca_row-row1.result c.lca_row-row2.result l c.loop-i-test.true c.lca_row-row1.ensures
     c.lca_row-row2.ensures in
     sym (from_miss (λ k. ltb (second_of (clash_at s t xs k) n k) n) n i c.loop-i-test.true
@@ -49,8 +49,8 @@ loop-i-preserved c =
 
 pub returns-clause-value : goal.returns-clause-value
 returns-clause-value c =
-    let n = c.least-most.result in let i = c.loop-i.i in let end : i ≡ n = omega arith in
+    let n = c.min-most.result in let i = c.loop-i.i in let end : i ≡ n = omega arith in
     λ s t xs inc len few p q.
-    let l : n ≡ length xs = omega (arith, c.least-most.ensures) in
+    let l : n ≡ length xs = omega (arith, c.min-most.ensures) in
     none_is s t xs n (sym l) (inc_distinct xs inc)
     (sym (c.loop-i.invariant s t xs inc l p q) ∙ from_end (λ k. ltb (second_of (clash_at s t xs k) n k) n) n i (omega arith) ∙ end)

@@ -13,12 +13,12 @@ refused reason x p q e d = ap Err (e ∙ ap (λ (n : ℕ). record { reason = rea
 
 pub returns-then-nodes1-leaf1 : goal.returns-then-nodes1-leaf1
 returns-then-nodes1-leaf1 c =
-    refused FirstLacks _ _ _ c.lacks.ensures c.place_entry.ensures
+    refused FirstLacks _ _ _ c.lacks.ensures c.from.ensures
     ∙ sym (lack_one _ _ _ _ _ _ _ c.loop-k-test.true c.if-nodes1-leaf1.true) ∙ c.loop-k.invariant
 
 pub returns-then-nodes2-leaf2 : goal.returns-then-nodes2-leaf2
 returns-then-nodes2-leaf2 c =
-    refused SecondLacks _ _ _ c.lacks-then-nodes2-leaf2.ensures c.place_entry-then-nodes2-leaf2.ensures
+    refused SecondLacks _ _ _ c.lacks-then-nodes2-leaf2.ensures c.from-then-nodes2-leaf2.ensures
     ∙ sym (lack_two _ _ _ _ _ _ _ c.loop-k-test.true (omega arith) c.if-nodes2-leaf2.true) ∙ c.loop-k.invariant
 
 pub loop-k-preserved : goal.loop-k-preserved

@@ -9,4 +9,4 @@ returns-in_err-three c = rw c.in_err-three.was c.from_residual.ensures
 
 pub returns : goal.returns
 unfolding told_of
-returns c = rw (c.in_ok-three.was, c.place_entry.ensures, c.place_entry-2.ensures, c.place_entry-3.ensures) refl
+returns c = rw (c.in_ok-three.was, c.from.ensures, c.from-2.ensures, c.from-3.ensures) refl
