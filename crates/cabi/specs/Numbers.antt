@@ -1,10 +1,12 @@
 -- The numbers that a host receives. 01, "Why a job is turned down".
-use Rattle.std.specs.Prelude.{ℕ, cond, ◌||◌, List, eqb, ltb, leb, length}
+use Rattle.std.specs.Prelude.{ℕ, cond, ◌||◌, List, eqb, ltb, leb, length, Result, Ok, Err}
 use Rattle.trees.specs.declared.Reason.TheVariants.{Contents}
 use Rattle.trees.specs.declared.Body.TheVariants.{J}
 use Rattle.trees.specs.declared.Refusal.{Refusal}
 use Rattle.trees.specs.Refusals.{number_of, letter_of}
 use Rattle.trees.specs.declared.Edition.TheVariants.{One, Two}
+use Rattle.mast.specs.declared.Denied.{Denied}
+use Rattle.mast.specs.declared.Denied.TheVariants.{Naming, Refused}
 use Rattle.mast.specs.declared.Named.{Named}
 use Rattle.pairs.specs.declared.Options.{Options}
 use Rattle.pairs.specs.Outcome.{Outcome, refused, naming, found, and_then}
@@ -12,8 +14,6 @@ use Rattle.mast.specs.NamedLabels.{named_of}
 use Rattle.queries.specs.Query.{task}
 use Rattle.mast.specs.Largest.{Solution, solution_text, solve}
 use Rattle.claims.specs.Judge.{judge}
-use Rattle.job.specs.declared.JobAnswer.{JobAnswer}
-use Rattle.job.specs.declared.JobAnswer.TheVariants as job-answer
 use Rattle.cabi.specs.declared.AgreeResult.{AgreeResult}
 
 -- success: number 0, with the size of the set and the length of the text
@@ -43,6 +43,11 @@ named_with q n = naming_with q n.first.place n.second.place n.third.place
 abbrev pub refused_with : Refusal → AgreeResult
 refused_with q = naming_with q 0 0 0
 
+-- a refusal, with the places of the labels that it names
+abbrev pub denied_with : Denied → AgreeResult
+denied_with (Naming q n) = named_with q n
+denied_with (Refused q) = refused_with q
+
 -- for any outcome; the places are in the list for 8 and in the claim for 14
 unfoldable pub numbers_for : {A : Type 0} → (A → AgreeResult) → Outcome A → AgreeResult
 unfolding naming_with named_of
@@ -61,11 +66,10 @@ unfolding numbers_for succeeded
 claim_numbers x = numbers_for (λ n. succeeded n 0) x
 
 -- for a job: the length of its lines, the first of which has the size; the places of 8 are in the job's list, those of 14 in its claim
-unfoldable pub job_numbers : JobAnswer → AgreeResult
+unfoldable pub job_numbers : Result ℕ Denied → AgreeResult
 unfolding succeeded naming_with
-job_numbers (job-answer.Written n) = succeeded 0 n
-job_numbers (job-answer.Naming q n) = named_with q n
-job_numbers (job-answer.Refused q) = refused_with q
+job_numbers (Ok n) = succeeded 0 n
+job_numbers (Err d) = denied_with d
 
 -- unknown flags are refused with 10, J 0
 abbrev pub unknown_flags : Refusal

@@ -10,12 +10,10 @@ ghost use Rattle.queries.specs.Query.{task, plain};
 ghost use Rattle.mast.specs.Largest.{solve, output_of};
 ghost use Rattle.job.specs.Printed.{solve_job};
 ghost use Rattle.job.specs.Answered.{answer_to, job_output};
-ghost use Rattle.cabi.specs.Numbers.{succeeded, naming_with, named_with, refused_with, numbers_of, claim_numbers, job_numbers};
+ghost use Rattle.cabi.specs.Numbers.{succeeded, naming_with, named_with, refused_with, denied_with, numbers_of, claim_numbers, job_numbers};
 ghost use Rattle.cabi.specs.Numbers.{unknown_flags, options_of, solve_with, judge_with};
 
-use claims::ClaimAnswer;
-use job::JobAnswer;
-use mast::{LargestAnswer, Named};
+use mast::{Denied, Named};
 use pairs::Options;
 use trees::{Body, Edition, Reason, Refusal};
 
@@ -94,6 +92,16 @@ fn refused_with(refusal: Refusal) -> AgreeResult
     row(refusal, 0, 0, 0)
 }
 
+// A refusal, with the labels that it names.
+fn denied_with(denied: Denied) -> AgreeResult
+    ensures { result ≡ denied_with denied }
+{
+    match denied {
+        Denied::Naming(refusal, named) => named_with(refusal, named),
+        Denied::Refused(refusal) => refused_with(refusal),
+    }
+}
+
 // The numbers of the engine's answer.
 fn answered(
     options: Options,
@@ -108,12 +116,9 @@ fn answered(
         (solve (task options first.now second.now required.now) (length out.old))
         out.old }
 {
-    let result = mast::largest(options, first, second, required, out);
-    let answer = result.answer;
-    match answer {
-        LargestAnswer::Found(size, length) => succeeded(size, length),
-        LargestAnswer::Naming(refusal, named) => named_with(refusal, named),
-        LargestAnswer::Refused(refusal) => refused_with(refusal),
+    match mast::largest(options, first, second, required, out) {
+        Ok(found) => succeeded(found.size, found.length),
+        Err(denied) => denied_with(denied),
     }
 }
 
@@ -212,11 +217,9 @@ pub extern "C" fn agree_claim(
         return refused_with(unknown_flags());
     }
     let options = options_of(flags);
-    let answer = claims::judge(options, first, second, required, claim);
-    match answer {
-        ClaimAnswer::Passed(size) => succeeded(size, 0),
-        ClaimAnswer::Naming(refusal, named) => named_with(refusal, named),
-        ClaimAnswer::Refused(refusal) => refused_with(refusal),
+    match claims::judge(options, first, second, required, claim) {
+        Ok(size) => succeeded(size, 0),
+        Err(denied) => denied_with(denied),
     }
 }
 
@@ -226,10 +229,8 @@ pub extern "C" fn agree_job(bytes: &[u8], out: &mut [u8]) -> AgreeResult
     ensures numbers { result ≡ job_numbers (answer_to bytes.now (length out.old)) }
     ensures output { out.new ≡ job_output (solve_job bytes.now) out.old }
 {
-    let answer = job::answer_job(bytes, out);
-    match answer {
-        JobAnswer::Written(length) => succeeded(0, length),
-        JobAnswer::Naming(refusal, named) => named_with(refusal, named),
-        JobAnswer::Refused(refusal) => refused_with(refusal),
+    match job::answer_job(bytes, out) {
+        Ok(length) => succeeded(0, length),
+        Err(denied) => denied_with(denied),
     }
 }

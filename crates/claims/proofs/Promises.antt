@@ -28,7 +28,9 @@ use Rattle.queries.specs.Query.{Task, disagreement}
 use Rattle.mast.specs.declared.Named.{Named}
 use Rattle.claims.specs.Claim.{IsClaim, Verdict, claim_lacks, claim_disagrees, claim_small, Clear, VerdictIs}
 use Rattle.claims.specs.Judge.{ReadsClaim, claim_disagreement, fifteen, judge, judgement_of}
-use Rattle.claims.specs.declared.ClaimAnswer.TheVariants as claim-answer
+use Rattle.mast.specs.declared.Denied.TheVariants.{Naming, Refused}
+use Rattle.mast.specs.PaperNumbers.{said_of_denied}
+use Rattle.std.specs.Prelude.{Ok, Err}
 use Rattle.claims.specs.PaperNumbers.{said_of_claim}
 use Rattle.claims.proofs.JudgeLaws
 use Rattle.claims.proofs.VerdictLaws
@@ -140,9 +142,9 @@ module _ (q : Task) (claim : List ℕ) (s t : Tree) (xs ys : List Token) (read :
 
 -- "If an answer is an enum, the promises use a definition that gives this paper's number and values for each of its cases."
 pub rows_promise : (n : ℕ) (m : Named) (q : Refusal)
-    → (said_of_claim (claim-answer.Passed n) ≡ value n)
-    × (said_of_claim (claim-answer.Naming disagreement m) ≡ row_naming 8 75 0 (m.first.place ∷ m.second.place ∷ m.third.place ∷ []))
-    × (said_of_claim (claim-answer.Naming claim_disagreement m) ≡ row_naming 14 67 0 (m.first.place ∷ m.second.place ∷ m.third.place ∷ []))
-    × (said_of_claim (claim-answer.Refused q) ≡ row (number_of q.reason) (letter_of q.body) q.place)
-unfolding said_of_claim
+    → (said_of_claim (Ok n) ≡ value n)
+    × (said_of_claim (Err (Naming disagreement m)) ≡ row_naming 8 75 0 (m.first.place ∷ m.second.place ∷ m.third.place ∷ []))
+    × (said_of_claim (Err (Naming claim_disagreement m)) ≡ row_naming 14 67 0 (m.first.place ∷ m.second.place ∷ m.third.place ∷ []))
+    × (said_of_claim (Err (Refused q)) ≡ row (number_of q.reason) (letter_of q.body) q.place)
+unfolding said_of_claim said_of_denied
 rows_promise n m q = (refl, refl, refl, refl)

@@ -1,7 +1,7 @@
 -- The judgement of a claim, from texts. C-16: "A label of C absent from a tree takes 6 or 7 with letter C, after number
 -- 8; then come, in order, 13 for the first required label missing from the claim, at that label's place in K, 14 for three claimed leaves
 -- that disagree, named as 8 names them, and 15 for a claim smaller than the largest size, both 14 and 15 at C 0."
-use Rattle.std.specs.Prelude.{ℕ, ◌≡◌, cond, List, ltb, length}
+use Rattle.std.specs.Prelude.{ℕ, ◌≡◌, cond, List, ltb, length, Result}
 use Rattle.std.proofs.Math.Option.{Option, some, none}
 use Rattle.trees.specs.declared.Reason.TheVariants.{FirstLacks, SecondLacks, ClaimLacks, ClaimDisagrees, ClaimSmall}
 use Rattle.trees.specs.declared.Body.TheVariants.{K, C}
@@ -14,13 +14,12 @@ use Rattle.lists.specs.ReadList.{read_list_in}
 use Rattle.agreement.specs.Answer.{Three}
 use Rattle.agreement.specs.Places.{place_of_number}
 use Rattle.pairs.specs.Outcome.{Outcome, refused, naming, found, and_then, trio}
-use Rattle.mast.specs.NamedLabels.{named_of}
+use Rattle.mast.specs.declared.Denied.{Denied}
+use Rattle.mast.specs.NamedLabels.{result_of}
 use Rattle.queries.specs.Query.{Task}
 use Rattle.mast.specs.Reads.{Reads}
 use Rattle.mast.specs.Compare.{Comparison, compare}
 use Rattle.claims.specs.Claim.{Verdict, claim_first_lacks, claim_second_lacks, claim_lacks, claim_disagrees, claim_small, claim_passes}
-use Rattle.claims.specs.declared.ClaimAnswer.{ClaimAnswer}
-use Rattle.claims.specs.declared.ClaimAnswer.TheVariants as claim-answer
 
 -- The texts are read as these two trees, this list and this claim. If the job is strict, both trees have the same leaves. So no number
 -- before 6 is given.
@@ -73,8 +72,5 @@ judgement_of e s xs ys (claim_passes n) = found n
 
 -- What is returned: the size; the three labels that 8 or 14 names, by their places in the list or the claim and in the first tree; or the
 -- refusal.
-unfoldable pub claim_of : Outcome ℕ → ClaimAnswer
-unfolding named_of
-claim_of (found n) = claim-answer.Passed n
-claim_of (naming q n) = claim-answer.Naming q (named_of n)
-claim_of (refused q) = claim-answer.Refused q
+abbrev pub claim_of : Outcome ℕ → Result ℕ Denied
+claim_of x = result_of (λ n. n) x

@@ -26,20 +26,19 @@ use Rattle.agreement.specs.Places.{place_in, token_in, spelled_in, name_in}
 use Rattle.agreement.proofs.EditionText.{spelled_size}
 use Rattle.agreement.proofs.DemandLaws.{allowed_held}
 use Rattle.division.specs.PiecesAt.{PiecesAt}
-use Rattle.mast.specs.declared.LargestAnswer.{LargestAnswer}
-use Rattle.mast.specs.declared.LargestAnswer.TheVariants.{Found, Naming, Refused}
-use Rattle.mast.specs.declared.LargestResult.{LargestResult}
-use Rattle.mast.specs.declared.DividedResult.{DividedResult}
+use Rattle.lists.specs.declared.LabelPlaces.{LabelPlaces}
+use Rattle.mast.specs.declared.Denied.{Denied}
+use Rattle.mast.specs.declared.Denied.TheVariants.{Naming, Refused}
+use Rattle.mast.specs.declared.Divided.{Divided}
+use Rattle.mast.specs.declared.Found.{Found}
+use Rattle.std.specs.Prelude.{[], Result, Ok, Err}
 use Rattle.mast.specs.PiecesWith.{PiecesWith, without_pieces}
 use Rattle.mast.specs.declared.Named.{Named}
 use Rattle.pairs.specs.Outcome.{Outcome, refused, naming, found, and_then, Trio}
-use Rattle.mast.specs.NamedLabels.{named_label, named_of}
+use Rattle.mast.specs.NamedLabels.{named_label, named_of, result_of}
 use Rattle.queries.specs.Query.{Task, task}
-use Rattle.mast.specs.Largest.{Solution, solution_text, solve, set_places, largest_of, output_of}
-use Rattle.claims.specs.declared.ClaimAnswer.{ClaimAnswer}
-use Rattle.claims.specs.declared.ClaimAnswer.TheVariants as said
+use Rattle.mast.specs.Largest.{Solution, solution_text, solve, set_places, found_set, largest_of, output_of}
 use Rattle.claims.specs.Judge.{judge, claim_of}
-use Rattle.job.specs.declared.JobAnswer.TheVariants as job-answer
 use Rattle.contents.specs.declared.Table.{Table}
 use Rattle.contents.specs.declared.Span.{Span}
 use Rattle.contents.specs.Contents.{BodySpan, Layout, Bodies, entries, lookup, part, bytes, first_text, second_text, list_text, claim_text, edition_of, layout_of, span_in, bodies_from, bodies_of, place_of, body_place}
@@ -50,8 +49,8 @@ use Rattle.lines.specs.PieceLines.{pieces_lines, placed_record, placed_pieces, l
 use Rattle.lines.proofs.LineLaws.{uncut}
 use Rattle.job.specs.declared.Begin.{Begin}
 use Rattle.lines.specs.Output.{line_output}
-use Rattle.job.specs.Answered.{record_answer, begin_in, of_claim, base_of, moved_by, answered, answer_to, job_output}
-use Rattle.job.specs.NamedPlaces.{Near}
+use Rattle.job.specs.Answered.{record_answer, begin_in, of_claim, base_of, moved_by, denied_at, answered, answer_to, job_output}
+use Rattle.job.specs.NamedPlaces.{Near, NearBy, Inside}
 use Rattle.job.proofs.PieceLaws.{pieces_shown_lem}
 use Rattle.job.proofs.ShownLaws.{labels_are, pieces_part, reply_lines_lem}
 use Rattle.job.proofs.SolvedLaws.{SolvedBy, NamedBy, From, solution_from, Judged, judged_from, set_answer, set_few, set_shown, three_in, label_listed, three_shown}
@@ -59,12 +58,12 @@ use Rattle.job.proofs.SolvedLaws.{SolvedBy, NamedBy, From, solution_from, Judged
 -- ---- one kind of answer each
 
 module _ (at : Begin) (room : ℕ) (x : Outcome Reply) where
-  pub answered_refused : (q : Refusal) → x ≡ refused q → job-answer.Refused q ≡ answered at room x
+  pub answered_refused : (q : Refusal) → x ≡ refused q → Err (Refused q) ≡ answered at room x
   unfolding answered
   answered_refused q d = ap (answered at room) (sym d)
 
   pub answered_naming : (q : Refusal) (n : Trio) → x ≡ naming q n
-      → job-answer.Naming q (moved_by at.tree (base_of at q.body) (named_of n)) ≡ answered at room x
+      → Err (Naming q (moved_by at.tree (base_of at q.body) (named_of n))) ≡ answered at room x
   unfolding answered
   answered_naming q n d = ap (answered at room) (sym d)
 
@@ -120,39 +119,56 @@ module _ (first list : List ℕ) (n : Trio) (w : NamedBy first list n) where
         third = omega (arith, c, m);
       }
 
--- the places stay inside the job, and moved they are those of the answer
-module _ {first list : List ℕ} {x : Outcome Reply} {p : Refusal} {m : Named} (f : NamesFound first list x p m) where
-  pub names_near : (limit origin base : ℕ) → base + length list ≤ limit → origin + length first ≤ limit → Near limit origin base m
-  names_near limit origin base l k = rw f.named (near_named first list f.of f.by limit origin base l k)
+-- what a refusal comes from: the list is the claim's for its letter
+abbrev pub DeniedTold : (first list claim : List ℕ) → Outcome Reply → Denied → Type 0
+DeniedTold first list claim x (Naming p m) = NamesFound first (cond (of_claim p.body) claim list) x p m
+DeniedTold first list claim x (Refused p) = x ≡ refused p
 
-  pub names_answered : (at : Begin) (room base : ℕ) (y : Named) → y ≡ moved_by at.tree base m → base ≡ base_of at p.body
-      → job-answer.Naming p y ≡ answered at room x
-  names_answered at room base y e d =
-      ap (job-answer.Naming p) (e ∙ ap (λ (b : ℕ). moved_by at.tree b m) d ∙ ap (moved_by at.tree (base_of at p.body)) f.named)
-      ∙ answered_naming at room x p f.of f.is
+-- the places stay inside the job, and moved they are those of the answer
+module _ (first list claim : List ℕ) (x : Outcome Reply) where
+  pub denied_near : (d : Denied) → DeniedTold first list claim x d → (limit : ℕ) (at : Begin) → Inside limit at first list claim → NearBy limit at d
+  unfolding base_of
+  denied_near (Naming p m) f limit at i =
+      rw f.named (near_named first _ f.of f.by limit at.tree _ (inside (of_claim p.body)) i.first_ends)
+    where
+      inside : (b : Bool) → cond b at.claim at.list + length (cond b claim list) ≤ limit
+      inside true = i.claim_ends
+      inside false = i.list_ends
+  denied_near (Refused p) f limit at i = tt
+
+  pub denied_answered : (d : Denied) → DeniedTold first list claim x d → (at : Begin) (room : ℕ) (e : Denied) → e ≡ denied_at at d
+      → Err e ≡ answered at room x
+  unfolding denied_at
+  denied_answered (Naming p m) f at room e h =
+      ap Err h ∙ ap (λ k. Err (Naming p (moved_by at.tree (base_of at p.body) k))) f.named ∙ answered_naming at room x p f.of f.is
+  denied_answered (Refused p) f at room e h = ap Err h ∙ answered_refused at room x p f
+
+  pub denied_kept : (d : Denied) → DeniedTold first list claim x d → (out : List ℕ) → out ≡ job_output x out
+  denied_kept (Naming p m) f out = output_naming x out p f.of f.is
+  denied_kept (Refused p) f out = output_refused x out p f
 
 -- ---- what the engine found
 
--- a set with a text of k bytes
-pub record SetFound (pieces : Bool) (q : Task) (area : List ℕ) (r : DividedResult) (k : ℕ) : Type 0 where
+-- a set, with the lines of its text in an area
+pub record SetFound (pieces : Bool) (q : Task) (area : List ℕ) (r : Divided) : Type 0 where
   pub of : Solution
   pub is : solve_task pieces q none ≡ set_reply pieces of
-  pub inside : k ≤ length area
-  pub lines : lines_at pieces q.first r.pieces r.set (take k area) ≡ reply_lines (solved pieces of)
+  pub inside : r.length ≤ length area
+  pub lines : lines_at pieces q.first r.pieces r.set (take r.length area) ≡ reply_lines (solved pieces of)
 
 -- the lines of a set, and those of its pieces
-module _ (q : Task) (room : ℕ) (r : DividedResult) (y : Solution) (f : SolvedBy q room y) where
+module _ (q : Task) (room : ℕ) (r : Divided) (y : Solution) (f : SolvedBy q room y) where
   abbrev Names : List Label
   Names = map (name_in y.edition y.first) y.set
 
-  set_part : without_pieces r ≡ largest_of (found y) → (tree : List ℕ) → tree ≡ solution_text y → length tree ≤ tree_room
+  set_part : r.set ≡ set_places (folded y.edition y.first) y.set → (tree : List ℕ) → tree ≡ solution_text y → length tree ≤ tree_room
       → placed_record q.first r.set tree ≡ record_lines Names (solution_text y)
-  unfolding largest_of set_places
+  unfolding set_places
   set_part t tree e short =
-      let count : r.set.count ≤ leaf_limit = omega (arith, set_few q room y f, ap (λ (z : LargestResult). z.set.count) t) in
+      let count : r.set.count ≤ leaf_limit = omega (arith, set_few q room y f, ap (λ (z : LabelPlaces). z.count) t) in
       uncut (labels_in q.first r.set.start r.set.size) tree r.set.count count short
       ∙ ap₂ record_lines
-      (ap (λ (z : LargestResult). labels_in q.first z.set.start z.set.size z.set.count) t
+      (ap (λ (z : LabelPlaces). labels_in q.first z.start z.size z.count) t
       ∙ labels_are q.first (place_in (folded y.edition y.first) 0)
       (λ (x : Label). length (token_in (folded y.edition y.first) x)) (spelled_in y.edition y.first)
       (name_in y.edition y.first) y.set (set_shown q room y f)
@@ -168,7 +184,7 @@ module _ (q : Task) (room : ℕ) (r : DividedResult) (y : Solution) (f : SolvedB
       (set_answer q room y f).allowed_set)
       r.pieces p)
 
-  result_is : (pieces : Bool) → without_pieces r ≡ largest_of (found y) → (tree : List ℕ) → tree ≡ solution_text y → length tree ≤ tree_room
+  result_is : (pieces : Bool) → r.set ≡ set_places (folded y.edition y.first) y.set → (tree : List ℕ) → tree ≡ solution_text y → length tree ≤ tree_room
       → (pieces ≡ true → PiecesAt y.edition y.first y.second y.required r.pieces)
       → lines_at pieces q.first r.pieces r.set tree ≡ reply_lines (solved pieces y)
   unfolding lines_at
@@ -176,60 +192,64 @@ module _ (q : Task) (room : ℕ) (r : DividedResult) (y : Solution) (f : SolvedB
       ap₂ (λ (k l : List ℕ). k ++ l) (pieces_part_lem (p refl)) (set_part t tree e short) ∙ reply_lines_lem true y _ _ _ refl refl refl
   result_is false t tree e short p = set_part t tree e short ∙ reply_lines_lem false y _ _ _ refl refl refl
 
-module _ (pieces : Bool) (q : Task) (blank area : List ℕ) (r : DividedResult) (roomy : length blank ≡ tree_room)
-    (told : without_pieces r ≡ largest_of (solve q (length blank))) (kept : area ≡ output_of (solve q (length blank)) blank)
-    (with : pieces ≡ true → PiecesWith (solve q (length blank)) r.pieces) where
+module _ (pieces : Bool) (q : Task) (blank area : List ℕ) (roomy : length blank ≡ tree_room) where
   -- what each answer comes from
-  abbrev EngineTold : LargestAnswer → Type 0
-  EngineTold (Found n k) = SetFound pieces q area r k
-  EngineTold (Naming p m) = (of_claim p.body ≡ false) × NamesFound q.first q.required (solve_task pieces q none) p m
-  EngineTold (Refused p) = solve_task pieces q none ≡ refused p
+  abbrev EngineTold : Result Divided Denied → Type 0
+  EngineTold (Ok r) = SetFound pieces q area r
+  EngineTold (Err d) = DeniedTold q.first q.required [] (solve_task pieces q none) d
 
   in_room : (x : Outcome Solution) → solve q (length blank) ≡ x → solve_task pieces q none ≡ and_then x (set_reply pieces)
   unfolding solve_task
   in_room x e = ap (λ (y : Outcome Solution). and_then y (set_reply pieces)) (ap (solve q) (sym roomy) ∙ e)
 
-  set_found : (y : Solution) → solve q (length blank) ≡ found y → From q (length blank) (found y) → without_pieces r ≡ largest_of (found y)
-      → area ≡ output_of (found y) blank → SetFound pieces q area r (length (solution_text y))
-  unfolding largest_of output_of and_then
-  set_found y g f t o =
-      let front : take (length (solution_text y)) area ≡ solution_text y =
-      ap (take (length (solution_text y))) o ∙ take_at (solution_text y) (drop (length (solution_text y)) blank) (length (solution_text y)) refl in
+  set_found : (y : Solution) → solve q (length blank) ≡ found y → From q (length blank) (found y) → (r : Divided)
+      → ◌≡◌ {A = Found} (record { size = r.size; length = r.length; set = r.set }) (found_set y) → area ≡ output_of (found y) blank
+      → (pieces ≡ true → PiecesAt y.edition y.first y.second y.required r.pieces) → SetFound pieces q area r
+  unfolding found_set output_of and_then
+  set_found y g f r t o with =
+      let size : r.length ≡ length (solution_text y) = ap (λ (z : Found). z.length) t in
+      let front : take r.length area ≡ solution_text y =
+      ap₂ (λ (n : ℕ) (l : List ℕ). take n l) size o
+      ∙ take_at (solution_text y) (drop (length (solution_text y)) blank) (length (solution_text y)) refl in
       record {
         of = y;
         is = in_room (found y) g;
-        inside = omega (arith, ap (length {A = ℕ}) o, length-append (solution_text y) (drop (length (solution_text y)) blank));
+        inside = omega (arith, size, ap (length {A = ℕ}) o, length-append (solution_text y) (drop (length (solution_text y)) blank));
         lines =
-            result_is q (length blank) r y f pieces t _ front (omega (arith, f.short, ap (length {A = ℕ}) front))
-            (λ b. subst (λ (x : Outcome Solution). PiecesWith x r.pieces) g (with b));
+            result_is q (length blank) r y f pieces (ap (λ (z : Found). z.set) t) _ front
+            (omega (arith, f.short, ap (length {A = ℕ}) front)) with;
       }
 
-  engine_told : EngineTold r.answer
-  unfolding largest_of and_then
-  engine_told = go (solve q (length blank)) refl (solution_from q (length blank)) told kept
+  pub told_as : (r : Result Divided Denied) → without_pieces r ≡ largest_of (solve q (length blank))
+      → area ≡ output_of (solve q (length blank)) blank → (pieces ≡ true → PiecesWith (solve q (length blank)) r) → EngineTold r
+  unfolding result_of and_then
+  told_as r told kept with = go (solve q (length blank)) refl (solution_from q (length blank)) r told kept with
     where
-      told_of : (x : Outcome Solution) → without_pieces r ≡ largest_of x → EngineTold (largest_of x).answer → EngineTold r.answer
-      told_of x t = subst EngineTold (sym (ap (λ (z : LargestResult). z.answer) t))
-
-      go : (x : Outcome Solution) → solve q (length blank) ≡ x → From q (length blank) x → without_pieces r ≡ largest_of x → area ≡ output_of x blank
-          → EngineTold r.answer
-      go (found y) g f t o = told_of (found y) t (set_found y g f t o)
-      go (naming p n) g f t o = told_of (naming p n) t (f.0, record { of = n; is = in_room (naming p n) g; named = refl; by = f.1 })
-      go (refused p) g f t o = told_of (refused p) t (in_room (refused p) g)
-
-  pub told_as : (y : LargestAnswer) → r.answer ≡ y → EngineTold y
-  told_as y e = subst EngineTold e engine_told
+      go : (x : Outcome Solution) → solve q (length blank) ≡ x → From q (length blank) x → (r : Result Divided Denied)
+          → without_pieces r ≡ largest_of x → area ≡ output_of x blank → (pieces ≡ true → PiecesWith x r) → EngineTold r
+      go (found y) g f (Ok r) t o w =
+          let e : ◌≡◌ {A = Found} (record { size = r.size; length = r.length; set = r.set }) (found_set y) = cc in
+          set_found y g f r e o w
+      go (found y) g f (Err d) t o w = let z : ◌≡◌ {A = ℕ} 0 1 = cc in absurd (omega arith)
+      go (naming p n) g f (Ok r) t o w = let z : ◌≡◌ {A = ℕ} 0 1 = cc in absurd (omega arith)
+      go (naming p n) g f (Err d) t o w =
+          let e : Naming p (named_of n) ≡ d = cc in
+          subst (λ (d : Denied). EngineTold (Err d)) e
+          (rw f.0 (record { of = n; is = in_room (naming p n) g; named = refl; by = f.1 }))
+      go (refused p) g f (Ok r) t o w = let z : ◌≡◌ {A = ℕ} 0 1 = cc in absurd (omega arith)
+      go (refused p) g f (Err d) t o w =
+          let e : Refused p ≡ d = cc in
+          subst (λ (d : Denied). EngineTold (Err d)) e (in_room (refused p) g)
 
 -- ---- what is said of a claim
 
 module _ (q : Task) (claim : List ℕ) where
-  abbrev ClaimTold : ClaimAnswer → Type 0
-  ClaimTold (said.Passed n) = solve_task false q (some claim) ≡ claim_reply n
-  ClaimTold (said.Naming p m) = NamesFound q.first (cond (of_claim p.body) claim q.required) (solve_task false q (some claim)) p m
-  ClaimTold (said.Refused p) = solve_task false q (some claim) ≡ refused p
+  abbrev ClaimTold : Result ℕ Denied → Type 0
+  ClaimTold (Ok n) = solve_task false q (some claim) ≡ claim_reply n
+  ClaimTold (Err d) = DeniedTold q.first q.required claim (solve_task false q (some claim)) d
 
   claim_told : ClaimTold (claim_of (judge q claim))
-  unfolding claim_of solve_task and_then
+  unfolding result_of solve_task and_then
   claim_told = go (judge q claim) refl (judged_from q claim)
     where
       go : (x : Outcome ℕ) → judge q claim ≡ x → Judged q claim x → ClaimTold (claim_of x)
@@ -237,20 +257,8 @@ module _ (q : Task) (claim : List ℕ) where
       go (naming p n) g f = record { of = n; is = ap (λ (y : Outcome ℕ). and_then y claim_reply) g; named = refl; by = f }
       go (refused p) g f = ap (λ (y : Outcome ℕ). and_then y claim_reply) g
 
-  pub said_as : (y : ClaimAnswer) → y ≡ claim_of (judge q claim) → ClaimTold y
+  pub said_as : (y : Result ℕ Denied) → y ≡ claim_of (judge q claim) → ClaimTold y
   said_as y e = subst ClaimTold (sym e) claim_told
-
--- the list or the claim, from where it begins, ends inside the job
-pub claim_near : {first : List ℕ} (list claim : List ℕ) {x : Outcome Reply} {p : Refusal} {m : Named}
-    → NamesFound first (cond (of_claim p.body) claim list) x p m → (limit : ℕ) (at : Begin) (base : ℕ) → base ≡ base_of at p.body
-    → at.list + length list ≤ limit → at.claim + length claim ≤ limit → at.tree + length first ≤ limit → Near limit at.tree base m
-unfolding base_of
-claim_near list claim {p} f limit at base e l k t =
-    names_near f limit at.tree base (omega (arith, e, inside (of_claim p.body))) t
-  where
-    inside : (b : Bool) → cond b at.claim at.list + length (cond b claim list) ≤ limit
-    inside true = k
-    inside false = l
 
 -- by the letter
 pub claim_base : (at : Begin) (body : Body) (l : ℕ) → l ≡ letter_of body → l ≡ 67 → at.claim ≡ base_of at body
@@ -342,7 +350,7 @@ blank_room = length-replicate {A = ℕ} tree_room 0
 
 -- ---- the two sorts of lines
 
-module _ (pieces : Bool) (first : List ℕ) (r : DividedResult) (tree : List ℕ) where
+module _ (pieces : Bool) (first : List ℕ) (r : Divided) (tree : List ℕ) where
   pub lines_divided : pieces ≡ true → placed_pieces first r.pieces ++ placed_record first r.set tree ≡ lines_at pieces first r.pieces r.set tree
   unfolding lines_at
   lines_divided e = rw e refl

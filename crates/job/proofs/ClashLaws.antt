@@ -29,8 +29,8 @@ use Rattle.mast.specs.NamedLabels.{named_label, named_of}
 use Rattle.queries.specs.Query.{disagreement}
 use Rattle.mast.specs.Largest.{Solution, solution, solution_text, solve}
 use Rattle.claims.specs.Judge.{claim_disagreement, judge}
-use Rattle.job.specs.declared.JobAnswer.{JobAnswer}
-use Rattle.job.specs.declared.JobAnswer.TheVariants as job-answer
+use Rattle.mast.specs.declared.Denied.{Denied}
+use Rattle.mast.specs.declared.Denied.TheVariants.{Naming, Refused}
 use Rattle.std.specs.Prelude.{Result, Ok, Err}
 use Rattle.contents.specs.Contents.{Bodies, bytes, first_text, list_text, claim_text, bodies_of}
 use Rattle.contents.proofs.Promises.{body_promise}
@@ -152,10 +152,10 @@ module _ (job : List ℕ) (base : ℕ) (n : Trio) (w : NamedJob job base n) wher
       )
 
 -- the line that places and sizes of an answer give is this one
-abbrev NamedLine : List ℕ → List ℕ → JobAnswer → Type 0
-NamedLine job line (job-answer.Written n) = Prim.Unit {0}
-NamedLine job line (job-answer.Naming q n) = named_line job q n ≡ line
-NamedLine job line (job-answer.Refused q) = Prim.Unit {0}
+abbrev NamedLine : List ℕ → List ℕ → Result ℕ Denied → Type 0
+NamedLine job line (Ok n) = Prim.Unit {0}
+NamedLine job line (Err (Naming q n)) = named_line job q n ≡ line
+NamedLine job line (Err (Refused q)) = Prim.Unit {0}
 
 record_named : (job line lines : List ℕ) (room : ℕ) → NamedLine job line (record_answer lines room)
 unfolding record_answer lines_answer
@@ -165,7 +165,7 @@ record_named job line lines room = go (line_answer lines room)
     go (Ok n) = tt
     go (Err q) = tt
 
-pub naming_line_lem : (job : List ℕ) (room : ℕ) (q : Refusal) (n : Named) → answer_to job room ≡ job-answer.Naming q n
+pub naming_line_lem : (job : List ℕ) (room : ℕ) (q : Refusal) (n : Named) → answer_to job room ≡ Err (Naming q n)
     → named_line job q n ≡ printed job
 unfolding answer_to answered printed
 naming_line_lem job room q n e = subst (NamedLine job (printed_of (solve_job job))) e (go (solve_job job) (job_names job))

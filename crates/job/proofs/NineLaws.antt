@@ -12,7 +12,8 @@ use Rattle.trees.specs.Token.{Token}
 use Rattle.trees.specs.Tree.{Tree}
 use Rattle.claims.specs.Claim.{Verdict, claim_first_lacks, claim_second_lacks, claim_lacks, claim_disagrees, claim_small, claim_passes}
 use Rattle.claims.specs.Judge.{judgement_of}
-use Rattle.job.specs.declared.JobAnswer.TheVariants as job-answer
+use Rattle.std.specs.Prelude.{Err}
+use Rattle.mast.specs.declared.Denied.TheVariants.{Refused}
 use Rattle.pairs.specs.Outcome.{Outcome, refused, naming, found, and_then}
 use Rattle.mast.specs.Largest.{too_short}
 use Rattle.job.specs.Printed.{Reply, claim_reply, solve_job, reply_lines, printed_of, printed}
@@ -56,12 +57,12 @@ pub job_fits : (job : List ℕ) (q : Refusal) → solve_job job ≡ refused q �
 job_fits job q e = subst NotNine e (job_never_nine job)
 
 -- number 9 for a job: the output is shorter than the printed lines
-pub nine_output : (job : List ℕ) (room : ℕ) (q : Refusal) → answer_to job room ≡ job-answer.Refused q
+pub nine_output : (job : List ℕ) (room : ℕ) (q : Refusal) → answer_to job room ≡ Err (Refused q)
     → number_of q.reason ≡ 9 → room < length (printed job)
 unfolding answer_to answered printed printed_of
 nine_output job room q e n = go (solve_job job) (job_never_nine job) e
   where
-    go : (x : Outcome Reply) → NotNine x → answered (begin_in job) room x ≡ job-answer.Refused q → room < length (printed_of x)
+    go : (x : Outcome Reply) → NotNine x → answered (begin_in job) room x ≡ Err (Refused q) → room < length (printed_of x)
     go (found x) k h = (record_refused (reply_lines x) room q h).2
     go (naming p m) k h = let z : ◌≡◌ {A = ℕ} 0 1 = cc in absurd (omega arith)
     go (refused p) k h =
@@ -69,12 +70,12 @@ nine_output job room q e n = go (solve_job job) (job_never_nine job) e
         absurd (k (ap (λ (r : Refusal). number_of r.reason) g ∙ n))
 
 -- and an answer whose lines are longer than the output gets number 9
-short_lines : (lines : List ℕ) (room : ℕ) → room < length lines → record_answer lines room ≡ job-answer.Refused too_short
+short_lines : (lines : List ℕ) (room : ℕ) → room < length lines → record_answer lines room ≡ Err (Refused too_short)
 unfolding record_answer line_answer lines_answer
 short_lines lines room h = rw (lt-leb (length lines) room h) refl
 
 pub short_output : (job : List ℕ) (room : ℕ) → room < length (printed job) → (y : Reply) → solve_job job ≡ found y
-    → answer_to job room ≡ job-answer.Refused too_short
+    → answer_to job room ≡ Err (Refused too_short)
 unfolding answer_to answered printed printed_of
 short_output job room h y e =
     ap (answered (begin_in job) room) e ∙ short_lines (reply_lines y) room (subst (λ (x : Outcome Reply). room < length (printed_of x)) e h)

@@ -7,9 +7,9 @@ use lib.ListN.{length}
 use Rattle.trees.specs.declared.Refusal.{Refusal}
 use Rattle.trees.specs.Refusals.{number_of}
 use Rattle.pairs.specs.Outcome.{Outcome, refused, naming, found}
-use Rattle.job.specs.declared.JobAnswer.{JobAnswer}
-use Rattle.job.specs.declared.JobAnswer.TheVariants as job-answer
-use Rattle.std.specs.Prelude.{Ok, Err}
+use Rattle.mast.specs.declared.Denied.{Denied}
+use Rattle.mast.specs.declared.Denied.TheVariants.{Refused}
+use Rattle.std.specs.Prelude.{Result, Ok, Err}
 use Rattle.job.specs.Printed.{Reply, reply_lines, printed_of, printed, solve_job}
 use Rattle.lines.specs.Lines.{refused_line}
 use Rattle.lines.specs.Output.{line_answer, line_output}
@@ -21,22 +21,22 @@ module _ (job out : List ℕ) where
   abbrev room : ℕ
   room = length out
 
-  abbrev told : Outcome Reply → JobAnswer
+  abbrev told : Outcome Reply → Result ℕ Denied
   told x = answered (begin_in job) room x
 
-  pub printed_lines : (n : ℕ) → answer_to job room ≡ job-answer.Written n
+  pub printed_lines : (n : ℕ) → answer_to job room ≡ Ok n
       → (Ok n ≡ line_answer (printed job) room) × (job_output (solve_job job) out ≡ line_output (printed job) out)
   unfolding answer_to answered printed printed_of job_output
   printed_lines n e = go (solve_job job) e
     where
-      go : (x : Outcome Reply) → told x ≡ job-answer.Written n
+      go : (x : Outcome Reply) → told x ≡ Ok n
           → (Ok n ≡ line_answer (printed_of x) room) × (job_output x out ≡ line_output (printed_of x) out)
       go (found x) h = (record_written (reply_lines x) room n h, refl)
       go (naming q m) h = let z : ◌≡◌ {A = ℕ} 0 1 = cc in absurd (omega arith)
       go (refused q) h = let z : ◌≡◌ {A = ℕ} 0 1 = cc in absurd (omega arith)
 
   -- where labels are named the output keeps every byte
-  pub output_named : (y : JobAnswer) → answer_to job room ≡ y → Names y → job_output (solve_job job) out ≡ out
+  pub output_named : (y : Result ℕ Denied) → answer_to job room ≡ y → Names y → job_output (solve_job job) out ≡ out
   unfolding answer_to answered job_output
   output_named y e k = go (solve_job job) (subst Names (sym e) k)
     where
@@ -45,14 +45,14 @@ module _ (job out : List ℕ) where
       go (naming q n) h = refl
       go (refused q) h = refl
 
-  module _ (q : Refusal) (e : answer_to job room ≡ job-answer.Refused q) where
+  module _ (q : Refusal) (e : answer_to job room ≡ Err (Refused q)) where
     -- number 9 is the output's
     pub printed_nine : number_of q.reason ≡ 9
         → (Err q ≡ line_answer (printed job) room) × (job_output (solve_job job) out ≡ line_output (printed job) out)
     unfolding answer_to answered printed printed_of job_output
     printed_nine n = go (solve_job job) refl e
       where
-        go : (x : Outcome Reply) → solve_job job ≡ x → told x ≡ job-answer.Refused q
+        go : (x : Outcome Reply) → solve_job job ≡ x → told x ≡ Err (Refused q)
             → (Err q ≡ line_answer (printed_of x) room) × (job_output x out ≡ line_output (printed_of x) out)
         go (found x) k h = ((record_refused (reply_lines x) room q h).0, refl)
         go (naming p m) k h = let z : ◌≡◌ {A = ℕ} 0 1 = cc in absurd (omega arith)
@@ -65,7 +65,7 @@ module _ (job out : List ℕ) where
     unfolding answer_to answered printed printed_of job_output
     printed_refusal n = go (solve_job job) e
       where
-        go : (x : Outcome Reply) → told x ≡ job-answer.Refused q → (refused_line q ≡ printed_of x) × (job_output x out ≡ out)
+        go : (x : Outcome Reply) → told x ≡ Err (Refused q) → (refused_line q ≡ printed_of x) × (job_output x out ≡ out)
         go (found x) h = absurd (n (record_refused (reply_lines x) room q h).1)
         go (naming p m) h = let z : ◌≡◌ {A = ℕ} 0 1 = cc in absurd (omega arith)
         go (refused p) h = let g : p ≡ q = cc in (ap refused_line (sym g), refl)

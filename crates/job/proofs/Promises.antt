@@ -32,7 +32,9 @@ use Rattle.pairs.specs.Outcome.{Outcome, refused, naming, and_then, trio}
 use Rattle.queries.specs.Query.{Task, disagreement}
 use Rattle.mast.specs.Largest.{Solution, solution, solution_text, too_short, solve}
 use Rattle.claims.specs.Judge.{claim_disagreement, judge}
-use Rattle.job.specs.declared.JobAnswer.TheVariants as job-answer
+use Rattle.std.specs.Prelude.{Ok, Err}
+use Rattle.mast.specs.declared.Denied.TheVariants.{Naming, Refused}
+use Rattle.mast.specs.PaperNumbers.{said_of_denied}
 use Rattle.job.specs.Printed.{Reply, solved, passed, set_reply, claim_reply, task_of, job_limit, solve_bodies, solve_job}
 use Rattle.lines.specs.Lines.{record_lines, claim_line, named_line}
 use Rattle.lines.specs.PieceLines.{lines_room}
@@ -169,11 +171,11 @@ strict_promise = StrictLaws.strict_same
 
 -- "If an answer is an enum, the promises use a definition that gives this paper's number and values for each of its cases."
 pub job_rows_promise : (n : ℕ) (m : Named) (q : Refusal)
-    → (said_of_job (job-answer.Written n) ≡ value n)
-    × (said_of_job (job-answer.Naming disagreement m) ≡ row_naming 8 75 0 (m.first.place ∷ m.second.place ∷ m.third.place ∷ []))
-    × (said_of_job (job-answer.Naming claim_disagreement m) ≡ row_naming 14 67 0 (m.first.place ∷ m.second.place ∷ m.third.place ∷ []))
-    × (said_of_job (job-answer.Refused q) ≡ row (number_of q.reason) (letter_of q.body) q.place)
-unfolding said_of_job
+    → (said_of_job (Ok n) ≡ value n)
+    × (said_of_job (Err (Naming disagreement m)) ≡ row_naming 8 75 0 (m.first.place ∷ m.second.place ∷ m.third.place ∷ []))
+    × (said_of_job (Err (Naming claim_disagreement m)) ≡ row_naming 14 67 0 (m.first.place ∷ m.second.place ∷ m.third.place ∷ []))
+    × (said_of_job (Err (Refused q)) ≡ row (number_of q.reason) (letter_of q.body) q.place)
+unfolding said_of_job said_of_denied
 job_rows_promise n m q = (refl, refl, refl, refl)
 
 -- The papers' own numbers, letters, limits and printed lines are written out in one table, `job/specs/PaperTable.antt`. The definitions
@@ -192,20 +194,20 @@ area_fits = RoomLaws.engine_fits
 pub job_area_fits : (job : List ℕ) (q : Refusal) → solve_job job ≡ refused q → number_of q.reason ≡ 9 → ⊥
 job_area_fits = NineLaws.job_fits
 
-pub nine_of_output : (job : List ℕ) (room : ℕ) (q : Refusal) → answer_to job room ≡ job-answer.Refused q
+pub nine_of_output : (job : List ℕ) (room : ℕ) (q : Refusal) → answer_to job room ≡ Err (Refused q)
     → number_of q.reason ≡ 9 → room < length (printed job)
 nine_of_output = NineLaws.nine_output
 
 pub nine_when_short : (job : List ℕ) (room : ℕ) → room < length (printed job) → (shows : Bool) (r : Solution) → solve_job job ≡ set_reply shows r
-    → answer_to job room ≡ job-answer.Refused too_short
+    → answer_to job room ≡ Err (Refused too_short)
 nine_when_short job room h shows r = NineLaws.short_output job room h (solved shows r)
 
 pub nine_when_claim_short : (job : List ℕ) (room : ℕ) → room < length (printed job) → (n : ℕ) → solve_job job ≡ claim_reply n
-    → answer_to job room ≡ job-answer.Refused too_short
+    → answer_to job room ≡ Err (Refused too_short)
 nine_when_claim_short job room h n = NineLaws.short_output job room h (passed n)
 
 -- "Number 8 adds a space and its three labels joined by commas." The line made from the answer's places and sizes is the printed one.
-pub eight_line : (job : List ℕ) (room : ℕ) (n : Named) → answer_to job room ≡ job-answer.Naming disagreement n → named_line job disagreement n ≡ printed job
+pub eight_line : (job : List ℕ) (room : ℕ) (n : Named) → answer_to job room ≡ Err (Naming disagreement n) → named_line job disagreement n ≡ printed job
 eight_line job room = ClashLaws.naming_line_lem job room disagreement
 
 -- Each of its labels is in the job's list at the place returned, as a token with its key, and in the job's first tree as it is spelled
@@ -217,7 +219,7 @@ pub eight_places : (job : List ℕ) (e : Edition) (s : Tree) (xs : List Token) (
 eight_places = ClashLaws.eight_shown
 
 -- The same for number 14, whose labels are in the job's claim.
-pub fourteen_line : (job : List ℕ) (room : ℕ) (n : Named) → answer_to job room ≡ job-answer.Naming claim_disagreement n
+pub fourteen_line : (job : List ℕ) (room : ℕ) (n : Named) → answer_to job room ≡ Err (Naming claim_disagreement n)
     → named_line job claim_disagreement n ≡ printed job
 fourteen_line job room = ClashLaws.naming_line_lem job room claim_disagreement
 

@@ -12,8 +12,8 @@ use Rattle.trees.specs.declared.Refusal.{Refusal}
 use Rattle.trees.specs.Refusals.{number_of}
 use Rattle.trees.proofs.Bools.{bool_cases}
 use Rattle.mast.specs.Largest.{too_short}
-use Rattle.job.specs.declared.JobAnswer.{JobAnswer}
-use Rattle.job.specs.declared.JobAnswer.TheVariants as job-answer
+use Rattle.mast.specs.declared.Denied.{Denied}
+use Rattle.mast.specs.declared.Denied.TheVariants.{Naming, Refused}
 use Rattle.std.specs.Prelude.{Result, Ok, Err}
 use Rattle.lines.specs.Output.{line_answer}
 use Rattle.job.specs.Answered.{lines_answer, record_answer}
@@ -22,11 +22,11 @@ pub record_told : (lines : List ℕ) (room : ℕ) {l : Result ℕ Refusal} → l
 unfolding record_answer
 record_told lines room e = ap lines_answer e
 
-pub record_written : (lines : List ℕ) (room n : ℕ) → record_answer lines room ≡ job-answer.Written n → Ok n ≡ line_answer lines room
+pub record_written : (lines : List ℕ) (room n : ℕ) → record_answer lines room ≡ Ok n → Ok n ≡ line_answer lines room
 unfolding record_answer lines_answer
 record_written lines room n e = go (line_answer lines room) e
   where
-    go : (l : Result ℕ Refusal) → lines_answer l ≡ job-answer.Written n → Ok n ≡ l
+    go : (l : Result ℕ Refusal) → lines_answer l ≡ Ok n → Ok n ≡ l
     go (Ok m) h = let k : n ≡ m = cc in ap Ok k
     go (Err q) h = let z : ◌≡◌ {A = ℕ} 0 1 = cc in absurd (omega arith)
 
@@ -45,12 +45,12 @@ line_nine lines room q e = go (bool_cases (leb (length lines) room))
         let k : q ≡ too_short = cc in
         (k, leb-false (length lines) room f)
 
-pub record_refused : (lines : List ℕ) (room : ℕ) (q : Refusal) → record_answer lines room ≡ job-answer.Refused q
+pub record_refused : (lines : List ℕ) (room : ℕ) (q : Refusal) → record_answer lines room ≡ Err (Refused q)
     → (Err q ≡ line_answer lines room) × (number_of q.reason ≡ 9) × (room < length lines)
 unfolding record_answer lines_answer number_of
 record_refused lines room q e = go (line_answer lines room) refl e
   where
-    go : (l : Result ℕ Refusal) → line_answer lines room ≡ l → lines_answer l ≡ job-answer.Refused q
+    go : (l : Result ℕ Refusal) → line_answer lines room ≡ l → lines_answer l ≡ Err (Refused q)
         → (Err q ≡ line_answer lines room) × (number_of q.reason ≡ 9) × (room < length lines)
     go (Ok n) f h = let z : ◌≡◌ {A = ℕ} 0 1 = cc in absurd (omega arith)
     go (Err p) f h =
@@ -60,10 +60,10 @@ record_refused lines room q e = go (line_answer lines room) refl e
         (sym g, ap (λ (r : Refusal). number_of r.reason) w.0, w.1)
 
 -- answers that name labels
-abbrev pub Names : JobAnswer → Type 0
-Names (job-answer.Written n) = ⊥
-Names (job-answer.Naming q n) = Prim.Unit {0}
-Names (job-answer.Refused q) = ⊥
+abbrev pub Names : Result ℕ Denied → Type 0
+Names (Ok n) = ⊥
+Names (Err (Naming q n)) = Prim.Unit {0}
+Names (Err (Refused q)) = ⊥
 
 pub record_no_names : (lines : List ℕ) (room : ℕ) → Names (record_answer lines room) → ⊥
 unfolding record_answer lines_answer

@@ -10,18 +10,19 @@ use Rattle.mast.specs.declared.NamedLabel.{NamedLabel}
 use Rattle.pairs.specs.Outcome.{Outcome, refused, naming, found}
 use Rattle.mast.specs.NamedLabels.{named_of}
 use Rattle.job.specs.declared.Begin.{Begin}
-use Rattle.job.specs.declared.JobAnswer.{JobAnswer}
-use Rattle.job.specs.declared.JobAnswer.TheVariants as job-answer
+use Rattle.mast.specs.declared.Denied.{Denied}
+use Rattle.mast.specs.declared.Denied.TheVariants.{Naming, Refused}
 use Rattle.job.specs.Printed.{Reply, reply_lines, solve_job}
 use Rattle.trees.specs.declared.Refusal.{Refusal}
 use Rattle.lines.specs.Output.{line_answer, line_output}
 
-unfoldable pub lines_answer : Result ℕ Refusal → JobAnswer
-lines_answer (Ok n) = job-answer.Written n
-lines_answer (Err q) = job-answer.Refused q
+-- what the lines' answer is among those over jobs
+unfoldable pub lines_answer : Result ℕ Refusal → Result ℕ Denied
+lines_answer (Ok n) = Ok n
+lines_answer (Err q) = Err (Refused q)
 
 -- the lines of an answer for an output of `room` bytes: how many bytes they have, or number 9
-unfoldable pub record_answer : List ℕ → ℕ → JobAnswer
+unfoldable pub record_answer : List ℕ → ℕ → Result ℕ Denied
 unfolding lines_answer line_answer
 record_answer lines room = lines_answer (line_answer lines room)
 
@@ -48,15 +49,21 @@ unfolding moved_label
 moved_by origin base n =
     record { first = moved_label origin base n.first; second = moved_label origin base n.second; third = moved_label origin base n.third }
 
+-- a refusal by places in a job
+unfoldable pub denied_at : Begin → Denied → Denied
+unfolding moved_by base_of
+denied_at at (Naming q n) = Naming q (moved_by at.tree (base_of at q.body) n)
+denied_at at (Refused q) = Refused q
+
 -- the answer to a job with bodies that begin there, for an output of `room` bytes
-unfoldable pub answered : Begin → ℕ → Outcome Reply → JobAnswer
+unfoldable pub answered : Begin → ℕ → Outcome Reply → Result ℕ Denied
 unfolding record_answer reply_lines moved_by base_of named_of
 answered at room (found x) = record_answer (reply_lines x) room
-answered at room (naming q n) = job-answer.Naming q (moved_by at.tree (base_of at q.body) (named_of n))
-answered at room (refused q) = job-answer.Refused q
+answered at room (naming q n) = Err (Naming q (moved_by at.tree (base_of at q.body) (named_of n)))
+answered at room (refused q) = Err (Refused q)
 
 -- the answer to a job, for an output of `room` bytes
-unfoldable pub answer_to : List ℕ → ℕ → JobAnswer
+unfoldable pub answer_to : List ℕ → ℕ → Result ℕ Denied
 unfolding answered solve_job body_place layout_of
 answer_to job room = answered (begin_in job) room (solve_job job)
 

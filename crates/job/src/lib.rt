@@ -3,21 +3,20 @@
 // No public function has a `requires`.
 #![tactic(auto)]
 
-ghost use Rattle.std.specs.Prelude.{◌≡◌, length, replicate, ◌+◌, ◌≤◌, false};
+ghost use Rattle.std.specs.Prelude.{◌≡◌, length, replicate, ◌+◌, ◌≤◌, false, []};
 ghost use Rattle.contents.specs.Contents.{layout_of};
 ghost use Rattle.std.proofs.Math.Option.{some, none};
 ghost use Rattle.queries.specs.Query.{task};
-ghost use Rattle.job.specs.declared.JobAnswer as JobAnswer;
+ghost use Rattle.mast.specs.declared.Denied.TheVariants as denied;
 ghost use Rattle.trees.specs.declared.Body.TheVariants.{J};
 ghost use Rattle.job.specs.Printed.{printed, solve_task, solve_job, job_limit};
-ghost use Rattle.job.specs.NamedPlaces.{Near};
+ghost use Rattle.job.specs.NamedPlaces.{Near, NearBy, Inside};
 ghost use Rattle.lines.specs.Output.{line_answer, line_output};
 ghost use Rattle.lines.specs.PieceLines.{lines_at};
-ghost use Rattle.job.specs.Answered.{lines_answer, base_of, moved_by, answered, answer_to, job_output};
+ghost use Rattle.job.specs.Answered.{base_of, moved_label, moved_by, denied_at, answered, answer_to, job_output};
 
-use claims::ClaimAnswer;
 use contents::Table;
-use mast::{DividedResult, LargestAnswer, Named, NamedLabel};
+use mast::{Denied, Divided, Named, NamedLabel};
 use pairs::Options;
 use trees::{Body, Reason, Refusal, TREE_ROOM};
 
@@ -35,14 +34,6 @@ pub struct Begin {
     pub claim: usize,
 }
 
-// The number of bytes written to the output; number 8 or 14 with the three labels that it names, by places in the job; or another refusal.
-#[derive(Clone, Copy)]
-pub enum JobAnswer {
-    Written(usize),
-    Naming(Refusal, Named),
-    Refused(Refusal),
-}
-
 // An area for a job: one byte more than a job may have, so that a longer one is recognized by its length.
 pub fn job_area() -> [u8; JOB_AREA]
     ensures zeros { result ≡ replicate (job_limit + 1) 0 }
@@ -52,24 +43,14 @@ pub fn job_area() -> [u8; JOB_AREA]
 }
 
 // The refusals that the job itself gives: their place is J 0.
-fn job_refusal(reason: Reason) -> JobAnswer
-    ensures { result ≡ JobAnswer.Refused (record { reason = reason; body = J; place = 0 }) }
+fn job_refusal(reason: Reason) -> Denied
+    ensures { result ≡ denied.Refused (record { reason = reason; body = J; place = 0 }) }
 {
-    JobAnswer::Refused(Refusal {
+    Denied::Refused(Refusal {
         reason,
         body: Body::J,
         place: 0,
     })
-}
-
-// The answer that a job's lines make.
-fn lines_answer(given: Result<usize, Refusal>) -> JobAnswer
-    ensures { result ≡ lines_answer given }
-{
-    match given {
-        Ok(n) => JobAnswer::Written(n),
-        Err(refusal) => JobAnswer::Refused(refusal),
-    }
 }
 
 // Where the list of a refusal that names labels begins: that of the claim for the letter C, otherwise the required one.
@@ -82,7 +63,19 @@ fn base_of(at: Begin, body: Body) -> usize
     at.list
 }
 
-// Three labels by places in a job: their list begins at `base`, the first tree at `origin`.
+// A label by places in a job: its list begins at `base`, the first tree at `origin`.
+fn label_in(origin: usize, base: usize, label: NamedLabel) -> NamedLabel
+    requires { (base + label.place ≤ job_limit) × (origin + label.start ≤ job_limit) }
+    ensures { result ≡ moved_label origin base label }
+{
+    NamedLabel {
+        place: base + label.place,
+        start: origin + label.start,
+        size: label.size,
+    }
+}
+
+// Three labels by places in a job.
 fn named_in(origin: usize, base: usize, named: Named) -> Named
     requires { Near job_limit origin base named }
     ensures { result ≡ moved_by origin base named }
@@ -91,21 +84,23 @@ fn named_in(origin: usize, base: usize, named: Named) -> Named
     let two = named.second;
     let three = named.third;
     Named {
-        first: NamedLabel {
-            place: base + one.place,
-            start: origin + one.start,
-            size: one.size,
-        },
-        second: NamedLabel {
-            place: base + two.place,
-            start: origin + two.start,
-            size: two.size,
-        },
-        third: NamedLabel {
-            place: base + three.place,
-            start: origin + three.start,
-            size: three.size,
-        },
+        first: label_in(origin, base, one),
+        second: label_in(origin, base, two),
+        third: label_in(origin, base, three),
+    }
+}
+
+// A refusal by places in a job.
+fn denied_in(at: Begin, given: Denied) -> Denied
+    requires { NearBy job_limit at given }
+    ensures { result ≡ denied_at at given }
+{
+    match given {
+        Denied::Naming(refusal, named) => {
+            let body = refusal.body;
+            Denied::Naming(refusal, named_in(at.tree, base_of(at, body), named))
+        }
+        Denied::Refused(refusal) => Denied::Refused(refusal),
     }
 }
 
@@ -113,7 +108,7 @@ fn named_in(origin: usize, base: usize, named: Named) -> Named
 fn result_lines(
     pieces: bool,
     first: &[u8],
-    res: DividedResult,
+    res: Divided,
     tree: &[u8],
     out: &mut [u8],
 ) -> Result<usize, Refusal>
@@ -137,8 +132,8 @@ fn answer_bodies(
     list: &[u8],
     at: Begin,
     out: &mut [u8],
-) -> JobAnswer
-    requires { (at.list + length list.now ≤ job_limit) × (at.tree + length first.now ≤ job_limit) }
+) -> Result<usize, Denied>
+    requires { Inside job_limit at first.now list.now [] }
     ensures answer { result ≡ answered at (length out.old)
         (solve_task pieces (task options first.now second.now list.now) none) }
     ensures output { out.new ≡ job_output
@@ -146,21 +141,12 @@ fn answer_bodies(
         out.old }
 {
     let mut tree = [0u8; TREE_ROOM];
-    let result = mast::largest_in_pieces(options, first, second, list, pieces, &mut tree);
-    let answer = result.answer;
-    match answer {
-        LargestAnswer::Found(_, bytes) => lines_answer(result_lines(
-            pieces,
-            first,
-            result,
-            &tree[..bytes],
-            out,
-        )),
-        LargestAnswer::Naming(refusal, named) => {
-            let body = refusal.body;
-            JobAnswer::Naming(refusal, named_in(at.tree, base_of(at, body), named))
+    match mast::largest_in_pieces(options, first, second, list, pieces, &mut tree) {
+        Ok(divided) => {
+            let text = &tree[..divided.length];
+            Ok(result_lines(pieces, first, divided, text, out)?)
         }
-        LargestAnswer::Refused(refusal) => JobAnswer::Refused(refusal),
+        Err(denied) => Err(denied_in(at, denied)),
     }
 }
 
@@ -173,28 +159,22 @@ fn answer_claim(
     claim: &[u8],
     at: Begin,
     out: &mut [u8],
-) -> JobAnswer
-    requires list_bound { (at.list + length list.now ≤ job_limit) × (at.tree + length first.now ≤ job_limit) }
-    requires claim_bound { at.claim + length claim.now ≤ job_limit }
+) -> Result<usize, Denied>
+    requires { Inside job_limit at first.now list.now claim.now }
     ensures answer { result ≡ answered at (length out.old)
         (solve_task false (task options first.now second.now list.now) (some claim.now)) }
     ensures output { out.new ≡ job_output
         (solve_task false (task options first.now second.now list.now) (some claim.now))
         out.old }
 {
-    let answer = claims::judge(options, first, second, list, claim);
-    match answer {
-        ClaimAnswer::Passed(size) => lines_answer(lines::claim_line(size, out)),
-        ClaimAnswer::Naming(refusal, named) => {
-            let body = refusal.body;
-            JobAnswer::Naming(refusal, named_in(at.tree, base_of(at, body), named))
-        }
-        ClaimAnswer::Refused(refusal) => JobAnswer::Refused(refusal),
+    match claims::judge(options, first, second, list, claim) {
+        Ok(size) => Ok(lines::claim_line(size, out)?),
+        Err(denied) => Err(denied_in(at, denied)),
     }
 }
 
 // The answer to a job with these contents: the verdict on its claim, or the set if it has none.
-fn answer_laid(job: &[u8], table: Table, out: &mut [u8]) -> JobAnswer
+fn answer_laid(job: &[u8], table: Table, out: &mut [u8]) -> Result<usize, Denied>
     requires job_len_bound { length job.now ≤ job_limit }
     requires table_value { Some table ≡ layout_of job.now }
     ensures answer { result ≡ answer_to job.now (length out.old) }
@@ -224,16 +204,17 @@ fn answer_laid(job: &[u8], table: Table, out: &mut [u8]) -> JobAnswer
     }
 }
 
-// The answer to a job: its lines in `out`, or a refusal; `out` then keeps every byte.
-pub fn answer_job(job: &[u8], out: &mut [u8]) -> JobAnswer
+// The answer to a job: its lines in `out`, and how many bytes they have; or a refusal, number 8 or 14 with the labels that it names by
+// places in the job, and `out` then keeps every byte.
+pub fn answer_job(job: &[u8], out: &mut [u8]) -> Result<usize, Denied>
     ensures answer { result ≡ answer_to job.now (length out.old) }
     ensures output { out.new ≡ job_output (solve_job job.now) out.old }
 {
     if JOB_LIMIT < job.len() {
-        return job_refusal(Reason::JobTooLong);
+        return Err(job_refusal(Reason::JobTooLong));
     }
     let Some(table) = contents::contents(job) else {
-        return job_refusal(Reason::Contents);
+        return Err(job_refusal(Reason::Contents));
     };
     answer_laid(job, table, out)
 }
@@ -244,11 +225,10 @@ pub fn print_job(job: &[u8], out: &mut [u8]) -> Result<usize, Refusal>
     ensures answer { result ≡ line_answer (printed job.now) (length out.old) }
     ensures output { out.new ≡ line_output (printed job.now) out.old }
 {
-    let answer = answer_job(job, out);
-    match answer {
-        JobAnswer::Written(n) => Ok(n),
-        JobAnswer::Naming(refusal, named) => lines::naming_line(job, refusal, named, out),
-        JobAnswer::Refused(refusal) => {
+    match answer_job(job, out) {
+        Ok(n) => Ok(n),
+        Err(Denied::Naming(refusal, named)) => lines::naming_line(job, refusal, named, out),
+        Err(Denied::Refused(refusal)) => {
             let reason = refusal.reason;
             if trees::number(reason) == 9 {
                 return Err(refusal);

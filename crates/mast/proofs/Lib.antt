@@ -1,4 +1,5 @@
 pub mod ClashLaws
+pub mod DeniedLaws
 pub mod FinishLaws
 pub mod MissingLaws
 pub mod OutcomeLaws

@@ -34,7 +34,7 @@ use Rattle.agreement.proofs.Promises as agreement
 use Rattle.pairs.specs.Outcome.{Outcome, Trio, refused, naming, found, trio}
 use Rattle.mast.specs.NamedLabels.{named_of}
 use Rattle.queries.specs.Query.{Task, with_clash, with_set, answer_to, held_by, disagreement, required_of}
-use Rattle.mast.specs.Largest.{Solution, solution, solution_text, too_short, fitted, solution_of, solve_list, solve, largest_of}
+use Rattle.mast.specs.Largest.{Solution, solution, solution_text, too_short, fitted, solution_of, solve_list, solve, largest_of, set_of_answer}
 use Rattle.mast.specs.declared.Named.{Named}
 use Rattle.mast.specs.Compare.{Comparison, clash_of, comparison, compare_other, compare_answers, compare_lists, compare, named_if}
 use Rattle.mast.specs.Reads.{Reads, SetGiven}
@@ -284,8 +284,8 @@ module _ (q : Task) (s t : Tree) (xs : List Token) (reads : Reads q s t xs) wher
       λ k. set_fitted k.0 k.1 ∙ (rw (lt-leb (length (solution_text (solution E s t xs k.0))) room k.2) refl),
     )
 
-    pub set_given_shown : (X : List Label) → solve q room ≡ found (solution E s t xs X) → (r : ℕ) → r < (largest_of (solve q room)).set.count
-        → ShownInTree E q.first (get_or (largest_of (solve q room)).set.start r 0) (get_or (largest_of (solve q room)).set.size r 0)
+    pub set_given_shown : (X : List Label) → solve q room ≡ found (solution E s t xs X) → (r : ℕ) → r < (set_of_answer (largest_of (solve q room))).count
+        → ShownInTree E q.first (get_or (set_of_answer (largest_of (solve q room))).start r 0) (get_or (set_of_answer (largest_of (solve q room))).size r 0)
         (get_or X r [])
     set_given_shown X d r =
         let held = ((set_exactly X).0 d).is_answer.allowed_set.common_leaves in

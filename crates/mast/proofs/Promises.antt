@@ -7,7 +7,7 @@ use mathlib.Core.Option.{some}
 use mathlib.Core.Bool.{true}
 use mathlib.Core.List.{List, [], ◌∷◌, ◌++◌}
 use lib.ListN.{length, get_or, drop}
-use Rattle.std.specs.Prelude.{Some}
+use Rattle.std.specs.Prelude.{Some, Ok, Err}
 use Rattle.trees.specs.declared.Body.TheVariants.{K, S, T}
 use Rattle.trees.specs.declared.Refusal.{Refusal}
 use Rattle.trees.specs.declared.Reason.{Reason}
@@ -34,16 +34,16 @@ use Rattle.agreement.specs.RightAnswer.{RightAnswer}
 use Rattle.agreement.specs.Strict.{SameLeaves, IsStray}
 use Rattle.agreement.proofs.PlaceLaws.{list_listed, listed_key, number_listed}
 use Rattle.agreement.proofs.EditionText.{spelled_shown, spelled_key, spelled_size}
-use Rattle.mast.specs.declared.LargestAnswer.TheVariants.{Found, Naming, Refused}
-use Rattle.mast.specs.declared.CompareAnswer.TheVariants as compare_answer
+use Rattle.mast.specs.declared.Denied.TheVariants.{Naming, Refused}
+use Rattle.mast.specs.declared.Found.{Found}
 use Rattle.mast.specs.declared.Compared.{Compared}
 use Rattle.mast.specs.declared.Named.{Named}
 use Rattle.pairs.specs.Outcome.{Trio, refused, naming, found, trio}
-use Rattle.mast.specs.NamedLabels.{named_of}
+use Rattle.mast.specs.NamedLabels.{named_of, result_of}
 use Rattle.queries.specs.Query.{Task, task, plain, disagreement}
-use Rattle.mast.specs.Largest.{Solution, solution, solution_text, too_short, solution_of, solve, output_of, largest_of, set_places}
+use Rattle.mast.specs.Largest.{Solution, solution, solution_text, too_short, solution_of, solve, output_of, found_set, largest_of, set_of_answer, set_places}
 use Rattle.mast.specs.Compare.{Comparison, missing, IsMissing, compare_other, compare, named_if}
-use Rattle.mast.specs.PaperNumbers.{said_of_largest, said_of_compare}
+use Rattle.mast.specs.PaperNumbers.{said_of_denied, said_of_largest, said_of_compare}
 use Rattle.mast.specs.Reads.{Reads, SetGiven}
 use Rattle.mast.specs.Shown.{ShownInTree, NamesShown, HeldAndListed}
 use Rattle.mast.proofs.ShownLaws.{set_is_shown, names_are_shown}
@@ -123,9 +123,9 @@ module _ (q : Task) (room : ℕ) (s t : Tree) (xs : List Token) (reads : Reads q
 
   -- What a caller receives of a set: entry r of its starts and sizes names a part of the first text, a whole leaf, which is label r of the set.
   pub set_shown_promise : (X : List Label) → solve q room ≡ found (solution q.options.edition s t xs X) → (r : ℕ)
-      → r < (largest_of (solve q room)).set.count
-      → ShownInTree q.options.edition q.first (get_or (largest_of (solve q room)).set.start r 0)
-      (get_or (largest_of (solve q room)).set.size r 0) (get_or X r [])
+      → r < (set_of_answer (largest_of (solve q room))).count
+      → ShownInTree q.options.edition q.first (get_or (set_of_answer (largest_of (solve q room))).start r 0)
+      (get_or (set_of_answer (largest_of (solve q room))).size r 0) (get_or X r [])
   set_shown_promise = set_given_shown q s t xs reads room
 
   -- And of labels that are named: the refusal is number 8, each place is where the required list has that label as a whole, and each start and
@@ -149,24 +149,29 @@ written_on_success r out = refl
 
 -- "A size printed with no set of that size: the size is that set's length"
 pub size_promise : (r : Solution)
-    → ((largest_of (found r)).answer ≡ Found (length r.set) (length (solution_text r))) × ((largest_of (found r)).set.count ≡ length r.set)
-unfolding largest_of set_places
+    → (largest_of (found r) ≡ Ok (record {
+      size = length r.set;
+      length = length (solution_text r);
+      set = set_places (folded r.edition r.first) r.set;
+    }))
+    × ((set_of_answer (largest_of (found r))).count ≡ length r.set)
+unfolding result_of found_set set_of_answer set_places
 size_promise r = (refl, refl)
 
 -- "If an answer is an enum, the promises use a definition that gives this paper's number and values for each of its cases."
-pub rows_promise : (size bytes : ℕ) (n : Named) (q : Refusal)
-    → (said_of_largest (Found size bytes) ≡ value (size ∷ bytes ∷ []))
-    × (said_of_largest (Naming disagreement n) ≡ row_naming 8 75 0 (n.first.place ∷ n.second.place ∷ n.third.place ∷ []))
-    × (said_of_largest (Refused too_short) ≡ row 9 79 0)
-    × (said_of_largest (Refused q) ≡ row (number_of q.reason) (letter_of q.body) q.place)
-unfolding said_of_largest row_of row_naming_of
-rows_promise size bytes n q = (refl, refl, refl, refl)
+pub rows_promise : (f : Found) (n : Named) (q : Refusal)
+    → (said_of_largest (Ok f) ≡ value (f.size ∷ f.length ∷ []))
+    × (said_of_largest (Err (Naming disagreement n)) ≡ row_naming 8 75 0 (n.first.place ∷ n.second.place ∷ n.third.place ∷ []))
+    × (said_of_largest (Err (Refused too_short)) ≡ row 9 79 0)
+    × (said_of_largest (Err (Refused q)) ≡ row (number_of q.reason) (letter_of q.body) q.place)
+unfolding said_of_largest said_of_denied row_of row_naming_of
+rows_promise f n q = (refl, refl, refl, refl)
 
 pub compare_rows_promise : (d : Compared) (n : Named) (q : Refusal)
-    → (said_of_compare (compare_answer.Compared d) ≡ value d)
-    × (said_of_compare (compare_answer.Naming disagreement n) ≡ row_naming 8 75 0 (n.first.place ∷ n.second.place ∷ n.third.place ∷ []))
-    × (said_of_compare (compare_answer.Refused q) ≡ row (number_of q.reason) (letter_of q.body) q.place)
-unfolding said_of_compare row_of row_naming_of
+    → (said_of_compare (Ok d) ≡ value d)
+    × (said_of_compare (Err (Naming disagreement n)) ≡ row_naming 8 75 0 (n.first.place ∷ n.second.place ∷ n.third.place ∷ []))
+    × (said_of_compare (Err (Refused q)) ≡ row (number_of q.reason) (letter_of q.body) q.place)
+unfolding said_of_compare said_of_denied row_of row_naming_of
 compare_rows_promise d n q = (refl, refl, refl)
 
 -- C-16, "the first required label missing from the claim"
@@ -213,9 +218,9 @@ eight_places_promise e xs x h = (list_listed e xs x h, listed_key e xs x h)
 -- The same of all that is returned, for any set and any three labels: entry r of a set's starts and sizes names label r; a named label's place
 -- is in its list, its start and size are in the first tree's text. `set_shown_promise` and `names_shown_promise` are this for the answer.
 pub set_labels_promise : (e : Edition) (s t : Tree) (xs : List Token) (X : List Label) → ValidIn e s
-    → ((x : Label) → is_in x X ≡ true → holds (keyed e s) x ≡ true) → (r : ℕ) → r < (largest_of (found (solution e s t xs X))).set.count
-    → ShownInTree e (text_of s) (get_or (largest_of (found (solution e s t xs X))).set.start r 0)
-    (get_or (largest_of (found (solution e s t xs X))).set.size r 0) (get_or X r [])
+    → ((x : Label) → is_in x X ≡ true → holds (keyed e s) x ≡ true) → (r : ℕ) → r < (set_of_answer (largest_of (found (solution e s t xs X)))).count
+    → ShownInTree e (text_of s) (get_or (set_of_answer (largest_of (found (solution e s t xs X)))).start r 0)
+    (get_or (set_of_answer (largest_of (found (solution e s t xs X)))).size r 0) (get_or X r [])
 set_labels_promise e s t xs X v held r = set_is_shown e s X v held r t xs (text_of s) refl (found (solution e s t xs X)) refl
 
 pub named_labels_promise : (n : Trio) → ValidIn n.edition n.first → HeldAndListed n n.labels.one → HeldAndListed n n.labels.two

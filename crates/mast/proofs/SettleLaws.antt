@@ -1,10 +1,9 @@
 -- The required list settled, and a further list beside the largest set: what the parts return is what the definitions say. Assumes nothing.
 use Prim.Native.Nat.{ℕ, ◌≤◌}
-use mathlib.Core.Path.{◌≡◌, refl, sym, ◌∙◌, ap, subst}
+use mathlib.Core.Path.{◌≡◌, refl, sym, ◌∙◌, ap}
 use mathlib.Core.Bool.{Bool, true}
 use mathlib.Core.List.{List}
-use Rattle.std.specs.Prelude.{Option, Some, None}
-use native.Mathlib.Omega.{arith}
+use Rattle.std.specs.Prelude.{Option, Some, None, Ok, Err}
 use lib.ListN.{length}
 use Rattle.trees.specs.declared.Body.TheVariants.{K, C}
 use Rattle.trees.specs.declared.Refusal.{Refusal}
@@ -25,21 +24,18 @@ use Rattle.lists.specs.ReadList.{folded_list, keys_of}
 use Rattle.agreement.specs.Answer.{Answer, disagree, largest}
 use Rattle.agreement.specs.Places.{place_in, token_in, place_of_label}
 use Rattle.pairs.specs.declared.CommonOrder.{CommonOrder}
-use Rattle.mast.specs.declared.settle.Chosen.{Chosen}
-use Rattle.mast.specs.declared.settle.Settled.{Settled}
-use Rattle.mast.specs.declared.settle.ListFate.TheVariants as fate
+use Rattle.mast.specs.declared.Denied.{Denied}
+use Rattle.mast.specs.declared.Denied.TheVariants.{Naming, Refused}
 use Rattle.mast.specs.declared.Named.{Named}
 use Rattle.mast.specs.declared.NamedLabel.{NamedLabel}
-use Rattle.mast.specs.declared.CompareAnswer.TheVariants as compare_answer
 use Rattle.pairs.specs.Outcome.{Outcome, refused, found, and_then, trio}
-use Rattle.mast.specs.NamedLabels.{named_of}
+use Rattle.mast.specs.NamedLabels.{named_of, result_of}
 use Rattle.queries.specs.Query.{AllHeld, with_clash, with_set, answer_to, held_by, agreed_on, disagreement, required_of, required_set}
-use Rattle.mast.specs.Compare.{Comparison, missing, clash_of, comparison, compare_other, compare_answers, compare_lists, place_if, named_if, compared_of}
-use Rattle.pairs.specs.PairRead.{OwnTrees, trees_in}
-use Rattle.queries.specs.ListRead.{OwnLabels}
+use Rattle.mast.specs.Compare.{Comparison, missing, clash_of, comparison, compare_other, compare_answers, compare_lists, place_if, named_if, compared_parts, compared_of}
 use Rattle.queries.specs.RankedList.{AskedOf}
 use Rattle.mast.specs.RankedQuery.{ClashIs}
-use Rattle.mast.specs.Settled.{chosen_of, NamingIs, ChosenIs, SettledIs}
+use Rattle.mast.specs.Settled.{NamingIs, DeniedIs, ChosenIs}
+use Rattle.mast.proofs.DeniedLaws.{refused_result, denied_result}
 use Rattle.pairs.proofs.StepLaws.{then_refused, then_found}
 
 -- three labels with different closer pairs
@@ -102,85 +98,24 @@ module _ (e : Edition) (s t : Tree) (xs : List Token) where
   unfolding required_set required_of
   set_lacking q h = then_refused (held_by K xs A) (agreed_on e s xs) q h
 
-  module _ (chosen : List Bool) where
-    pub chosen_set : (size : ℕ) → A ≡ largest (chosen_of e s t chosen) → size ≡ length (chosen_of e s t chosen)
-        → ChosenIs e s t xs chosen (record { fate = fate.Agreed; size = size })
-    chosen_set size h k = record {
-      never = λ q f. other f;
-      disagreement = λ q n f. absurd (naming_other f);
-      set = λ _. set_found _ h;
-      count = λ _. k;
-    }
-      where
-        other : {q : Refusal} → fate.Agreed ≡ fate.Refused q → ⊥
-        other f = let z : ◌≡◌ {A = ℕ} 0 1 = cc in omega arith
-
-        naming_other : {q : Refusal} {n : Named} → fate.Agreed ≡ fate.Naming q n → ⊥
-        naming_other f = let z : ◌≡◌ {A = ℕ} 0 1 = cc in omega arith
-
-    pub chosen_eight : (n : Named) → NamingIs Set disagreement n → ChosenIs e s t xs chosen (record { fate = fate.Naming disagreement n; size = 0 })
-    chosen_eight n k = record {
-      never = λ q f. never_refused f;
-      disagreement = λ q m f. subst_naming f;
-      set = λ f. absurd (other f);
-      count = λ f. absurd (other f);
-    }
-      where
-        never_refused : {q : Refusal} → fate.Naming disagreement n ≡ fate.Refused q → ⊥
-        never_refused f = let z : ◌≡◌ {A = ℕ} 0 1 = cc in omega arith
-
-        other : fate.Naming disagreement n ≡ fate.Agreed → ⊥
-        other f = let z : ◌≡◌ {A = ℕ} 0 1 = cc in omega arith
-
-        subst_naming : {q : Refusal} {m : Named} → fate.Naming disagreement n ≡ fate.Naming q m → NamingIs Set q m
-        subst_naming {q = q} {m = m} f =
-            let x : disagreement ≡ q = cc in
-            let y : n ≡ m = cc in
-            subst (λ (p : Refusal). NamingIs Set p m) x (subst (NamingIs Set disagreement) y k)
-
--- settled
-
-module _ {e : Edition} {first : List ℕ} {tree1 tree2 : TreeArrays} {order : CommonOrder} {list : List ℕ} {places : LabelPlaces}
-    (b : OwnTrees e first tree1 tree2 order) (l : OwnLabels e list places) (r : Settled) where
-  pub settled_lack : (q : Refusal) → r.fate ≡ fate.Refused q
-      → held_by K l.xs (answer_to e (trees_in b) l.xs) ≡ refused q → SettledIs b l r
-  settled_lack q w h = record {
-    lack = λ p f. set_lacking e b.s b.t l.xs q h ∙ ap refused (same (sym w ∙ f));
-    disagreement = λ p n f. absurd (naming_other (sym w ∙ f));
-    agreed = λ f. absurd (other (sym w ∙ f));
-  }
-    where
-      same : {p : Refusal} → fate.Refused q ≡ fate.Refused p → q ≡ p
-      same f = cc
-
-      naming_other : {p : Refusal} {n : Named} → fate.Refused q ≡ fate.Naming p n → ⊥
-      naming_other f = let z : ◌≡◌ {A = ℕ} 0 1 = cc in omega arith
-
-      other : fate.Refused q ≡ fate.Agreed → ⊥
-      other f = let z : ◌≡◌ {A = ℕ} 0 1 = cc in omega arith
-
-  pub settled_chosen : (c : Chosen) → r.fate ≡ c.fate → r.size ≡ c.size
-      → AskedOf (folded e b.s) (folded e b.t) (folded_list e l.xs) tree1 tree2 order r.number places
-      → ChosenIs e b.s b.t l.xs r.chosen c → SettledIs b l r
-  settled_chosen c w k a h = record {
-    lack = λ q f. absurd (h.never q (sym w ∙ f));
-    disagreement = λ q n f. h.disagreement q n (sym w ∙ f);
-    agreed = λ f. record { asked = a; set = h.set (sym w ∙ f); count = k ∙ h.count (sym w ∙ f) };
-  }
+  -- the list is not settled
+  pub chosen_denied : (chosen : List Bool) (d : Denied) → ChosenIs e s t xs chosen (Err d) → DeniedIs Set d
+  chosen_denied chosen (Naming q n) h = h
+  chosen_denied chosen (Refused q) h = absurd h
 
 -- compared
 
 module _ (e : Edition) (s : Tree) (xs ys : List Token) (size : ℕ) where
   pub other_lacking : (B : Answer) (q : Refusal) → held_by C ys B ≡ refused q
-      → compare_answer.Refused q ≡ compared_of (compare_other e s xs ys size B)
-  unfolding compare_other compared_of
-  other_lacking B q h = ap compared_of (sym (then_refused (held_by C ys B) _ q h))
+      → Err (Refused q) ≡ compared_of (compare_other e s xs ys size B)
+  unfolding compare_other
+  other_lacking B q h = refused_result compared_parts _ q (then_refused (held_by C ys B) _ q h)
 
   pub other_compared : (t : Tree) (r : Option Named) → ClashIs e s t ys r → (n count : ℕ) (place : Option ℕ) → n ≡ size → count ≡ length ys
       → place ≡ place_if xs (missing (keys_of e xs) (keys_of e ys) 0)
-      → compare_answer.Compared (record { size = n; count = count; missing = place; clash = r })
+      → Ok (record { size = n; count = count; missing = place; clash = r })
       ≡ compared_of (compare_other e s xs ys size (answer_to e (record { first = s; second = t }) ys))
-  unfolding compare_other compared_of comparison
+  unfolding compare_other result_of compared_parts comparison
   other_compared t r k n count place d c f =
       rw (d, c, f, k.named_is) refl
       ∙ ap compared_of (sym (then_found (held_by C ys (answer_to e (record { first = s; second = t }) ys))
@@ -198,14 +133,8 @@ module _ (e : Edition) (s t : Tree) (xs ys : List Token) where
   unfolding compare_lists compare_answers required_set
   lists_then = refl
 
-  pub lists_refused : (q : Refusal) → required_set e (record { first = s; second = t }) xs ≡ refused q → compare_answer.Refused q ≡ compared_of Lists
-  unfolding compared_of
-  lists_refused q h = ap compared_of (sym (lists_then ∙ then_refused _ On q h))
-
-  pub lists_naming : (q : Refusal) (n : Named) → NamingIs (required_set e (record { first = s; second = t }) xs) q n
-      → compare_answer.Naming q n ≡ compared_of Lists
-  unfolding compared_of and_then
-  lists_naming q n k = rw k.named refl ∙ ap compared_of (sym (lists_then ∙ ap (λ x. and_then x On) k.is))
+  pub lists_denied : (d : Denied) → DeniedIs (required_set e (record { first = s; second = t }) xs) d → Err d ≡ compared_of Lists
+  lists_denied d h = denied_result compared_parts _ On d h ∙ ap compared_of (sym lists_then)
 
   pub lists_found : (X : List Label) → required_set e (record { first = s; second = t }) xs ≡ found X → Lists ≡ On X
   lists_found X h = lists_then ∙ then_found _ On X h

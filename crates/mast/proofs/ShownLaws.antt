@@ -19,8 +19,8 @@ use Rattle.agreement.specs.Places.{place_in, token_in, place_of_label, token_of_
 use Rattle.agreement.proofs.PlaceLaws.{list_listed, listed_key}
 use Rattle.agreement.proofs.EditionText.{spelled_shown, spelled_good, spelled_key}
 use Rattle.pairs.specs.Outcome.{Outcome, Trio, found}
-use Rattle.mast.specs.NamedLabels.{named_label, named_of}
-use Rattle.mast.specs.Largest.{Solution, solution, set_places, largest_of}
+use Rattle.mast.specs.NamedLabels.{named_label, named_of, result_of}
+use Rattle.mast.specs.Largest.{Solution, solution, set_places, found_set, largest_of, set_of_answer}
 use Rattle.mast.specs.Shown.{HeldAndListed, ShownInTree, ShownInList, NameShown, NamesShown}
 
 -- ---- one label
@@ -75,8 +75,8 @@ module _ (e : Edition) (s : Tree) (X : List Label) (v : ValidIn e s) (held : (x 
       (leaf_is_shown e (get_or X r []) s v (held (get_or X r []) (at_in X r h)))
 
   pub set_is_shown : (t : Tree) (xs : List Token) (text : List ℕ) → text ≡ text_of s → (x : Outcome Solution) → x ≡ found (solution e s t xs X)
-      → SetShown text (largest_of x).set
-  unfolding largest_of
+      → SetShown text (set_of_answer (largest_of x))
+  unfolding result_of found_set set_of_answer
   set_is_shown t xs text d x k =
-      subst (λ (y : Outcome Solution). SetShown text (largest_of y).set) (sym k)
+      subst (λ (y : Outcome Solution). SetShown text (set_of_answer (largest_of y))) (sym k)
       (subst (λ (w : List ℕ). SetShown w (set_places (folded e s) X)) (sym d) places_shown)

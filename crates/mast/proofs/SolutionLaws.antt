@@ -1,12 +1,13 @@
 -- What the writer says of the restriction to a set is what the set comes to. Assumes nothing.
 use Prim.Native.Nat.{ℕ}
-use mathlib.Core.Path.{◌≡◌, refl, sym, ◌∙◌, ap}
+use mathlib.Core.Path.{◌≡◌, refl, sym, ◌∙◌, ap, subst}
 use mathlib.Core.Bool.{Bool, true, false}
 use mathlib.Core.Logic.{◌⊎◌, inl, inr}
 use mathlib.Core.List.{List, [], ◌∷◌}
 use mathlib.Core.Option.{Option, some, none}
 use native.Mathlib.Omega.{arith}
 use lib.Dec.{leb}
+use Rattle.std.specs.Prelude.{Result, Ok, Err, IsErr}
 use lib.ListN.{length}
 use types.Run.{OneOf}
 use denote.Enum.Declared.{tag_of}
@@ -23,8 +24,6 @@ use Rattle.trees.proofs.ArrayLaws.{stands}
 use Rattle.trees.proofs.EditionLaws.{valid_spelled, valid_folded, arrays_folded}
 use Rattle.trees.proofs.TokenLaws.{valid_decoded}
 use Rattle.lists.specs.declared.LabelPlaces.{LabelPlaces}
-use Rattle.lists.specs.ReadList.{places_of}
-use Rattle.std.specs.Prelude.{Ok, Err}
 use Rattle.writer.specs.declared.WriteError.{WriteError}
 use Rattle.writer.specs.declared.WriteError.TheVariants.{Refused}
 use Rattle.newick.proofs.Keys.{left_over}
@@ -34,18 +33,23 @@ use Rattle.agreement.specs.Restrict.{restrict_in}
 use Rattle.agreement.specs.Places.{kept_text_in}
 use Rattle.restriction.specs.Kept.{standing_of, kept_standing}
 use Rattle.restriction.proofs.RestrictionLaws.{own_kept}
-use Rattle.mast.specs.declared.LargestAnswer.TheVariants.{Found, Naming, Refused as NotFound}
-use Rattle.mast.specs.declared.Named.{Named}
-use Rattle.pairs.specs.Outcome.{Outcome, Trio, refused, naming, found}
-use Rattle.mast.specs.NamedLabels.{named_of}
+use Rattle.mast.specs.declared.Denied.{Denied}
+use Rattle.mast.specs.declared.Denied.TheVariants as denied
+use Rattle.mast.specs.declared.Divided.{Divided}
+use Rattle.mast.specs.declared.Found.{Found}
+use Rattle.pairs.specs.Outcome.{Outcome, refused, found, and_then}
+use Rattle.mast.specs.NamedLabels.{result_of}
+use Rattle.mast.specs.PiecesWith.{PiecesWith}
+use Rattle.mast.specs.Settled.{DeniedIs}
+use Rattle.mast.proofs.DeniedLaws.{denied_result}
 use Rattle.pairs.specs.TwoTrees.{Trees}
 use Rattle.queries.specs.Query.{required_set}
-use Rattle.mast.specs.Largest.{Solution, solution, solution_text, too_short, fitted, solution_of, solve_list, set_places, largest_of, output_of}
+use Rattle.mast.specs.Largest.{Solution, solution, solution_text, too_short, fitted, solution_of, solve_list, set_places, found_set, largest_of, output_of}
 use Rattle.pairs.specs.declared.CommonOrder.{CommonOrder}
 use Rattle.pairs.specs.PairRead.{OwnTrees}
-use Rattle.mast.specs.SetByRank.{InRange, Flagged, ByRank, result_from}
+use Rattle.mast.specs.SetByRank.{InRange, Flagged, ByRank}
 use Rattle.pairs.proofs.RankLaws.{proper_nodes}
-use Rattle.pairs.proofs.StepLaws.{then_refused, then_naming, then_found}
+use Rattle.pairs.proofs.StepLaws.{then_found}
 
 kept_standing_text : (e : Edition) (o : Option Tree) → standing_text e (standing_of o) ≡ some (kept_text_in e o)
 unfolding standing_text standing_of kept_text_in
@@ -70,12 +74,12 @@ module _ {e : Edition} {s : Tree} {C : List Label} {tree : TreeArrays} {text ord
 -- the writer's answer is the text's length, or number 9
 module _ (r : Solution) where
   written_solved : (room n : ℕ) → text_answer (some (solution_text r)) room ≡ Ok n
-      → result_from (Found (length r.set) n) (set_places (folded r.edition r.first) r.set) ≡ largest_of (fitted room r)
-  unfolding text_answer fitted largest_of
+      → Ok (record { size = length r.set; length = n; set = set_places (folded r.edition r.first) r.set }) ≡ largest_of (fitted room r)
+  unfolding text_answer fitted result_of found_set
   written_solved room n d = go (bool_cases (leb (length (solution_text r)) room))
     where
       go : (leb (length (solution_text r)) room ≡ true) ⊎ (leb (length (solution_text r)) room ≡ false)
-          → result_from (Found (length r.set) n) (set_places (folded r.edition r.first) r.set) ≡ largest_of (fitted room r)
+          → Ok (record { size = length r.set; length = n; set = set_places (folded r.edition r.first) r.set }) ≡ largest_of (fitted room r)
       go (inl h) =
           let w : Ok (length (solution_text r)) ≡ Ok n = rw h at d in
           let k : length (solution_text r) ≡ n = cc in
@@ -86,12 +90,12 @@ module _ (r : Solution) where
           absurd (omega arith)
 
   other_short : (room : ℕ) (w : WriteError) → text_answer (some (solution_text r)) room ≡ Err w
-      → result_from (NotFound too_short) (places_of []) ≡ largest_of (fitted room r)
-  unfolding text_answer fitted largest_of
+      → Err (denied.Refused too_short) ≡ largest_of (fitted room r)
+  unfolding text_answer fitted result_of
   other_short room w d = go (bool_cases (leb (length (solution_text r)) room))
     where
       go : (leb (length (solution_text r)) room ≡ true) ⊎ (leb (length (solution_text r)) room ≡ false)
-          → result_from (NotFound too_short) (places_of []) ≡ largest_of (fitted room r)
+          → Err (denied.Refused too_short) ≡ largest_of (fitted room r)
       go (inl h) =
           let v : Ok (length (solution_text r)) ≡ Err w = rw h at d in
           let z : ◌≡◌ {A = ℕ} 0 1 = cc in
@@ -109,12 +113,12 @@ module _ (r : Solution) where
 
 module _ (r : Solution) (a : Standing) (out : List ℕ) (d : standing_text r.edition a ≡ some (solution_text r)) where
   pub set_written : (n : ℕ) → write_answer r.edition a (length out) ≡ Ok n
-      → result_from (Found (length r.set) n) (set_places (folded r.edition r.first) r.set) ≡ largest_of (fitted (length out) r)
+      → Ok (record { size = length r.set; length = n; set = set_places (folded r.edition r.first) r.set }) ≡ largest_of (fitted (length out) r)
   unfolding write_answer
   set_written n h = written_solved r (length out) n (rw d at h)
 
   pub set_refused : (w : WriteError) → write_answer r.edition a (length out) ≡ Err w
-      → result_from (NotFound too_short) (places_of []) ≡ largest_of (fitted (length out) r)
+      → Err (denied.Refused too_short) ≡ largest_of (fitted (length out) r)
   unfolding write_answer
   set_refused w h = other_short r (length out) w (rw d at h)
 
@@ -123,9 +127,10 @@ module _ (r : Solution) (a : Standing) (out : List ℕ) (d : standing_text r.edi
   set_output = ap (λ o. text_output o out) d ∙ fitted_output r out
 
 pub placed_result : (p : LabelPlaces) (s : Tree) (X : List Label) (n : ℕ) → p ≡ set_places s X
-    → result_from (Found p.count n) p ≡ result_from (Found (length X) n) (set_places s X)
+    → ◌≡◌ {A = Result Found Denied} (Ok (record { size = p.count; length = n; set = p }))
+    (Ok (record { size = length X; length = n; set = set_places s X }))
 unfolding set_places
-placed_result p s X n e = ap (λ q. result_from (Found q.count n) q) e
+placed_result p s X n e = ap (λ (q : LabelPlaces). Ok (record { size = q.count; length = n; set = q })) e
 
 -- the first tree as it stands, with its leaves by rank
 
@@ -158,30 +163,27 @@ module _ (e : Edition) (p : Trees) (xs : List Token) (out : List ℕ) where
   unfolding solve_list solution_of required_set
   answered_set X h = then_found (required_set e p xs) _ X h
 
-  pub answered_refused : (q : Refusal) → required_set e p xs ≡ refused q → Answered ≡ refused q
+  -- what comes after the list
+  abbrev On : List Label → Outcome Solution
+  On X = fitted (length out) (solution e p.first p.second xs X)
+
+  answered_then : Answered ≡ and_then (required_set e p xs) On
   unfolding solve_list solution_of required_set
-  answered_refused q h = then_refused (required_set e p xs) _ q h
+  answered_then = refl
 
-  pub answered_naming : (q : Refusal) (n : Trio) → required_set e p xs ≡ naming q n → Answered ≡ naming q n
-  unfolding solve_list solution_of required_set
-  answered_naming q n h = then_naming (required_set e p xs) _ q n h
+  pub answered_denied : (d : Denied) → DeniedIs (required_set e p xs) d → Err d ≡ largest_of Answered
+  answered_denied d h = denied_result found_set _ On d h ∙ ap largest_of (sym answered_then)
 
--- what is returned of a refusal; the output keeps every byte
+  pub denied_output : (d : Denied) → DeniedIs (required_set e p xs) d → out ≡ output_of Answered out
+  unfolding output_of and_then
+  denied_output (denied.Naming q n) h = ap (λ (y : Outcome (List Label)). output_of (and_then y On) out) (sym h.is) ∙ ap (λ (y : Outcome Solution). output_of y out) (sym answered_then)
+  denied_output (denied.Refused q) h = ap (λ (y : Outcome (List Label)). output_of (and_then y On) out) (sym h) ∙ ap (λ (y : Outcome Solution). output_of y out) (sym answered_then)
 
-module _ (x : Outcome Solution) (out : List ℕ) where
-  pub refused_answer : (q : Refusal) → x ≡ refused q → result_from (NotFound q) (places_of []) ≡ largest_of x
-  unfolding largest_of
-  refused_answer q h = ap largest_of (sym h)
+  pub denied_pieces : (d : Denied) → DeniedIs (required_set e p xs) d → (r : Result Divided Denied) → IsErr r → PiecesWith Answered r
+  unfolding and_then
+  denied_pieces (denied.Naming q n) h r k = subst (λ (y : Outcome Solution). PiecesWith y r) (ap (λ (y : Outcome (List Label)). and_then y On) (sym h.is) ∙ sym answered_then) k
+  denied_pieces (denied.Refused q) h r k = subst (λ (y : Outcome Solution). PiecesWith y r) (ap (λ (y : Outcome (List Label)). and_then y On) (sym h) ∙ sym answered_then) k
 
-  pub refused_output : (q : Refusal) → x ≡ refused q → out ≡ output_of x out
-  unfolding output_of
-  refused_output q h = ap (λ (y : Outcome Solution). output_of y out) (sym h)
-
-  pub naming_answer : (q : Refusal) (n : Trio) (named : Named) → named ≡ named_of n → x ≡ naming q n
-      → result_from (Naming q named) (places_of []) ≡ largest_of x
-  unfolding largest_of
-  naming_answer q n named d h = ap (λ (k : Named). result_from (Naming q k) (places_of [])) d ∙ ap largest_of (sym h)
-
-  pub naming_output : (q : Refusal) (n : Trio) → x ≡ naming q n → out ≡ output_of x out
-  unfolding output_of
-  naming_output q n h = ap (λ (y : Outcome Solution). output_of y out) (sym h)
+pub refused_output : (x : Outcome Solution) (out : List ℕ) (q : Refusal) → x ≡ refused q → out ≡ output_of x out
+unfolding output_of
+refused_output x out q h = ap (λ (y : Outcome Solution). output_of y out) (sym h)

@@ -1,6 +1,6 @@
 -- A further list of labels beside the largest set; a claimed set is judged by this. C-16: "A body with letter C, listed and read right after K
 -- and written like K, holds the claimed set."
-use Rattle.std.specs.Prelude.{ℕ, suc, ◌<◌, ◌≡◌, true, false, cond, List, [], ◌∷◌, length, get_or, Some, None, Option as Optional}
+use Rattle.std.specs.Prelude.{ℕ, suc, ◌<◌, ◌≡◌, true, false, cond, List, [], ◌∷◌, length, get_or, Some, None, Result, Option as Optional}
 use Rattle.std.proofs.Math.Option.{Option, some, none}
 use Rattle.trees.specs.declared.Body.TheVariants.{K, C}
 use Rattle.trees.specs.declared.Edition.{Edition}
@@ -11,11 +11,11 @@ use Rattle.lists.specs.ReadList.{keys_of}
 use Rattle.agreement.specs.Answer.{Three, Answer}
 use Rattle.agreement.specs.Places.{place_of_number}
 use Rattle.mast.specs.declared.Named.{Named}
-use Rattle.mast.specs.declared.CompareAnswer.{CompareAnswer}
-use Rattle.mast.specs.declared.CompareAnswer.TheVariants as compare_answer
-use Rattle.pairs.specs.Outcome.{Outcome, refused, naming, found, and_then, trio}
+use Rattle.mast.specs.declared.Compared.{Compared}
+use Rattle.mast.specs.declared.Denied.{Denied}
+use Rattle.pairs.specs.Outcome.{Outcome, found, and_then, trio}
 use Rattle.pairs.specs.TwoTrees.{Trees, trees_of}
-use Rattle.mast.specs.NamedLabels.{named_of}
+use Rattle.mast.specs.NamedLabels.{named_of, result_of}
 use Rattle.queries.specs.Query.{Task, AllHeld, with_clash, with_set, list_of, answer_to, held_by, required_of}
 
 pub record Comparison : Type 0 where
@@ -96,14 +96,15 @@ named_if e s ys none = None
 named_if e s ys (some r) = Some (named_of (trio e s ys r.one r.two r.three))
 
 -- the sizes, the place of the first missing label, and the three labels; or a refusal
-unfoldable pub compared_of : Outcome Comparison → CompareAnswer
-unfolding place_if named_if named_of
-compared_of (found c) =
-    compare_answer.Compared (record {
+unfoldable pub compared_parts : Comparison → Compared
+unfolding place_if named_if
+compared_parts c =
+    record {
       size = c.size;
       count = length c.further;
       missing = place_if c.required c.missed;
       clash = named_if c.edition c.first c.further c.clash;
-    })
-compared_of (naming q n) = compare_answer.Naming q (named_of n)
-compared_of (refused q) = compare_answer.Refused q
+    }
+
+abbrev pub compared_of : Outcome Comparison → Result Compared Denied
+compared_of x = result_of compared_parts x

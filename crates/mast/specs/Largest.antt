@@ -1,5 +1,5 @@
 -- The largest set: the answer to three texts and an output. 01, "Job and printed result", "Why a job is turned down".
-use Rattle.std.specs.Prelude.{ℕ, cond, List, [], ◌++◌, map, leb, length, drop}
+use Rattle.std.specs.Prelude.{ℕ, cond, List, [], ◌++◌, map, leb, length, drop, Result, Ok, Err}
 use Rattle.trees.specs.declared.Reason.TheVariants.{TooShort}
 use Rattle.trees.specs.declared.Body.TheVariants.{K, O}
 use Rattle.trees.specs.declared.Refusal.{Refusal}
@@ -14,11 +14,11 @@ use Rattle.agreement.specs.Sets.{set_of}
 use Rattle.agreement.specs.Restrict.{restrict_in}
 use Rattle.agreement.specs.Answer.{Answer}
 use Rattle.agreement.specs.Places.{token_in, place_in, kept_text_in}
-use Rattle.mast.specs.declared.LargestAnswer.TheVariants.{Found, Naming, Refused}
-use Rattle.mast.specs.declared.LargestResult.{LargestResult}
+use Rattle.mast.specs.declared.Denied.{Denied}
+use Rattle.mast.specs.declared.Found.{Found}
 use Rattle.pairs.specs.Outcome.{Outcome, refused, naming, found, and_then}
 use Rattle.pairs.specs.TwoTrees.{Trees, trees_of}
-use Rattle.mast.specs.NamedLabels.{named_of}
+use Rattle.mast.specs.NamedLabels.{result_of}
 use Rattle.queries.specs.Query.{Task, list_of, answer_to, required_of}
 
 -- the answer: the set in label order, by its keys; the two trees, of which the first spells all that is printed, and the required list
@@ -68,14 +68,19 @@ unfoldable pub set_places : Tree → List Label → LabelPlaces
 set_places s X =
     record { count = length X; start = padded (map (place_in s 0) X); size = padded (map (λ (x : Label). length (token_in s x)) X) }
 
--- What is returned: the size and the text's length, with the set's places; the three labels that a refusal names; or the refusal. "On refusal no
--- set and no count is returned."
-unfoldable pub largest_of : Outcome Solution → LargestResult
-unfolding set_places solution_text named_of
-largest_of (found r) =
-    record { answer = Found (length r.set) (length (solution_text r)); set = set_places (folded r.edition r.first) r.set }
-largest_of (naming q n) = record { answer = Naming q (named_of n); set = places_of [] }
-largest_of (refused q) = record { answer = Refused q; set = places_of [] }
+-- what is returned: the size and the text's length, with the set's places; the three labels that a refusal names; or the refusal
+unfoldable pub found_set : Solution → Found
+unfolding set_places solution_text
+found_set r =
+    record { size = length r.set; length = length (solution_text r); set = set_places (folded r.edition r.first) r.set }
+
+abbrev pub largest_of : Outcome Solution → Result Found Denied
+largest_of x = result_of found_set x
+
+-- the set of an answer; a refusal has none
+unfoldable pub set_of_answer : Result Found Denied → LabelPlaces
+set_of_answer (Ok f) = f.set
+set_of_answer (Err d) = places_of []
 
 -- what the output then holds: "On success the output holds the normal text and its further bytes are unchanged"; otherwise
 -- "an output keeps every byte"

@@ -9,8 +9,6 @@ use Rattle.trees.specs.Text.{text_of}
 use Rattle.trees.specs.Arrays.{nodes_of, node_limit, arrays_of}
 use Rattle.trees.specs.Postorder.{postorder, subtree}
 use Rattle.lists.specs.declared.LabelPlaces.{LabelPlaces}
-use Rattle.mast.specs.declared.LargestAnswer.{LargestAnswer}
-use Rattle.mast.specs.declared.LargestResult.{LargestResult}
 use Rattle.leaves.specs.Numbered.{Numbered}
 
 -- the first m entries are node numbers: what keeps indices in range
@@ -37,6 +35,3 @@ pub record ByRank (e : Edition) (t : Tree) (C : List Label) (tree : TreeArrays) 
   pub text_is : text ≡ text_of t
   pub count : m ≡ length C
   pub numbered : Numbered (keyed e t) C order
-
-abbrev pub result_from : LargestAnswer → LabelPlaces → LargestResult
-result_from a p = record { answer = a; set = p }

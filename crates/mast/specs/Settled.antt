@@ -1,5 +1,5 @@
 -- The required list settled: 6, 7, 8, or the set by rank. Intermediate: nothing public rests on this text.
-use Rattle.std.specs.Prelude.{ℕ, ◌≡◌, Bool, cond, List, ltb, length, get_or, Option, Some, None}
+use Rattle.std.specs.Prelude.{ℕ, ◌≡◌, Bool, cond, List, ltb, length, get_or, Option, Some, None, Result, Ok, Err}
 use Rattle.trees.specs.declared.Edition.{Edition}
 use Rattle.trees.specs.declared.Refusal.{Refusal}
 use Rattle.trees.specs.declared.TreeArrays.{TreeArrays}
@@ -12,8 +12,8 @@ use Rattle.lists.specs.ReadList.{folded_list}
 use Rattle.agreement.specs.Sets.{common}
 use Rattle.table.specs.Choice.{chosen_from}
 use Rattle.mast.specs.declared.Named.{Named}
-use Rattle.mast.specs.declared.settle.ListFate.TheVariants as fate
-use Rattle.mast.specs.declared.settle.Chosen.{Chosen}
+use Rattle.mast.specs.declared.Denied.{Denied}
+use Rattle.mast.specs.declared.Denied.TheVariants.{Naming, Refused}
 use Rattle.mast.specs.declared.settle.Settled.{Settled}
 use Rattle.pairs.specs.declared.CommonOrder.{CommonOrder}
 use Rattle.pairs.specs.Outcome.{Outcome, Trio, refused, naming, found}
@@ -33,12 +33,17 @@ pub record NamingIs (x : Outcome (List Label)) (q : Refusal) (n : Named) : Type 
   pub is : x ≡ naming q labels
   pub named : n ≡ named_of labels
 
--- for a list whose labels are all common
-pub record ChosenIs (e : Edition) (s t : Tree) (xs : List Token) (chosen : List Bool) (r : Chosen) : Type 0 where
-  pub never : (q : Refusal) → r.fate ≡ fate.Refused q → ⊥
-  pub disagreement : (q : Refusal) (n : Named) → r.fate ≡ fate.Naming q n → NamingIs (required_set e (record { first = s; second = t }) xs) q n
-  pub set : r.fate ≡ fate.Agreed → required_set e (record { first = s; second = t }) xs ≡ found (chosen_of e s t chosen)
-  pub count : r.fate ≡ fate.Agreed → r.size ≡ length (chosen_of e s t chosen)
+-- a refusal of a list, with the labels that it names
+abbrev pub DeniedIs : Outcome (List Label) → Denied → Type 0
+DeniedIs x (Naming q n) = NamingIs x q n
+DeniedIs x (Refused q) = x ≡ refused q
+
+-- for a list whose labels are all common, so that no label is lacked
+abbrev pub ChosenIs : Edition → (s t : Tree) → List Token → List Bool → Result ℕ Denied → Type 0
+ChosenIs e s t xs chosen (Ok size) =
+    (required_set e (record { first = s; second = t }) xs ≡ found (chosen_of e s t chosen)) × (size ≡ length (chosen_of e s t chosen))
+ChosenIs e s t xs chosen (Err (Naming q n)) = NamingIs (required_set e (record { first = s; second = t }) xs) q n
+ChosenIs e s t xs chosen (Err (Refused q)) = ⊥
 
 -- for two trees and a list that were read
 module _ {e : Edition} {first : List ℕ} {tree1 tree2 : TreeArrays} {order : CommonOrder} {list : List ℕ} {places : LabelPlaces}
@@ -48,10 +53,9 @@ module _ {e : Edition} {first : List ℕ} {tree1 tree2 : TreeArrays} {order : Co
     pub set : required_set e (trees_in b) l.xs ≡ found (chosen_of e b.s b.t r.chosen)
     pub count : r.size ≡ length (chosen_of e b.s b.t r.chosen)
 
-  pub record SettledIs (r : Settled) : Type 0 where
-    pub lack : (q : Refusal) → r.fate ≡ fate.Refused q → required_set e (trees_in b) l.xs ≡ refused q
-    pub disagreement : (q : Refusal) (n : Named) → r.fate ≡ fate.Naming q n → NamingIs (required_set e (trees_in b) l.xs) q n
-    pub agreed : r.fate ≡ fate.Agreed → AgreedOn r
+  abbrev pub SettledIs : Result Settled Denied → Type 0
+  SettledIs (Ok r) = AgreedOn r
+  SettledIs (Err d) = DeniedIs (required_set e (trees_in b) l.xs) d
 
 -- the place in the required list of its label k, if it has so many
 abbrev pub lacked_at : LabelPlaces → ℕ → Option ℕ

@@ -10,8 +10,8 @@ ghost use Rattle.mast.specs.ListMarks.{nearer_of, least_missing};
 ghost use Rattle.mast.specs.Settled.{lacked_at, chosen_of, AgreedOn};
 
 use crate::clash::clash_in;
-use crate::settle::{ListFate, Settled, settle};
-use crate::{CompareAnswer, Compared};
+use crate::settle::{Settled, settle};
+use crate::{Compared, Denied};
 use lists::LabelPlaces;
 use pairs::CommonOrder;
 use queries::mark_list;
@@ -76,7 +76,7 @@ fn beside(
     places: LabelPlaces,
     other: &[u8],
     others: LabelPlaces,
-) -> CompareAnswer
+) -> Result<Compared, Denied>
     requires { OwnTrees edition first.now tree1 tree2 order × OwnLabels edition other.now others }
     ensures { (list : List ℕ) (b : OwnTrees edition first.now tree1 tree2 order) (l : OwnLabels edition list places)
         (k : OwnLabels edition other.now others) → AgreedOn b l settled
@@ -84,12 +84,9 @@ fn beside(
         (compare_other edition b.s l.xs k.xs (length (chosen_of edition b.s b.t settled.chosen))
         (answer_to edition (trees_in b) k.xs)) }
 {
-    let claimed = match mark_list(edition, first, tree1, order, other, others, Body::C) {
-        Ok(claimed) => claimed,
-        Err(refusal) => return CompareAnswer::Refused(refusal),
-    };
+    let claimed = mark_list(edition, first, tree1, order, other, others, Body::C)?;
     let number = settled.number;
-    CompareAnswer::Compared(Compared {
+    Ok(Compared {
         size: settled.size,
         count: others.count,
         missing: lacked_label(&number, &claimed, order.count, places),
@@ -108,22 +105,15 @@ pub(crate) fn compare_lists(
     places: LabelPlaces,
     other: &[u8],
     others: LabelPlaces,
-) -> CompareAnswer
+) -> Result<Compared, Denied>
     requires { OwnTrees edition first.now tree1 tree2 order × OwnLabels edition list.now places
         × OwnLabels edition other.now others }
     ensures { (b : OwnTrees edition first.now tree1 tree2 order)
         (l : OwnLabels edition list.now places) (k : OwnLabels edition other.now others)
         → result ≡ compared_of (compare_lists edition (trees_in b) l.xs k.xs) }
 {
-    let settled = settle(edition, first, tree1, tree2, order, list, places);
-    let fate = settled.fate;
-    match fate {
-        ListFate::Agreed => {
-            beside(
-                edition, first, tree1, tree2, order, settled, places, other, others,
-            )
-        }
-        ListFate::Naming(refusal, named) => CompareAnswer::Naming(refusal, named),
-        ListFate::Refused(refusal) => CompareAnswer::Refused(refusal),
-    }
+    let settled = settle(edition, first, tree1, tree2, order, list, places)?;
+    beside(
+        edition, first, tree1, tree2, order, settled, places, other, others,
+    )
 }

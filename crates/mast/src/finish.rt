@@ -2,7 +2,7 @@
 // text of its restriction; with it the pieces of the job, if they are asked for.
 //
 // Labels go by rank. Names that end in 1 are of the first tree.
-ghost use Rattle.std.specs.Prelude.{◌≡◌, true, false, cond, List, [], ℕ, ◌<◌, ◌≤◌, length, set};
+ghost use Rattle.std.specs.Prelude.{◌≡◌, true, false, cond, List, ℕ, ◌<◌, ◌≤◌, length, set};
 ghost use Rattle.trees.specs.Edition.{folded};
 ghost use Rattle.trees.specs.Label.{Label};
 ghost use Rattle.trees.specs.Token.{Token};
@@ -10,8 +10,7 @@ ghost use Rattle.trees.specs.Tree.{Tree, decoded, Valid, Proper};
 ghost use Rattle.trees.specs.Arrays.{arrays_of};
 ghost use Rattle.leaves.specs.Numbered.{Numbered};
 ghost use Rattle.table.specs.Choice.{chosen_from};
-ghost use Rattle.lists.specs.ReadList.{places_of, folded_list};
-ghost use Rattle.mast.specs.declared.LargestAnswer.TheVariants.{Found};
+ghost use Rattle.lists.specs.ReadList.{folded_list};
 ghost use Rattle.mast.specs.Largest.{solution, fitted, solve_list, set_places, largest_of, output_of};
 ghost use Rattle.pairs.specs.Outcome.{found};
 ghost use Rattle.pairs.specs.PairRead.{OwnTrees, trees_in};
@@ -20,11 +19,11 @@ ghost use Rattle.queries.specs.Query.{required_set};
 ghost use Rattle.queries.specs.RankedList.{AskedOf};
 ghost use Rattle.division.specs.PiecesAt.{PiecesAt};
 ghost use Rattle.mast.specs.PiecesWith.{PiecesWith, without_pieces};
-ghost use Rattle.mast.specs.SetByRank.{InRange, places_from, Stored, Flagged, ByRank, result_from};
+ghost use Rattle.mast.specs.SetByRank.{InRange, places_from, Stored, Flagged, ByRank};
 
-use crate::settle::{ListFate, settle};
-use crate::{DividedResult, LargestAnswer, LargestResult};
-use division::{divide, no_pieces};
+use crate::settle::settle;
+use crate::{Denied, Divided, Found};
+use division::{PiecePlaces, divide, no_pieces};
 use lists::LabelPlaces;
 use pairs::CommonOrder;
 use table::RANKS;
@@ -105,27 +104,6 @@ fn kept_leaves(
     kept
 }
 
-// No label has no place.
-fn no_places() -> LabelPlaces
-    ensures { result ≡ places_of [] }
-{
-    LabelPlaces {
-        count: 0,
-        start: [0u16; LEAF_LIMIT],
-        size: [0u8; LEAF_LIMIT],
-    }
-}
-
-// An answer that has no set.
-fn without_set(answer: LargestAnswer) -> LargestResult
-    ensures { result ≡ result_from answer (places_of []) }
-{
-    LargestResult {
-        answer,
-        set: no_places(),
-    }
-}
-
 // The answer with the set of the chosen labels, whose tree's text goes into `out`; or number 9, and `out` keeps every byte.
 fn solution(
     edition: Edition,
@@ -135,7 +113,7 @@ fn solution(
     m: usize,
     chosen: &[bool; LEAF_LIMIT],
     out: &mut [u8],
-) -> LargestResult
+) -> Result<Found, Denied>
     requires { (m ≤ 80) × InRange order1.now m }
     ensures answer { (s t : Tree) (xs : List Token) (C : List Label) → ByRank edition s C tree text.now order1.now m
         → result ≡ largest_of (fitted (length out.old) (solution edition s t xs (chosen_from chosen.now 0 C))) }
@@ -145,8 +123,8 @@ fn solution(
 {
     let kept = kept_leaves(order1, m, chosen);
     let written = writer::write_tree(edition, restriction::restrict_tree(tree, kept), text, out);
-    let Ok(bytes) = written else {
-        return without_set(LargestAnswer::Refused(Refusal {
+    let Ok(length) = written else {
+        return Err(Denied::Refused(Refusal {
             reason: Reason::TooShort,
             body: Body::O,
             place: 0,
@@ -155,63 +133,30 @@ fn solution(
     let start1 = tree.start;
     let size1 = tree.size;
     let set = set_places(order1, m, chosen, &start1, &size1);
-    LargestResult {
-        answer: LargestAnswer::Found(set.count, bytes),
+    Ok(Found {
+        size: set.count,
+        length,
         set,
-    }
+    })
 }
 
-// An answer without pieces.
-fn undivided(res: LargestResult) -> DividedResult
-    ensures result_value { without_pieces result ≡ res }
-    ensures count_value { result.pieces.count ≡ 0 }
-{
-    let answer = res.answer;
-    let set = res.set;
-    DividedResult {
-        answer,
-        set,
-        pieces: no_pieces(),
-    }
-}
-
-// An answer that has no set, and so no pieces.
-pub(crate) fn unanswered(answer: LargestAnswer) -> DividedResult
-    ensures result_value { without_pieces result ≡ result_from answer (places_of []) }
-    ensures count_value { result.pieces.count ≡ 0 }
-{
-    undivided(without_set(answer))
-}
-
-// An answer with the pieces if they are asked for and there is a set, otherwise without.
-fn with_pieces(
-    res: LargestResult,
+// The pieces, if they are asked for.
+fn pieces_if(
     asked: bool,
     tree1: TreeArrays,
     tree2: TreeArrays,
     order: CommonOrder,
     number: &[u8; RANKS],
     places: LabelPlaces,
-) -> DividedResult
-    ensures result_value { without_pieces result ≡ res }
-    ensures pieces_at { asked ≡ true → (n k : ℕ) → res.answer ≡ Found n k → (e : Edition) (s t : Tree) (xs : List Token) (X : List Label)
+) -> PiecePlaces
+    ensures { asked ≡ true → (e : Edition) (s t : Tree) (xs : List Token) (X : List Label)
         → AskedOf (folded e s) (folded e t) (folded_list e xs) tree1 tree2 order number.now places
-        → required_set e (record { first = s; second = t }) xs ≡ found X → PiecesAt e s t xs result.pieces }
-    ensures by_index { ((n k : ℕ) → res.answer ≡ Found n k → ⊥) → result.pieces.count ≡ 0 }
+        → required_set e (record { first = s; second = t }) xs ≡ found X → PiecesAt e s t xs result }
 {
-    let answer = res.answer;
-    let LargestAnswer::Found(_, _) = answer else {
-        return undivided(res);
-    };
     if !asked {
-        return undivided(res);
+        return no_pieces();
     }
-    let set = res.set;
-    DividedResult {
-        answer,
-        set,
-        pieces: divide(tree1, tree2, order, number, places),
-    }
+    divide(tree1, tree2, order, number, places)
 }
 
 // The answer to two trees and a required list that were read, with the pieces if they are asked for.
@@ -225,7 +170,7 @@ pub(crate) fn answer_list(
     places: LabelPlaces,
     asked: bool,
     out: &mut [u8],
-) -> DividedResult
+) -> Result<Divided, Denied>
     requires { OwnTrees edition first.now tree1 tree2 order × OwnLabels edition list.now places }
     ensures answer { (b : OwnTrees edition first.now tree1 tree2 order)
         (l : OwnLabels edition list.now places)
@@ -235,19 +180,18 @@ pub(crate) fn answer_list(
         → out.new ≡ output_of (solve_list edition (length out.old) (trees_in b) l.xs) out.old }
     ensures pieces { asked ≡ true → (b : OwnTrees edition first.now tree1 tree2 order)
         (l : OwnLabels edition list.now places)
-        → PiecesWith (solve_list edition (length out.old) (trees_in b) l.xs) result.pieces }
+        → PiecesWith (solve_list edition (length out.old) (trees_in b) l.xs) result }
 {
-    let settled = settle(edition, first, tree1, tree2, order, list, places);
-    let fate = settled.fate;
-    match fate {
-        ListFate::Agreed => {
-            let order1 = order.first;
-            let chosen = settled.chosen;
-            let result = solution(edition, tree1, first, &order1, order.count, &chosen, out);
-            let number = settled.number;
-            with_pieces(result, asked, tree1, tree2, order, &number, places)
-        }
-        ListFate::Naming(refusal, named) => unanswered(LargestAnswer::Naming(refusal, named)),
-        ListFate::Refused(refusal) => unanswered(LargestAnswer::Refused(refusal)),
-    }
+    let settled = settle(edition, first, tree1, tree2, order, list, places)?;
+    let order1 = order.first;
+    let chosen = settled.chosen;
+    let found = solution(edition, tree1, first, &order1, order.count, &chosen, out)?;
+    let set = found.set;
+    let number = settled.number;
+    Ok(Divided {
+        size: found.size,
+        length: found.length,
+        set,
+        pieces: pieces_if(asked, tree1, tree2, order, &number, places),
+    })
 }

@@ -5,12 +5,13 @@
 
 ghost use Rattle.std.specs.Prelude.{◌≡◌, true, length};
 ghost use Rattle.queries.specs.Query.{task};
+ghost use Rattle.mast.specs.declared.Denied.TheVariants as denied;
 ghost use Rattle.mast.specs.Largest.{solve, largest_of, output_of};
 ghost use Rattle.mast.specs.PiecesWith.{PiecesWith, without_pieces};
 ghost use Rattle.mast.specs.Compare.{compare, compared_of};
 
 use crate::beside::compare_lists;
-use crate::finish::{answer_list, unanswered};
+use crate::finish::answer_list;
 use division::PiecePlaces;
 use lists::LabelPlaces;
 use pairs::{Options, read_pair};
@@ -38,25 +39,34 @@ pub struct Named {
     pub third: NamedLabel,
 }
 
-// The size of the set and the length of its tree's text. Number 8, with the three required labels that it names. Or another refusal.
+// A refusal: number 8 with the three required labels that it names, or another. A claim's number 14 names three claimed ones.
 #[derive(Clone, Copy)]
-pub enum LargestAnswer {
-    Found(usize, usize),
+pub enum Denied {
     Naming(Refusal, Named),
     Refused(Refusal),
 }
 
-// The answer, and the places of the set's labels in the first tree's text, in label order. A refusal has no set.
+impl From<Refusal> for Denied {
+    ghost from_gives = { λ q d. d ≡ denied.Refused q };
+
+    fn from(refusal: Refusal) -> Denied {
+        Denied::Refused(refusal)
+    }
+}
+
+// The size of the set, the length of its tree's text, and the places of the set's labels in the first tree's text, in label order.
 #[derive(Clone, Copy)]
-pub struct LargestResult {
-    pub answer: LargestAnswer,
+pub struct Found {
+    pub size: usize,
+    pub length: usize,
     pub set: LabelPlaces,
 }
 
-// The same with the pieces of the job. A refusal has none.
+// The same with the pieces of the job.
 #[derive(Clone, Copy)]
-pub struct DividedResult {
-    pub answer: LargestAnswer,
+pub struct Divided {
+    pub size: usize,
+    pub length: usize,
     pub set: LabelPlaces,
     pub pieces: PiecePlaces,
 }
@@ -71,14 +81,6 @@ pub struct Compared {
     pub clash: Option<Named>,
 }
 
-// The comparison of a further list. Number 8, with the three required labels that it names. Or another refusal.
-#[derive(Clone, Copy)]
-pub enum CompareAnswer {
-    Compared(Compared),
-    Naming(Refusal, Named),
-    Refused(Refusal),
-}
-
 // The answer to three texts, as `largest` gives it, with the pieces of the job if they are asked for: the labels of the `at` lines by their
 // places in the first tree's text.
 pub fn largest_in_pieces(
@@ -88,7 +90,7 @@ pub fn largest_in_pieces(
     required: &[u8],
     asked: bool,
     out: &mut [u8],
-) -> DividedResult
+) -> Result<Divided, Denied>
     ensures answer { without_pieces result ≡ largest_of
         (solve (task options first.now second.now required.now) (length out.old)) }
     ensures output { out.new
@@ -97,17 +99,11 @@ pub fn largest_in_pieces(
         out.old }
     ensures pieces { asked ≡ true → PiecesWith
         (solve (task options first.now second.now required.now) (length out.old))
-        result.pieces }
+        result }
 {
-    let pair = match read_pair(options, first, second) {
-        Ok(pair) => pair,
-        Err(refusal) => return unanswered(LargestAnswer::Refused(refusal)),
-    };
     let edition = options.edition;
-    let places = match read_labels(edition, required, Body::K) {
-        Ok(places) => places,
-        Err(refusal) => return unanswered(LargestAnswer::Refused(refusal)),
-    };
+    let pair = read_pair(options, first, second)?;
+    let places = read_labels(edition, required, Body::K)?;
     let tree1 = pair.tree1;
     let tree2 = pair.tree2;
     let order = pair.order;
@@ -125,7 +121,7 @@ pub fn largest(
     second: &[u8],
     required: &[u8],
     out: &mut [u8],
-) -> LargestResult
+) -> Result<Found, Denied>
     ensures answer { result ≡ largest_of
         (solve (task options first.now second.now required.now) (length out.old)) }
     ensures output { out.new
@@ -133,10 +129,13 @@ pub fn largest(
         (solve (task options first.now second.now required.now) (length out.old))
         out.old }
 {
-    let divided = largest_in_pieces(options, first, second, required, false, out);
-    let answer = divided.answer;
+    let divided = largest_in_pieces(options, first, second, required, false, out)?;
     let set = divided.set;
-    LargestResult { answer, set }
+    Ok(Found {
+        size: divided.size,
+        length: divided.length,
+        set,
+    })
 }
 
 // Compares a further list with the largest set: whether it lacks a required label, whether three of its labels have different closer pairs,
@@ -148,23 +147,14 @@ pub fn compare(
     second: &[u8],
     required: &[u8],
     other: &[u8],
-) -> CompareAnswer
+) -> Result<Compared, Denied>
     ensures { result ≡ compared_of
         (compare (task options first.now second.now required.now) other.now) }
 {
-    let pair = match read_pair(options, first, second) {
-        Ok(pair) => pair,
-        Err(refusal) => return CompareAnswer::Refused(refusal),
-    };
     let edition = options.edition;
-    let listed = match read_labels(edition, required, Body::K) {
-        Ok(listed) => listed,
-        Err(refusal) => return CompareAnswer::Refused(refusal),
-    };
-    let further = match read_labels(edition, other, Body::C) {
-        Ok(further) => further,
-        Err(refusal) => return CompareAnswer::Refused(refusal),
-    };
+    let pair = read_pair(options, first, second)?;
+    let listed = read_labels(edition, required, Body::K)?;
+    let further = read_labels(edition, other, Body::C)?;
     let tree1 = pair.tree1;
     let tree2 = pair.tree2;
     let order = pair.order;

@@ -13,21 +13,13 @@ ghost use Rattle.queries.specs.RankedList.{AskedOf};
 ghost use Rattle.mast.specs.RankedQuery.{SomeAsked};
 ghost use Rattle.mast.specs.Settled.{ChosenIs, SettledIs};
 
-use crate::Named;
+use crate::Denied;
 use crate::clash::clash_in;
 use lists::LabelPlaces;
 use pairs::{CommonOrder, rank_leaves};
 use queries::mark_list;
 use table::{RANKS, largest_set};
 use trees::{Body, Edition, LEAF_LIMIT, NODE_LIMIT, Reason, Refusal, TreeArrays};
-
-// What becomes of the required list: the trees agree on it, or a refusal.
-#[derive(Clone, Copy)]
-pub(crate) enum ListFate {
-    Agreed,
-    Naming(Refusal, Named),
-    Refused(Refusal),
-}
 
 // Number 8.
 fn disagreement() -> Refusal
@@ -40,14 +32,7 @@ fn disagreement() -> Refusal
     }
 }
 
-// What becomes of a list of common labels, and how many labels are chosen.
-#[derive(Clone, Copy)]
-struct Chosen {
-    fate: ListFate,
-    size: usize,
-}
-
-// The labels chosen are the largest set, if the trees agree on the list.
+// How many labels are chosen: they are the largest set, if the trees agree on the list.
 fn choose(
     tree1: TreeArrays,
     tree2: TreeArrays,
@@ -55,7 +40,7 @@ fn choose(
     number: &[u8; RANKS],
     places: LabelPlaces,
     chosen: &mut [bool; LEAF_LIMIT],
-) -> Chosen
+) -> Result<usize, Denied>
     requires { SomeAsked tree1 tree2 order number.now places }
     ensures { (e : Edition) (s t : Tree) (xs : List Token)
         → AskedOf (folded e s) (folded e t) (folded_list e xs) tree1 tree2 order number.now places
@@ -79,23 +64,15 @@ fn choose(
         chosen,
     );
     if let Some(size) = answer {
-        return Chosen {
-            fate: ListFate::Agreed,
-            size,
-        };
+        return Ok(size);
     }
     let named = clash_in(tree1, tree2, order, number, places).unwrap();
-    Chosen {
-        fate: ListFate::Naming(disagreement(), named),
-        size: 0,
-    }
+    Err(Denied::Naming(disagreement(), named))
 }
 
-// The required list settled, with the list's marks and the labels chosen, whose number is `size`. If the trees do not agree on the list, nothing
-// reads these.
+// A required list on which the trees agree, with the list's marks and the labels chosen, whose number is `size`.
 #[derive(Clone, Copy)]
 pub(crate) struct Settled {
-    pub fate: ListFate,
     pub size: usize,
     pub number: [u8; RANKS],
     pub chosen: [bool; LEAF_LIMIT],
@@ -110,29 +87,17 @@ pub(crate) fn settle(
     order: CommonOrder,
     list: &[u8],
     places: LabelPlaces,
-) -> Settled
+) -> Result<Settled, Denied>
     requires { OwnTrees edition first.now tree1 tree2 order × OwnLabels edition list.now places }
     ensures { (b : OwnTrees edition first.now tree1 tree2 order) (l : OwnLabels edition list.now places)
         → SettledIs b l result }
 {
+    let number = mark_list(edition, first, tree1, order, list, places, Body::K)?;
     let mut chosen = [false; LEAF_LIMIT];
-    let number = match mark_list(edition, first, tree1, order, list, places, Body::K) {
-        Ok(number) => number,
-        Err(refusal) => {
-            return Settled {
-                fate: ListFate::Refused(refusal),
-                size: 0,
-                number: [0; RANKS],
-                chosen,
-            };
-        }
-    };
-    let told = choose(tree1, tree2, order, &number, places, &mut chosen);
-    let fate = told.fate;
-    Settled {
-        fate,
-        size: told.size,
+    let size = choose(tree1, tree2, order, &number, places, &mut chosen)?;
+    Ok(Settled {
+        size,
         number,
         chosen,
-    }
+    })
 }

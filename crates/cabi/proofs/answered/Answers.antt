@@ -1,19 +1,17 @@
 -- `cabi::answered` meets its contract: each answer of the engine has its numbers. Assumes nothing.
-use Rattle.cabi.proofs.NumberLaws.{largest_numbers_lem}
-use mathlib.Core.Path.{sym, ◌∙◌, ap}
+use mathlib.Core.Path.{◌∙◌}
+use Rattle.mast.specs.declared.Found.{Found}
+use Rattle.mast.specs.Largest.{found_set}
+use Rattle.cabi.specs.Numbers.{succeeded, numbers_of}
+use Rattle.cabi.proofs.NumberLaws.{told_numbers_lem}
 use Rattle.cabi.proofs.answered.Goals as goal
 
-pub returns-in-Found-clause-numbers : goal.returns-in-Found-clause-numbers
-returns-in-Found-clause-numbers c =
-    let e = c.largest-result.ensures in
-    c.succeeded.ensures ∙ largest_numbers_lem _ _ (sym c.in-Found.is ∙ ap (λ r. r.answer) e.answer)
+pub returns-in-Ok-clause-numbers : goal.returns-in-Ok-clause-numbers
+unfolding numbers_of found_set
+returns-in-Ok-clause-numbers c =
+    c.succeeded.ensures ∙ told_numbers_lem found_set (λ (f : Found). succeeded f.size f.length) _ _ c.in-Ok.ensures.answer
 
-pub returns-in-Naming-clause-numbers : goal.returns-in-Naming-clause-numbers
-returns-in-Naming-clause-numbers c =
-    let e = c.largest-result.ensures in
-    c.named_with.ensures ∙ largest_numbers_lem _ _ (sym c.in-Naming.is ∙ ap (λ r. r.answer) e.answer)
-
-pub returns-in-Refused-clause-numbers : goal.returns-in-Refused-clause-numbers
-returns-in-Refused-clause-numbers c =
-    let e = c.largest-result.ensures in
-    c.refused_with.ensures ∙ largest_numbers_lem _ _ (sym c.in-Refused.is ∙ ap (λ r. r.answer) e.answer)
+pub returns-in-Err-clause-numbers : goal.returns-in-Err-clause-numbers
+unfolding numbers_of found_set
+returns-in-Err-clause-numbers c =
+    c.denied_with.ensures ∙ told_numbers_lem found_set (λ (f : Found). succeeded f.size f.length) _ _ c.in-Err.ensures.answer

@@ -8,57 +8,59 @@ use Rattle.job.proofs.answer_laid.Goals as goal
 
 pub answer_bodies-requires : goal.answer_bodies-requires
 answer_bodies-requires c =
-    let a = c.args in (
-      omega (
-        arith,
-        list_ends a.job.now a.table c.requires.table_value,
-        c.place_of-2.ensures,
-        ap (length {A = ℕ})
-            c.bytes_of-k.ensures,
-        c.requires.job_len_bound,
-      ),
-      omega (
+    let a = c.args in record {
+      first_ends = omega (
         arith,
         first_ends a.job.now a.table c.requires.table_value,
         c.place_of.ensures,
         ap (length {A = ℕ})
             c.bytes_of-s.ensures,
         c.requires.job_len_bound,
-      ),
-    )
-
-pub answer_claim-requires-clause-list_bound : goal.answer_claim-requires-clause-list_bound
-answer_claim-requires-clause-list_bound c =
-    let a = c.args in (
-      omega (
+      );
+      list_ends = omega (
         arith,
         list_ends a.job.now a.table c.requires.table_value,
         c.place_of-2.ensures,
         ap (length {A = ℕ})
             c.bytes_of-k.ensures,
         c.requires.job_len_bound,
-      ),
-      omega (
+      );
+      claim_ends = omega (
+        arith,
+        claim_ends a.job.now a.table c.requires.table_value,
+        c.place_of-3.ensures,
+        c.requires.job_len_bound,
+      );
+    }
+
+pub answer_claim-requires : goal.answer_claim-requires
+answer_claim-requires c =
+    let a = c.args in record {
+      first_ends = omega (
         arith,
         first_ends a.job.now a.table c.requires.table_value,
         c.place_of.ensures,
         ap (length {A = ℕ})
             c.bytes_of-s.ensures,
         c.requires.job_len_bound,
-      ),
-    )
-
-pub answer_claim-requires-clause-claim_bound : goal.answer_claim-requires-clause-claim_bound
-answer_claim-requires-clause-claim_bound c =
-    let a = c.args in
-    omega (
-      arith,
-      claim_ends a.job.now a.table c.requires.table_value,
-      c.place_of-3.ensures,
-      ap (length {A = ℕ})
-          c.bytes_of.ensures,
-      c.requires.job_len_bound,
-    )
+      );
+      list_ends = omega (
+        arith,
+        list_ends a.job.now a.table c.requires.table_value,
+        c.place_of-2.ensures,
+        ap (length {A = ℕ})
+            c.bytes_of-k.ensures,
+        c.requires.job_len_bound,
+      );
+      claim_ends = omega (
+        arith,
+        claim_ends a.job.now a.table c.requires.table_value,
+        c.place_of-3.ensures,
+        ap (length {A = ℕ})
+            c.bytes_of.ensures,
+        c.requires.job_len_bound,
+      );
+    }
 
 pub returns-in-None-clause-answer : goal.returns-in-None-clause-answer
 returns-in-None-clause-answer c =

@@ -5,4 +5,4 @@ use Rattle.job.proofs.named_in.Goals as goal
 
 pub returns : goal.returns
 unfolding moved_by
-returns c = refl
+returns c = rw (c.label_in.ensures, c.label_in-2.ensures, c.label_in-3.ensures) refl

@@ -1,6 +1,7 @@
 -- `job::print_job` meets its contract: each kind of answer gives what is printed. Assumes nothing.
 use mathlib.Core.Path.{◌∙◌, sym, ap, ap₂}
 use lib.ListN.{length}
+use Rattle.std.specs.Prelude.{Err}
 use Rattle.lines.specs.Output.{line_answer, line_output}
 use Rattle.job.proofs.ClashLaws.{naming_line_lem}
 use Rattle.job.proofs.PrintLaws.{printed_lines, output_named, printed_nine, printed_refusal}
@@ -8,43 +9,43 @@ use Rattle.job.proofs.print_job.Goals as goal
 
 pub returns-then-number-eq9-clause-answer : goal.returns-then-number-eq9-clause-answer
 returns-then-number-eq9-clause-answer c =
-    let a = c.answer_job-answer in let e = sym a.ensures.answer ∙ c.in-Refused.is in
+    let a = c.answer_job in let e = sym c.in-Err-Refused.ensures.answer ∙ ap Err c.in-Err-Refused.field-0-is in
     let p = printed_nine c.args.job.now c.args.out.now _ e (sym c.number.ensures ∙ c.if-number-eq9.true) in
     p.0
 
 pub returns-then-number-eq9-clause-output : goal.returns-then-number-eq9-clause-output
 returns-then-number-eq9-clause-output c =
-    let a = c.answer_job-answer in let e = sym a.ensures.answer ∙ c.in-Refused.is in
+    let a = c.answer_job in let e = sym c.in-Err-Refused.ensures.answer ∙ ap Err c.in-Err-Refused.field-0-is in
     let p = printed_nine c.args.job.now c.args.out.now _ e (sym c.number.ensures ∙ c.if-number-eq9.true) in
     a.ensures.output ∙ p.1
 
-pub returns-in-Written-clause-answer : goal.returns-in-Written-clause-answer
-returns-in-Written-clause-answer c =
-    let a = c.answer_job-answer in let p = printed_lines c.args.job.now c.args.out.now _ (sym a.ensures.answer ∙ c.in-Written.is) in
+pub returns-in-Ok-clause-answer : goal.returns-in-Ok-clause-answer
+returns-in-Ok-clause-answer c =
+    let a = c.answer_job in let p = printed_lines c.args.job.now c.args.out.now _ (sym c.in-Ok.ensures.answer) in
     p.0
 
-pub returns-in-Written-clause-output : goal.returns-in-Written-clause-output
-returns-in-Written-clause-output c =
-    let a = c.answer_job-answer in let p = printed_lines c.args.job.now c.args.out.now _ (sym a.ensures.answer ∙ c.in-Written.is) in
+pub returns-in-Ok-clause-output : goal.returns-in-Ok-clause-output
+returns-in-Ok-clause-output c =
+    let a = c.answer_job in let p = printed_lines c.args.job.now c.args.out.now _ (sym c.in-Ok.ensures.answer) in
     a.ensures.output ∙ p.1
 
-pub returns-in-Naming-clause-answer : goal.returns-in-Naming-clause-answer
-returns-in-Naming-clause-answer c =
-    let a = c.answer_job-answer in let line = c.naming_line in let e = sym a.ensures.answer ∙ c.in-Naming.is in
+pub returns-in-Err-Naming-clause-answer : goal.returns-in-Err-Naming-clause-answer
+returns-in-Err-Naming-clause-answer c =
+    let a = c.answer_job in let line = c.naming_line in let e = sym c.in-Err-Naming.ensures.answer ∙ ap Err c.in-Err-Naming.field-0-is in
     let text = naming_line_lem c.args.job.now (length c.args.out.now) _ _ e in
     let same = a.ensures.output ∙ output_named c.args.job.now c.args.out.now _ e tt in
     line.ensures.answer ∙ ap₂ line_answer text (ap length same)
 
-pub returns-in-Naming-clause-output : goal.returns-in-Naming-clause-output
-returns-in-Naming-clause-output c =
-    let a = c.answer_job-answer in let line = c.naming_line in let e = sym a.ensures.answer ∙ c.in-Naming.is in
+pub returns-in-Err-Naming-clause-output : goal.returns-in-Err-Naming-clause-output
+returns-in-Err-Naming-clause-output c =
+    let a = c.answer_job in let line = c.naming_line in let e = sym c.in-Err-Naming.ensures.answer ∙ ap Err c.in-Err-Naming.field-0-is in
     let text = naming_line_lem c.args.job.now (length c.args.out.now) _ _ e in
     let same = a.ensures.output ∙ output_named c.args.job.now c.args.out.now _ e tt in
     line.ensures.output ∙ ap₂ line_output text same
 
 pub returns-else-number-eq9-clause-answer : goal.returns-else-number-eq9-clause-answer
 returns-else-number-eq9-clause-answer c =
-    let a = c.answer_job-answer in let line = c.refusal_line in let e = sym a.ensures.answer ∙ c.in-Refused.is in
+    let a = c.answer_job in let line = c.refusal_line in let e = sym c.in-Err-Refused.ensures.answer ∙ ap Err c.in-Err-Refused.field-0-is in
     let p = printed_refusal c.args.job.now c.args.out.now _ e (λ k. c.if-number-eq9.false
     (c.number.ensures ∙ k)) in
     let same = a.ensures.output ∙ p.1 in
@@ -52,7 +53,7 @@ returns-else-number-eq9-clause-answer c =
 
 pub returns-else-number-eq9-clause-output : goal.returns-else-number-eq9-clause-output
 returns-else-number-eq9-clause-output c =
-    let a = c.answer_job-answer in let line = c.refusal_line in let e = sym a.ensures.answer ∙ c.in-Refused.is in
+    let a = c.answer_job in let line = c.refusal_line in let e = sym c.in-Err-Refused.ensures.answer ∙ ap Err c.in-Err-Refused.field-0-is in
     let p = printed_refusal c.args.job.now c.args.out.now _ e (λ k. c.if-number-eq9.false
     (c.number.ensures ∙ k)) in
     let same = a.ensures.output ∙ p.1 in

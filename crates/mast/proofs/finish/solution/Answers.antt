@@ -13,8 +13,7 @@ returns-in_default c =
     let a = c.args in
     record {
       answer = λ s t xs C k.
-          c.without_set.ensures
-          ∙ set_refused (solution a.edition s t xs (chosen_from a.chosen.now 0 C)) (tree_of c.restrict_tree.result a.text.now) a.out.now
+          set_refused (solution a.edition s t xs (chosen_from a.chosen.now 0 C)) (tree_of c.restrict_tree.result a.text.now) a.out.now
           (restricted_text k t xs _ _ (c.kept_leaves-kept.ensures (keyed a.edition s) C (ranked_proper k) k.count k.numbered) _
           c.restrict_tree.ensures.tree)
           _ (sym c.write_tree-written.ensures.answer ∙ c.in_default.is);

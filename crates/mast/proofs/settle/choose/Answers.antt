@@ -1,7 +1,7 @@
 -- `settle::choose` meets its contract. Assumes nothing.
 use mathlib.Core.Path.{refl, sym, ◌∙◌}
 use Rattle.queries.specs.Query.{answer_to}
-use Rattle.mast.proofs.SettleLaws.{posed_asked, eight_named, eight_found, chosen_set, chosen_eight}
+use Rattle.mast.proofs.SettleLaws.{posed_asked, eight_named, eight_found, set_found}
 use Rattle.mast.proofs.settle.choose.Goals as goal
 
 pub returns-in-Some : goal.returns-in-Some
@@ -9,7 +9,7 @@ unfolding answer_to
 returns-in-Some c =
     λ e s t xs h.
     let k = c.largest_set-answer.ensures.solved _ _ _ (posed_asked e s t xs h c.rank_leaves.ensures c.rank_leaves-2.ensures) in
-    chosen_set e s t xs _ _ (k.set _ c.in-Some.is) (k.count _ c.in-Some.is)
+    (set_found e s t xs _ (k.set _ c.in-Some.is), k.count _ c.in-Some.is)
 
 pub unwrap-named-requires : goal.unwrap-named-requires
 unfolding answer_to
@@ -26,5 +26,5 @@ returns c =
     let k = (c.largest_set-answer.ensures.solved _ _ _ (posed_asked e s t xs h c.rank_leaves.ensures c.rank_leaves-2.ensures)
     ).disagreement c.in_default.is in
     rw c.disagreement.ensures
-    (chosen_eight e s t xs _ _
-    (eight_named e s t xs _ k.0 k.1 k.2 k.3 (sym c.unwrap-named.ensures ∙ eight_found e s t xs _ k.0 k.1 k.2 k.3 (c.clash_in.ensures e s t xs h))))
+    (eight_named e s t xs _ k.0 k.1 k.2 k.3
+    (sym c.unwrap-named.ensures ∙ eight_found e s t xs _ k.0 k.1 k.2 k.3 (c.clash_in.ensures e s t xs h)))

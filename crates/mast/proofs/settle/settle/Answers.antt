@@ -1,18 +1,27 @@
 -- `settle::settle` meets its contract. Assumes nothing.
-use mathlib.Core.Path.{refl}
-use Rattle.mast.proofs.SettleLaws.{settled_lack, settled_chosen}
+use Rattle.std.proofs.lemmas.Result.{err_from_is_err_and}
+use Rattle.mast.proofs.SettleLaws.{set_lacking, chosen_denied}
 use Rattle.mast.proofs.settle.settle.Goals as goal
 
-pub returns-in-Err : goal.returns-in-Err
-returns-in-Err c =
-    λ b l. settled_lack b l _ _ refl (c.in-Err.ensures _ b l)
+pub returns-in_err-number : goal.returns-in_err-number
+returns-in_err-number c =
+    λ b l.
+    let r = err_from_is_err_and c.from_residual.result c.from_residual.ensures.1 in
+    rw (r.1, r.2) (set_lacking _ b.s b.t l.xs _ (c.in_err-number.ensures _ b l))
 
-pub choose-told-requires : goal.choose-told-requires
-choose-told-requires c =
-    let p = c.requires in record { e = _; s = _; t = _; xs = _; of = c.in-Ok.ensures _ p.0 p.1 }
+pub choose-requires : goal.choose-requires
+choose-requires c =
+    let p = c.requires in record { e = _; s = _; t = _; xs = _; of = c.in_ok-number.ensures _ p.0 p.1 }
+
+pub returns-in_err-size : goal.returns-in_err-size
+returns-in_err-size c =
+    λ b l.
+    let r = err_from_is_err_and c.from_residual-in_err-size.result c.from_residual-in_err-size.ensures.1 in
+    rw (r.1, r.2) (chosen_denied _ b.s b.t l.xs c.choose.new.chosen _ (c.in_err-size.ensures _ b.s b.t l.xs (c.in_ok-number.ensures _ b l)))
 
 pub returns : goal.returns
 returns c =
     λ b l.
-    let a = c.in-Ok.ensures _ b l in
-    settled_chosen b l _ _ refl refl a (c.choose-told.ensures _ b.s b.t l.xs a)
+    let a = c.in_ok-number.ensures _ b l in
+    let h = c.in_ok-size.ensures _ b.s b.t l.xs a in
+    record { asked = a; set = h.0; count = h.1 }
