@@ -118,7 +118,7 @@ impl Halt {
     }
 }
 
-// A few bytes, kept apart from any text: the first `len` of them count.
+// A few bytes, kept apart from any text: the first `len` of them count. An array and a length, since there is no heap.
 #[derive(Clone, Copy)]
 pub struct ShortBytes<const N: usize> {
     pub bytes: [u8; N],
@@ -141,7 +141,8 @@ impl<const N: usize> ShortBytes<N> {
 }
 
 // A tree as arrays: children before parents, the root last, a leaf its own left child.
-// A leaf's label is the `size` bytes of the text from `start`. Entries are as narrow as a tree's limits allow: trees are passed by value.
+// A leaf's label is the `size` bytes of the text from `start`. Arrays of indices, since there is no heap, with entries as narrow as a tree's
+// limits allow.
 #[derive(Clone, Copy)]
 pub struct TreeArrays {
     pub nodes: usize,
@@ -151,7 +152,8 @@ pub struct TreeArrays {
     pub size: [u8; NODE_LIMIT],
 }
 
-// The class of each byte value: 1 a label byte, 2 `(`, 3 `)`, 4 `,`, 5 `;`, 6 a quote, 7 a blank, 0 any other.
+// The class of each byte value: 1 a label byte, 2 `(`, 3 `)`, 4 `,`, 5 `;`, 6 a quote, 7 a blank, 0 any other. Numbers, since
+// `classes` promises `class_table`, and `byte_has_one_class` is about its numbers.
 const CLASSES: [u8; 256] = [
     0, 0, 0, 0, 0, 0, 0, 0, 0, 0, 0, 0, 0, 0, 0, 0, 0, 0, 0, 0, 0, 0, 0, 0, 0, 0, 0, 0, 0, 0, 0, 0,
     7, 0, 0, 0, 0, 0, 0, 6, 2, 3, 0, 0, 4, 1, 1, 0, 1, 1, 1, 1, 1, 1, 1, 1, 1, 1, 0, 5, 0, 0, 0, 0,
@@ -368,7 +370,7 @@ pub fn wide_place(n: u16) -> usize
     n as usize
 }
 
-// The low byte of a number.
+// The low byte of a number. Two functions: a trait of both types would have the same two bodies, and a ghost member for what they give.
 pub fn narrow(n: usize) -> u8
     ensures { result ≡ n % 256 }
 {
