@@ -6,8 +6,9 @@ use mathlib.Core.Logic.{◌⊎◌, inl, inr}
 use mathlib.Core.Option.{Option, some, none}
 use mathlib.Core.List.{List, [], map}
 use native.Mathlib.Omega.{arith}
-use Rattle.std.specs.Prelude.{Option as Maybe, Result, Ok, Err}
-use lib.Dec.{eqb, ltb}
+use Rattle.std.specs.Prelude.{Option as Maybe, Some, None, is_some, Result, Ok, Err, min}
+use Rattle.std.specs.Option.{unwrap_or}
+use lib.Dec.{eqb}
 use lib.ListN.{length, get_or, drop, drop_of_length-le, length-map}
 use lib.Seq.{drop-cons}
 use borrow.Author.Tests.{lt-ltb, le-ltb, eqb-true, eqb-false}
@@ -21,7 +22,8 @@ use Rattle.trees.specs.Tree.{Tree, decoded, Valid}
 use Rattle.trees.specs.declared.Edition.{Edition}
 use Rattle.trees.specs.Edition.{folded, keyed, ValidIn}
 use Rattle.trees.specs.Text.{text_of}
-use Rattle.trees.specs.Arrays.{arrays_of, nodes_of}
+use Rattle.trees.specs.Arrays.{arrays_of, nodes_of, node_limit}
+use Rattle.trees.proofs.ArrayLaws.{nodes_leaves}
 use Rattle.trees.proofs.Bools.{bool_cases}
 use Rattle.trees.proofs.TokenLaws.{valid_decoded}
 use Rattle.trees.proofs.EditionLaws.{valid_folded, arrays_folded}
@@ -36,7 +38,7 @@ use Rattle.agreement.specs.Demand.{Clash}
 use Rattle.agreement.specs.Places.{place_of_number, place_of_label}
 use Rattle.agreement.proofs.SetLaws.{length_sorted, sorted_inc, inc_distinct, number_of}
 use Rattle.agreement.proofs.AnswerLaws.{FirstThree, clash_found}
-use Rattle.leaves.specs.Find.{found_leaf}
+use Rattle.leaves.specs.Find.{leaf_found}
 use Rattle.leaves.specs.Numbered.{LeafIs, Numbered}
 use Rattle.leaves.proofs.OwnLaws.{own_found, found, missing}
 use Rattle.triples.specs.declared.Indices.{Indices as Ranked}
@@ -50,33 +52,48 @@ use Rattle.triples.proofs.RowLaws.{rank_at}
 abbrev Lacking : Type 0
 Lacking = Result (Prim.Unit {0}) Refusal
 
--- the leaf numbers of the list's labels in a tree, both as they were read
-abbrev pub LeavesOf : Tree → List Token → List ℕ → Type 0
-LeavesOf t xs leaf = (k : ℕ) → k < length xs → get_or leaf k 0 ≡ own_found t (get_or (map spelling xs) k [])
+-- the leaf with a label
+abbrev own_leaf : Tree → Label → Maybe ℕ
+own_leaf t x = leaf_found (text_of t) (arrays_of t).left (arrays_of t).start (arrays_of t).size x (nodes_of t)
+
+-- the leaves of the list's labels in a tree, both as they were read
+abbrev pub LeavesOf : Tree → List Token → List (Maybe ℕ) → Type 0
+LeavesOf t xs leaf = (k : ℕ) → k < length xs → get_or leaf k None ≡ own_leaf t (get_or (map spelling xs) k [])
 
 pub leaves_of : (t : Tree) (xs : List Token) (text list : List ℕ) (tree : TreeArrays) (places : LabelPlaces) → text ≡ text_of t
-    → tree ≡ arrays_of t → list ≡ joined xs → places ≡ places_of xs → (leaf : List ℕ)
+    → tree ≡ arrays_of t → list ≡ joined xs → places ≡ places_of xs → (leaf : List (Maybe ℕ))
     → LeavesFound text tree (label_in list places.start places.size) places.count leaf → LeavesOf t xs leaf
 unfolding arrays_of places_of
 leaves_of t xs text list tree places e d l p leaf f k h =
     let c : places.count ≡ length xs = ap (λ (q : LabelPlaces). q.count) p in
     f k (omega arith)
-    ∙ ap (λ (z : List ℕ). found_leaf z tree.left tree.start tree.size (label_in list places.start places.size k) tree.nodes) e
+    ∙ ap (λ (z : List ℕ). leaf_found z tree.left tree.start tree.size (label_in list places.start places.size k) tree.nodes) e
     ∙ ap
-    (λ (z : TreeArrays). found_leaf (text_of t) z.left z.start z.size (label_in list places.start places.size k) z.nodes)
+    (λ (z : TreeArrays). leaf_found (text_of t) z.left z.start z.size (label_in list places.start places.size k) z.nodes)
     d
-    ∙ ap (λ (z : Label). found_leaf (text_of t) (arrays_of t).left (arrays_of t).start (arrays_of t).size z (nodes_of t))
+    ∙ ap (λ (z : Label). leaf_found (text_of t) (arrays_of t).left (arrays_of t).start (arrays_of t).size z (nodes_of t))
     (ap (λ (z : List ℕ). label_in z places.start places.size k) l
     ∙ ap (λ (z : LabelPlaces). label_in (joined xs) z.start z.size k) p
     ∙ label_at xs k h)
 
-holds_found : (t : Tree) (x : Label) → Valid t → ltb (own_found t x) (nodes_of t) ≡ holds (decoded t) x
-unfolding holds
-holds_found t x v = go (bool_cases (holds (decoded t) x))
-  where
-    go : (holds (decoded t) x ≡ true) ⊎ (holds (decoded t) x ≡ false) → ltb (own_found t x) (nodes_of t) ≡ holds (decoded t) x
-    go (inl h) = lt-ltb (own_found t x) (nodes_of t) (omega (arith, (found t x v h).below, decoded_nodes t)) ∙ sym h
-    go (inr h) = le-ltb (own_found t x) (nodes_of t) (omega (arith, missing t x v h)) ∙ sym h
+module _ (t : Tree) (x : Label) (v : Valid t) where
+  few_nodes : min (nodes_of t) node_limit ≡ nodes_of t
+  few_nodes = omega (arith, nodes_leaves (decoded t), (valid_decoded t v).few, decoded_nodes t)
+
+  held_leaf : holds (decoded t) x ≡ true → own_leaf t x ≡ Some (own_found t x)
+  unfolding holds leaf_found
+  held_leaf h = rw (few_nodes, lt-ltb (own_found t x) (nodes_of t) (omega (arith, (found t x v h).below, decoded_nodes t))) refl
+
+  lost_leaf : holds (decoded t) x ≡ false → own_leaf t x ≡ None
+  unfolding holds leaf_found
+  lost_leaf h = rw (few_nodes, le-ltb (own_found t x) (nodes_of t) (omega (arith, missing t x v h))) refl
+
+  has_leaf : is_some (own_leaf t x) ≡ holds (decoded t) x
+  has_leaf = go (bool_cases (holds (decoded t) x))
+    where
+      go : (holds (decoded t) x ≡ true) ⊎ (holds (decoded t) x ≡ false) → is_some (own_leaf t x) ≡ holds (decoded t) x
+      go (inl h) = ap is_some (held_leaf h) ∙ sym h
+      go (inr h) = ap is_some (lost_leaf h) ∙ sym h
 
 module _ (s t : Tree) (xs : List Token) (v : Valid s) (w : Valid t) (different : distinct (map spelling xs) ≡ true) where
   -- the trees and the labels that those read stand for
@@ -111,9 +128,9 @@ module _ (s t : Tree) (xs : List Token) (v : Valid s) (w : Valid t) (different :
   later k p q (lack_first n) = lack_first n
   later k p q (lack_second n) = lack_second n
 
-  module _ (leaf1 leaf2 : List ℕ) (l1 : LeavesOf s xs leaf1) (l2 : LeavesOf t xs leaf2) where
+  module _ (leaf1 leaf2 : List (Maybe ℕ)) (l1 : LeavesOf s xs leaf1) (l2 : LeavesOf t xs leaf2) where
     lack_of : (n k : ℕ) → n + k ≡ length xs
-        → Lack k (lacking S T (drop k labels) k) (lack_from leaf1 (nodes_of s) leaf2 (nodes_of t) (places_of xs).start n k)
+        → Lack k (lacking S T (drop k labels) k) (lack_from leaf1 leaf2 (places_of xs).start n k)
     unfolding lacking lack_from
     lack_of zero k e =
         let past : length labels ≤ k = omega (arith, as_many) in
@@ -123,14 +140,14 @@ module _ (s t : Tree) (xs : List Token) (v : Valid s) (w : Valid t) (different :
         let x = get_or labels k [] in
         rw (
           drop-cons labels k [] (omega (arith, as_many)),
-          ap (λ (u : ℕ). ltb u (nodes_of s)) (l1 k here) ∙ holds_found s x v,
-          ap (λ (u : ℕ). ltb u (nodes_of t)) (l2 k here) ∙ holds_found t x w,
+          ap is_some (l1 k here) ∙ has_leaf s x v,
+          ap is_some (l2 k here) ∙ has_leaf t x w,
           place_number xs k here,
         )
         (go (holds S x) refl (holds T x) refl (lack_of n (suc k) (omega arith)))
       where
         next : Lacking
-        next = lack_from leaf1 (nodes_of s) leaf2 (nodes_of t) (places_of xs).start n (suc k)
+        next = lack_from leaf1 leaf2 (places_of xs).start n (suc k)
 
         go : (a : Bool) → holds S (get_or labels k []) ≡ a → (b : Bool) → holds T (get_or labels k []) ≡ b
             → Lack (suc k) (lacking S T (drop (suc k) labels) (suc k)) next
@@ -177,13 +194,15 @@ module _ (s t : Tree) (xs : List Token) (v : Valid s) (w : Valid t) (different :
   module _ (order : List ℕ)
       (o : (r : ℕ) → r < length xs → (get_or order r 0 < length xs) × (get_or labels (get_or order r 0) [] ≡ get_or (sorted labels) r [])) where
     -- the leaves in that order are those of the sorted labels
-    leaves_ranked : (u : Tree) → Valid u → ((j : ℕ) → j < length xs → holds (decoded u) (get_or labels j []) ≡ true) → (leaf ranked : List ℕ)
-        → LeavesOf u xs leaf → ((r : ℕ) → r < length xs → get_or ranked r 0 ≡ get_or leaf (get_or order r 0) 0)
+    leaves_ranked : (u : Tree) → Valid u → ((j : ℕ) → j < length xs → holds (decoded u) (get_or labels j []) ≡ true) → (leaf : List (Maybe ℕ)) (ranked : List ℕ)
+        → LeavesOf u xs leaf → ((r : ℕ) → r < length xs → get_or ranked r 0 ≡ unwrap_or (get_or leaf (get_or order r 0) None) 0)
         → Numbered (decoded u) (sorted labels) ranked
     unfolding holds
     leaves_ranked u valid held leaf ranked l e r h =
         let k = o r (omega (arith, length_sorted labels, as_many)) in
-        let g = e r (omega (arith, length_sorted labels, as_many)) ∙ l (get_or order r 0) k.0 in
+        let x = get_or labels (get_or order r 0) [] in
+        let g = e r (omega (arith, length_sorted labels, as_many))
+        ∙ ap (λ (o : Maybe ℕ). unwrap_or o 0) (l (get_or order r 0) k.0 ∙ held_leaf u x valid (held (get_or order r 0) k.0)) in
         let f = found u (get_or labels (get_or order r 0) []) valid (held (get_or order r 0) k.0) in
         subst (λ (n : ℕ). LeafIs (decoded u) n (get_or (sorted labels) r [])) (sym g)
         (subst (λ (x : Label). LeafIs (decoded u) (own_found u (get_or labels (get_or order r 0) [])) x) k.1
@@ -246,25 +265,23 @@ module _ (s t : Tree) (xs : List Token) (first second list : List ℕ) (one two 
   unfolding places_of
   count_is = ap (λ (q : LabelPlaces). q.count) g.placed
 
-  module _ (leaf1 leaf2 : List ℕ) (f1 : LeavesFound first one (label_in list places.start places.size) places.count leaf1)
+  module _ (leaf1 leaf2 : List (Maybe ℕ)) (f1 : LeavesFound first one (label_in list places.start places.size) places.count leaf1)
       (f2 : LeavesFound second two (label_in list places.start places.size) places.count leaf2) (lack : Lacking)
-      (e : lack ≡ lack_from leaf1 one.nodes leaf2 two.nodes places.start places.count 0) where
+      (e : lack ≡ lack_from leaf1 leaf2 places.start places.count 0) where
     l1 : LeavesOf s xs leaf1
     l1 = leaves_of s xs first list one places g.text1 g.tree1 g.listed g.placed leaf1 f1
 
     l2 : LeavesOf t xs leaf2
     l2 = leaves_of t xs second list two places g.text2 g.tree2 g.listed g.placed leaf2 f2
 
-    own_lack : lack ≡ lack_from leaf1 (nodes_of s) leaf2 (nodes_of t) (places_of xs).start (length xs) 0
+    own_lack : lack ≡ lack_from leaf1 leaf2 (places_of xs).start (length xs) 0
     own_lack =
         e
-        ∙ ap (λ (n : ℕ). lack_from leaf1 n leaf2 two.nodes places.start places.count 0) (nodes_is s one g.tree1)
-        ∙ ap (λ (n : ℕ). lack_from leaf1 (nodes_of s) leaf2 n places.start places.count 0) (nodes_is t two g.tree2)
-        ∙ ap (λ (q : LabelPlaces). lack_from leaf1 (nodes_of s) leaf2 (nodes_of t) q.start places.count 0) g.placed
-        ∙ ap (λ (n : ℕ). lack_from leaf1 (nodes_of s) leaf2 (nodes_of t) (places_of xs).start n 0) count_is
+        ∙ ap (λ (q : LabelPlaces). lack_from leaf1 leaf2 q.start places.count 0) g.placed
+        ∙ ap (λ (n : ℕ). lack_from leaf1 leaf2 (places_of xs).start n 0) count_is
 
     view : Lack s t xs g.valid1 g.valid2 g.different 0 (lacking (decoded s) (decoded t) (map spelling xs) 0)
-        (lack_from leaf1 (nodes_of s) leaf2 (nodes_of t) (places_of xs).start (length xs) 0)
+        (lack_from leaf1 leaf2 (places_of xs).start (length xs) 0)
     view = lack_of s t xs g.valid1 g.valid2 g.different leaf1 leaf2 l1 l2 (length xs) 0 (omega arith)
 
     -- a label is lacking
@@ -272,7 +289,7 @@ module _ (s t : Tree) (xs : List Token) (first second list : List ℕ) (one two 
     unfolding verdict_of
     lacked e is =
         go (lacking (decoded s) (decoded t) (map spelling xs) 0) refl
-        (lack_from leaf1 (nodes_of s) leaf2 (nodes_of t) (places_of xs).start (length xs) 0) (sym is ∙ own_lack) view
+        (lack_from leaf1 leaf2 (places_of xs).start (length xs) 0) (sym is ∙ own_lack) view
       where
         go : (o : Option Answer) → lacking (decoded s) (decoded t) (map spelling xs) 0 ≡ o → (A : Lacking) → Err e ≡ A
             → Lack s t xs g.valid1 g.valid2 g.different 0 o A
@@ -294,7 +311,7 @@ module _ (s t : Tree) (xs : List Token) (first second list : List ℕ) (one two 
     held_all : lack ≡ Ok (Prim.tt {0}) → Held
     held_all all =
         go (lacking (decoded s) (decoded t) (map spelling xs) 0) refl
-        (lack_from leaf1 (nodes_of s) leaf2 (nodes_of t) (places_of xs).start (length xs) 0) (sym all ∙ own_lack) view
+        (lack_from leaf1 leaf2 (places_of xs).start (length xs) 0) (sym all ∙ own_lack) view
       where
         go : (o : Option Answer) → lacking (decoded s) (decoded t) (map spelling xs) 0 ≡ o → (A : Lacking) → Ok (Prim.tt {0}) ≡ A
             → Lack s t xs g.valid1 g.valid2 g.different 0 o A → Held
@@ -305,8 +322,8 @@ module _ (s t : Tree) (xs : List Token) (first second list : List ℕ) (one two 
     -- no label is lacking: the search for a clash decides
     module _ (all : lack ≡ Ok (Prim.tt {0})) (order ranked1 ranked2 : List ℕ)
         (o : InOrder (rank_in list places.start places.size places.count) places.count places.count order)
-        (w1 : (r : ℕ) → r < places.count → get_or ranked1 r 0 ≡ get_or leaf1 (get_or order r 0) 0)
-        (w2 : (r : ℕ) → r < places.count → get_or ranked2 r 0 ≡ get_or leaf2 (get_or order r 0) 0) where
+        (w1 : (r : ℕ) → r < places.count → get_or ranked1 r 0 ≡ unwrap_or (get_or leaf1 (get_or order r 0) None) 0)
+        (w2 : (r : ℕ) → r < places.count → get_or ranked2 r 0 ≡ unwrap_or (get_or leaf2 (get_or order r 0) None) 0) where
       shown : (k : ℕ) → k < length xs → label_in list places.start places.size k ≡ get_or (map spelling xs) k []
       shown k h =
           ap (λ (z : List ℕ). label_in z places.start places.size k) g.listed

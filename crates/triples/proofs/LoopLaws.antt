@@ -5,12 +5,12 @@ use mathlib.Core.Bool.{Bool, true, false, cond}
 use mathlib.Core.Logic.{◌⊎◌, inl, inr}
 use mathlib.Core.List.{List}
 use native.Mathlib.Omega.{arith}
-use Rattle.std.specs.Prelude.{Ok, Err}
+use Rattle.std.specs.Prelude.{Option, None, is_some, Ok, Err}
 use native.Mathlib.Numerals.{add-one}
 use lib.Dec.{eqb, ltb}
 use lib.ListN.{length, get_or, set, replicate}
 use lib.Seq.{get_or-set_same, get_or-set_other}
-use borrow.Author.Tests.{eqb-true, eqb-false, ltb-true, lt-ltb, le-ltb}
+use borrow.Author.Tests.{eqb-true, eqb-false, ltb-true}
 use Rattle.trees.specs.Label.{Label, label_less}
 use Rattle.trees.specs.declared.Reason.TheVariants.{FirstLacks, SecondLacks}
 use Rattle.trees.specs.declared.Body.TheVariants.{K}
@@ -107,27 +107,26 @@ pub zeros_low : (n m : ℕ) → 0 < m → (i : ℕ) → get_or (replicate n 0) i
 zeros_low n m h i = rw (filled_at {A = ℕ} 0 n i) h
 
 -- the search for a label that a tree lacks
-module _ (leaf1 : List ℕ) (nodes1 : ℕ) (leaf2 : List ℕ) (nodes2 : ℕ) (start : List ℕ) (count k : ℕ) where
+module _ (leaf1 leaf2 : List (Option ℕ)) (start : List ℕ) (count k : ℕ) where
   more : k < count → count - k ≡ suc (count - (k + 1))
   more h = omega arith
 
-  pub lack_one : k < count → nodes1 ≤ get_or leaf1 k 0
-      → lack_from leaf1 nodes1 leaf2 nodes2 start (count - k) k ≡ Err (record { reason = FirstLacks; body = K; place = get_or start k 0 })
+  pub lack_one : k < count → is_some (get_or leaf1 k None) ≡ false
+      → lack_from leaf1 leaf2 start (count - k) k ≡ Err (record { reason = FirstLacks; body = K; place = get_or start k 0 })
   unfolding lack_from
-  lack_one h l = rw (more h, le-ltb (get_or leaf1 k 0) nodes1 l) refl
+  lack_one h l = rw (more h, l) refl
 
-  pub lack_two : k < count → get_or leaf1 k 0 < nodes1 → nodes2 ≤ get_or leaf2 k 0
-      → lack_from leaf1 nodes1 leaf2 nodes2 start (count - k) k ≡ Err (record { reason = SecondLacks; body = K; place = get_or start k 0 })
+  pub lack_two : k < count → is_some (get_or leaf1 k None) ≡ true → is_some (get_or leaf2 k None) ≡ false
+      → lack_from leaf1 leaf2 start (count - k) k ≡ Err (record { reason = SecondLacks; body = K; place = get_or start k 0 })
   unfolding lack_from
-  lack_two h l m = rw (more h, lt-ltb (get_or leaf1 k 0) nodes1 l, le-ltb (get_or leaf2 k 0) nodes2 m) refl
+  lack_two h l m = rw (more h, l, m) refl
 
-  pub lack_next : k < count → get_or leaf1 k 0 < nodes1 → get_or leaf2 k 0 < nodes2
-      → lack_from leaf1 nodes1 leaf2 nodes2 start (count - k) k ≡ lack_from leaf1 nodes1 leaf2 nodes2 start (count - (k + 1)) (k + 1)
+  pub lack_next : k < count → is_some (get_or leaf1 k None) ≡ true → is_some (get_or leaf2 k None) ≡ true
+      → lack_from leaf1 leaf2 start (count - k) k ≡ lack_from leaf1 leaf2 start (count - (k + 1)) (k + 1)
   unfolding lack_from
-  lack_next h l m =
-      rw (more h, lt-ltb (get_or leaf1 k 0) nodes1 l, lt-ltb (get_or leaf2 k 0) nodes2 m, add-one k) refl
+  lack_next h l m = rw (more h, l, m, add-one k) refl
 
-  pub lack_end : count ≤ k → lack_from leaf1 nodes1 leaf2 nodes2 start (count - k) k ≡ Ok (Prim.tt {0})
+  pub lack_end : count ≤ k → lack_from leaf1 leaf2 start (count - k) k ≡ Ok (Prim.tt {0})
   unfolding lack_from
   lack_end h =
       let e : count - k ≡ 0 = omega arith in

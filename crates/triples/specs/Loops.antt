@@ -1,5 +1,5 @@
 -- What the loops of the test compute, over the arrays that they are lent. Intermediate: nothing public rests on this text.
-use Rattle.std.specs.Prelude.{ℕ, zero, suc, ◌+◌, ◌-◌, ◌%◌, ◌≤◌, ◌<◌, min, max, ◌≡◌, Bool, true, cond, ◌||◌, List, [], map, ltb, leb, length, get_or, Option, Some, None, Result, Ok, Err}
+use Rattle.std.specs.Prelude.{ℕ, zero, suc, ◌+◌, ◌-◌, ◌%◌, ◌≤◌, ◌<◌, min, max, ◌≡◌, Bool, true, cond, ◌||◌, List, [], map, ltb, leb, length, get_or, Option, Some, None, is_some, Result, Ok, Err}
 use Rattle.trees.specs.declared.Reason.TheVariants.{FirstLacks, SecondLacks}
 use Rattle.trees.specs.declared.Body.TheVariants.{K}
 use Rattle.trees.specs.declared.Refusal.{Refusal}
@@ -13,7 +13,7 @@ use Rattle.trees.specs.Stored.{part_of}
 use Rattle.lists.specs.declared.LabelPlaces.{LabelPlaces}
 use Rattle.lists.specs.ReadList.{joined, places_of, list_limit}
 use Rattle.agreement.specs.Answer.{differ, clashing}
-use Rattle.leaves.specs.Find.{leaf_from, found_leaf}
+use Rattle.leaves.specs.Find.{leaf_from, leaf_found}
 use Rattle.triples.specs.declared.Indices.{Indices}
 
 -- the label that token k of a list's text decodes to
@@ -35,17 +35,17 @@ abbrev pub InOrder : (ℕ → ℕ) → ℕ → ℕ → List ℕ → Type 0
 InOrder rank count n order =
     (k : ℕ) → k < n → (get_or order (rank k) 0 < count) × (rank (get_or order (rank k) 0) ≡ rank k)
 
--- the leaf numbers of the first n labels in a tree's arrays
-abbrev pub LeavesFound : List ℕ → TreeArrays → (ℕ → Label) → ℕ → List ℕ → Type 0
+-- the leaves of the first n labels in a tree's arrays
+abbrev pub LeavesFound : List ℕ → TreeArrays → (ℕ → Label) → ℕ → List (Option ℕ) → Type 0
 LeavesFound text tree f n leaf =
-    (k : ℕ) → k < n → get_or leaf k 0 ≡ found_leaf text tree.left tree.start tree.size (f k) tree.nodes
+    (k : ℕ) → k < n → get_or leaf k None ≡ leaf_found text tree.left tree.start tree.size (f k) tree.nodes
 
--- the first of the n labels from k on whose leaf number in one of the trees is that of no node
-unfoldable pub lack_from : List ℕ → ℕ → List ℕ → ℕ → List ℕ → ℕ → ℕ → Result (Prim.Unit {0}) Refusal
-lack_from leaf1 nodes1 leaf2 nodes2 start zero k = Ok (Prim.tt {0})
-lack_from leaf1 nodes1 leaf2 nodes2 start (suc n) k =
-    cond (ltb (get_or leaf1 k 0) nodes1)
-    (cond (ltb (get_or leaf2 k 0) nodes2) (lack_from leaf1 nodes1 leaf2 nodes2 start n (suc k))
+-- the first of the n labels from k on whose leaf one of the trees lacks
+unfoldable pub lack_from : List (Option ℕ) → List (Option ℕ) → List ℕ → ℕ → ℕ → Result (Prim.Unit {0}) Refusal
+lack_from leaf1 leaf2 start zero k = Ok (Prim.tt {0})
+lack_from leaf1 leaf2 start (suc n) k =
+    cond (is_some (get_or leaf1 k None))
+    (cond (is_some (get_or leaf2 k None)) (lack_from leaf1 leaf2 start n (suc k))
     (Err (record { reason = SecondLacks; body = K; place = get_or start k 0 })))
     (Err (record { reason = FirstLacks; body = K; place = get_or start k 0 }))
 

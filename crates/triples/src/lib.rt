@@ -3,7 +3,8 @@
 // No public function has a `requires`: texts of any length and any bytes are answered. Labels go by their rank in label order.
 #![tactic(auto)]
 
-ghost use Rattle.std.specs.Prelude.{◌≡◌, true, cond, List, map, ℕ, ◌<◌, ◌≤◌, min, length, get_or};
+ghost use Rattle.std.specs.Prelude.{◌≡◌, true, cond, List, map, ℕ, ◌<◌, ◌≤◌, min, length, get_or, None};
+ghost use Rattle.std.specs.Option.{unwrap_or};
 ghost use Rattle.trees.specs.Edition.{in_edition};
 ghost use Rattle.trees.specs.Label.{Label, label_less};
 ghost use Rattle.trees.specs.Token.{Token, spelling};
@@ -17,7 +18,7 @@ ghost use Rattle.triples.specs.Loops.{label_in, rank_in, InOrder, LeavesFound, l
 use crate::ancestors::{lca_row, lows};
 use crate::search::clash_with;
 use lists::LabelPlaces;
-use trees::{Body, Edition, NODE_LIMIT, Reason, Refusal, TreeArrays};
+use trees::{Body, Edition, Reason, Refusal, TreeArrays};
 
 mod ancestors;
 mod search;
@@ -77,23 +78,22 @@ fn label_order(edition: Edition, list: &[u8], places: &LabelPlaces) -> [usize; 8
     order
 }
 
-// The numbers of the leaves with the list's labels, in list order; the number of nodes where the tree has no such leaf.
-fn leaf_numbers(
+// The leaves with the list's labels, in list order.
+fn list_leaves(
     edition: Edition,
     text: &[u8],
     tree: &TreeArrays,
     list: &[u8],
     places: &LabelPlaces,
-) -> [usize; 80]
+) -> [Option<usize>; 80]
     requires { places.now.count ≤ 80 }
     ensures { LeavesFound (in_edition edition text.now) tree.now (label_in (in_edition edition list.now) places.now.start places.now.size)
         places.now.count result }
 {
-    let end = tree.nodes.min(NODE_LIMIT);
-    let mut leaf = [0usize; 80];
+    let mut leaf = [None; 80];
     for k in 0..places.count {
         let token = trees::leaf_label(list, &places.start, &places.size, k);
-        leaf[k] = leaves::find_leaf(edition, text, tree, token).unwrap_or(end);
+        leaf[k] = leaves::find_leaf(edition, text, tree, token);
     }
     leaf
 }
@@ -111,20 +111,18 @@ fn lacks(reason: Reason, place: usize) -> Refusal
 
 // The refusal of the first label in list order that either tree lacks.
 fn lacking(
-    leaf1: &[usize; 80],
-    nodes1: usize,
-    leaf2: &[usize; 80],
-    nodes2: usize,
+    leaf1: &[Option<usize>; 80],
+    leaf2: &[Option<usize>; 80],
     places: &LabelPlaces,
 ) -> Result<(), Refusal>
     requires { places.now.count ≤ 80 }
-    ensures { result ≡ lack_from leaf1.now nodes1 leaf2.now nodes2 places.now.start places.now.count 0 }
+    ensures { result ≡ lack_from leaf1.now leaf2.now places.now.start places.now.count 0 }
 {
     for k in 0..places.count {
-        if nodes1 <= leaf1[k] {
+        if leaf1[k].is_none() {
             return Err(lacks(Reason::FirstLacks, usize::from(places.start[k])));
         }
-        if nodes2 <= leaf2[k] {
+        if leaf2[k].is_none() {
             return Err(lacks(Reason::SecondLacks, usize::from(places.start[k])));
         }
     }
@@ -155,14 +153,14 @@ pub fn first_clash(one: &RankedLeaves, two: &RankedLeaves, count: usize) -> Opti
     None
 }
 
-// The leaf numbers of the list's labels in label order.
-fn ranked(leaf: &[usize; 80], order: &[usize; 80], count: usize) -> [usize; 80]
+// The leaf numbers of the list's labels in label order, where the tree has them all.
+fn ranked(leaf: &[Option<usize>; 80], order: &[usize; 80], count: usize) -> [usize; 80]
     requires { (count ≤ 80) × ((i : ℕ) → get_or order.now i 0 < 80) }
-    ensures { (i : ℕ) → i < count → get_or result i 0 ≡ get_or leaf.now (get_or order.now i 0) 0 }
+    ensures { (i : ℕ) → i < count → get_or result i 0 ≡ unwrap_or (get_or leaf.now (get_or order.now i 0) None) 0 }
 {
     let mut by_rank = [0usize; 80];
     for i in 0..count {
-        by_rank[i] = leaf[order[i]];
+        by_rank[i] = leaf[order[i]].unwrap_or(0);
     }
     by_rank
 }
@@ -195,9 +193,9 @@ fn compared(
         → AsRead s t xs (in_edition edition first.now) (in_edition edition second.now) (in_edition edition list.now) one.now two.now places.now
         → result ≡ verdict_of xs (answer (decoded s) (decoded t) (map spelling xs)) }
 {
-    let leaf1 = leaf_numbers(edition, first, one, list, places);
-    let leaf2 = leaf_numbers(edition, second, two, list, places);
-    lacking(&leaf1, one.nodes, &leaf2, two.nodes, places)?;
+    let leaf1 = list_leaves(edition, first, one, list, places);
+    let leaf2 = list_leaves(edition, second, two, list, places);
+    lacking(&leaf1, &leaf2, places)?;
     let order = label_order(edition, list, places);
     let leaves1 = RankedLeaves {
         left: one.left,

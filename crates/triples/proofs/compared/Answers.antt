@@ -8,11 +8,11 @@ returns-in_err-lacking c =
     λ s t xs g.
     let r = err_from_is_err_and c.from_residual.result c.from_residual.ensures.1 in
     rw (r.1, r.2)
-    (lacked s t xs _ _ _ _ _ _ g _ _ c.leaf_numbers-leaf1.ensures c.leaf_numbers-leaf2.ensures _ c.lacking.ensures _ c.in_err-lacking.was)
+    (lacked s t xs _ _ _ _ _ _ g _ _ c.list_leaves-leaf1.ensures c.list_leaves-leaf2.ensures _ c.lacking.ensures _ c.in_err-lacking.was)
 
 pub returns : goal.returns
 returns c =
     λ s t xs g.
-    compared_verdict s t xs _ _ _ _ _ _ g _ _ c.leaf_numbers-leaf1.ensures c.leaf_numbers-leaf2.ensures _ c.lacking.ensures
+    compared_verdict s t xs _ _ _ _ _ _ g _ _ c.list_leaves-leaf1.ensures c.list_leaves-leaf2.ensures _ c.lacking.ensures
     c.in_ok-lacking.was c.label_order-order.result c.ranked.result c.ranked-2.result c.label_order-order.ensures.in_order
     c.ranked.ensures c.ranked-2.ensures c.requires c.first_clash-three.result c.first_clash-three.ensures.value _ c.told.ensures

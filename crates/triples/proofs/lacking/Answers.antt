@@ -11,18 +11,18 @@ refused : (reason : Reason) (x : Refusal) (p q : ℕ) → x ≡ record { reason 
     → ◌≡◌ {A = Result (Prim.Unit {0}) Refusal} (Err x) (Err (record { reason = reason; body = K; place = q }))
 refused reason x p q e d = ap Err (e ∙ ap (λ (n : ℕ). record { reason = reason; body = K; place = n }) d)
 
-pub returns-then-nodes1-leaf1 : goal.returns-then-nodes1-leaf1
-returns-then-nodes1-leaf1 c =
+pub returns-then-is_none : goal.returns-then-is_none
+returns-then-is_none c =
     refused FirstLacks _ _ _ c.lacks.ensures c.from.ensures
-    ∙ sym (lack_one _ _ _ _ _ _ _ c.loop-k-test.true c.if-nodes1-leaf1.true) ∙ c.loop-k.invariant
+    ∙ sym (lack_one _ _ _ _ _ c.loop-k-test.true c.if-is_none.ensures) ∙ c.loop-k.invariant
 
-pub returns-then-nodes2-leaf2 : goal.returns-then-nodes2-leaf2
-returns-then-nodes2-leaf2 c =
-    refused SecondLacks _ _ _ c.lacks-then-nodes2-leaf2.ensures c.from-then-nodes2-leaf2.ensures
-    ∙ sym (lack_two _ _ _ _ _ _ _ c.loop-k-test.true (omega arith) c.if-nodes2-leaf2.true) ∙ c.loop-k.invariant
+pub returns-then-is_none-2 : goal.returns-then-is_none-2
+returns-then-is_none-2 c =
+    refused SecondLacks _ _ _ c.lacks-then-is_none-2.ensures c.from-then-is_none-2.ensures
+    ∙ sym (lack_two _ _ _ _ _ c.loop-k-test.true c.if-is_none.ensures c.if-is_none-2.ensures) ∙ c.loop-k.invariant
 
 pub loop-k-preserved : goal.loop-k-preserved
-loop-k-preserved c = sym (lack_next _ _ _ _ _ _ _ c.loop-k-test.true (omega arith) (omega arith)) ∙ c.loop-k.invariant
+loop-k-preserved c = sym (lack_next _ _ _ _ _ c.loop-k-test.true c.if-is_none.ensures c.if-is_none-2.ensures) ∙ c.loop-k.invariant
 
 pub returns : goal.returns
-returns c = sym (lack_end _ _ _ _ _ _ _ (omega arith)) ∙ c.loop-k.invariant
+returns c = sym (lack_end _ _ _ _ _ (omega arith)) ∙ c.loop-k.invariant

@@ -5,4 +5,4 @@ use Rattle.triples.specs.Loops.{lack_from}
 use Rattle.triples.proofs.lacking.Given as goal
 
 abbrev pub invariant-loop-k : goal.invariant-loop-k
-invariant-loop-k l = (lack_from l.leaf1 l.nodes1 l.leaf2 l.nodes2 l.places.start (l.places.count - l.k) l.k ≡ lack_from l.leaf1 l.nodes1 l.leaf2 l.nodes2 l.places.start l.places.count 0)
+invariant-loop-k l = (lack_from l.leaf1 l.leaf2 l.places.start (l.places.count - l.k) l.k ≡ lack_from l.leaf1 l.leaf2 l.places.start l.places.count 0)
