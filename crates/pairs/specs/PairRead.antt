@@ -5,7 +5,7 @@ use Rattle.trees.specs.declared.Reason.TheVariants.{EndsTooSoon}
 use Rattle.trees.specs.declared.Refusal.{Refusal}
 use Rattle.trees.specs.declared.Edition.{Edition}
 use Rattle.trees.specs.declared.TreeArrays.{TreeArrays}
-use Rattle.trees.specs.Edition.{in_edition, folded, keyed, ValidIn}
+use Rattle.trees.specs.Edition.{folded, keyed, ValidIn}
 use Rattle.trees.specs.Tree.{Tree, Valid}
 use Rattle.trees.specs.Text.{text_of}
 use Rattle.trees.specs.Arrays.{arrays_of}
@@ -14,7 +14,7 @@ use Rattle.pairs.specs.declared.Options.{Options}
 use Rattle.pairs.specs.declared.Pair.{Pair}
 use Rattle.pairs.specs.Outcome.{refused, found}
 use Rattle.pairs.specs.TwoTrees.{Trees, trees_of}
-use Rattle.pairs.specs.OwnLeaves.{OwnLeaves, Ordered}
+use Rattle.pairs.specs.OwnLeaves.{OwnTree, Ordered}
 
 -- two trees as the edition reads them, with their common labels in label order; `first` is the first tree's text
 pub record OwnTrees (e : Edition) (first : List ℕ) (tree1 tree2 : TreeArrays) (order : CommonOrder) : Type 0 where
@@ -22,7 +22,7 @@ pub record OwnTrees (e : Edition) (first : List ℕ) (tree1 tree2 : TreeArrays) 
   pub t : Tree
   pub valid1 : ValidIn e s
   pub first_text : first ≡ text_of s
-  pub one : OwnLeaves (folded e s) (in_edition e first) tree1.left tree1.start tree1.size tree1.nodes
+  pub one : OwnTree (folded e s) e first tree1
   pub valid2 : Valid (folded e t)
   pub first_arrays : tree1 ≡ arrays_of (folded e s)
   pub second_arrays : tree2 ≡ arrays_of (folded e t)

@@ -8,7 +8,7 @@ ghost use Rattle.trees.specs.Tree.{Tree, decoded, Valid};
 ghost use Rattle.trees.specs.Stored.{stored_bytes};
 ghost use Rattle.agreement.specs.Sets.{increasing};
 ghost use Rattle.leaves.specs.Numbered.{Numbered};
-ghost use Rattle.pairs.specs.OwnLeaves.{OwnLeaves, Ordered};
+ghost use Rattle.pairs.specs.OwnLeaves.{OwnTree, Ordered};
 ghost use Rattle.pairs.specs.CommonRanks.{PartnerIs, Partners, Place, OpenedAt, most_common, Collected, NodePartner, stored_label, LeafPlaced};
 
 use crate::CommonOrder;
@@ -16,7 +16,7 @@ use trees::{Edition, LEAF_LIMIT, NODE_LIMIT, StoredLabel, TreeArrays};
 
 // The number of the leaf with the label that a token stands for; an inner node's token has no bytes and is not looked for.
 fn look_up(edition: Edition, text: &[u8], tree: &TreeArrays, token: &[u8]) -> Option<u8>
-    ensures { (t : Tree) → OwnLeaves t (in_edition edition text.now) tree.now.left tree.now.start tree.now.size tree.now.nodes
+    ensures { (t : Tree) → OwnTree t edition text.now tree.now
         → PartnerIs (decoded t) (key edition token.now) result }
 {
     if trees::spelled_size(token) == 0 {
@@ -36,8 +36,8 @@ pub(crate) fn partners(
 ) -> [Option<u8>; NODE_LIMIT]
     requires { tree1.now.nodes ≤ 159 }
     ensures { (s t : Tree)
-        → OwnLeaves s (in_edition edition first.now) tree1.now.left tree1.now.start tree1.now.size tree1.now.nodes
-        → OwnLeaves t (in_edition edition second.now) tree2.now.left tree2.now.start tree2.now.size tree2.now.nodes
+        → OwnTree s edition first.now tree1.now
+        → OwnTree t edition second.now tree2.now
         → Partners tree1.now.nodes (decoded s) (decoded t) result }
 {
     let mut partner = [None; NODE_LIMIT];
@@ -66,7 +66,7 @@ fn place_of(
     requires { m ≤ 80 }
     ensures upper_bound { result ≤ m }
     ensures place { (t : Tree) (C : List Label)
-        → OwnLeaves t (in_edition edition text.now) tree.now.left tree.now.start tree.now.size tree.now.nodes
+        → OwnTree t edition text.now tree.now
         → increasing C ≡ true → m ≡ length C → Numbered (decoded t) C order.now → Place (stored_bytes label) C result }
 {
     let mut low: usize = 0;
@@ -106,7 +106,7 @@ fn insert_leaf(
 )
     requires { (m < 80) × (u < 159) }
     ensures { (t : Tree) (C : List Label)
-        → OwnLeaves t (in_edition edition text.now) tree.now.left tree.now.start tree.now.size tree.now.nodes
+        → OwnTree t edition text.now tree.now
         → increasing C ≡ true → m ≡ length C → Numbered (decoded t) C order.old → length order.old ≡ 80
         → LeafPlaced u m C (stored_label (in_edition edition text.now) tree.now.start tree.now.size u) order.old order.new }
 {
@@ -137,7 +137,7 @@ fn add_common(
     requires { (m ≤ most) × (most ≤ 80) × (u < 159) }
     ensures upper_bound { result ≤ most }
     ensures collected { (s t : Tree)
-        → OwnLeaves s (in_edition edition text1.now) tree1.now.left tree1.now.start tree1.now.size tree1.now.nodes → Valid t
+        → OwnTree s edition text1.now tree1.now → Valid t
         → most ≡ most_common (decoded s) (decoded t) → u < tree1.now.nodes → NodePartner (decoded s) (decoded t) u v
         → Collected (decoded s) (decoded t) (u + 1) order1.old m
         → Collected (decoded s) (decoded t) u order1.new result }
@@ -165,7 +165,7 @@ pub(crate) fn common_order(
     requires { (tree1.now.nodes ≤ 159) × (most ≤ 80) }
     ensures upper_bound { result ≤ 80 }
     ensures collected { (s t : Tree)
-        → OwnLeaves s (in_edition edition text1.now) tree1.now.left tree1.now.start tree1.now.size tree1.now.nodes → Valid t
+        → OwnTree s edition text1.now tree1.now → Valid t
         → most ≡ most_common (decoded s) (decoded t) → Partners tree1.now.nodes (decoded s) (decoded t) partner.now
         → Collected (decoded s) (decoded t) 0 order1.new result }
 {
@@ -208,7 +208,7 @@ pub(crate) fn order_in(
     requires { (tree1.now.nodes ≤ 159) × (most ≤ 80) }
     ensures count_bound { result.count ≤ 80 }
     ensures ordered { (s t : Tree)
-        → OwnLeaves s (in_edition edition text1.now) tree1.now.left tree1.now.start tree1.now.size tree1.now.nodes → Valid t
+        → OwnTree s edition text1.now tree1.now → Valid t
         → most ≡ most_common (decoded s) (decoded t) → Partners tree1.now.nodes (decoded s) (decoded t) partner.now
         → Ordered (decoded s) (decoded t) result.first result.second result.count }
 {

@@ -6,7 +6,7 @@ ghost use Rattle.trees.specs.Edition.{in_edition, folded};
 ghost use Rattle.trees.specs.Tree.{Tree, decoded, Proper};
 ghost use Rattle.trees.specs.Arrays.{nodes_of, arrays_of};
 ghost use Rattle.agreement.specs.Strict.{stray_of};
-ghost use Rattle.pairs.specs.OwnLeaves.{OwnLeaves};
+ghost use Rattle.pairs.specs.OwnLeaves.{OwnLeaves, OwnTree};
 ghost use Rattle.pairs.specs.CommonRanks.{Partners};
 ghost use Rattle.pairs.specs.LoneLeaves.{lone, Lone, stray_at, shared_of, Paired};
 
@@ -96,10 +96,8 @@ pub(crate) fn pair_leaves(
 ) -> Result<[Option<u8>; NODE_LIMIT], Refusal>
     requires { (tree1.now.nodes ≤ 159) × (tree2.now.nodes ≤ 159) }
     ensures { (s t : Tree)
-        → OwnLeaves (folded options.edition s) (in_edition options.edition first.now) tree1.now.left tree1.now.start
-        tree1.now.size tree1.now.nodes
-        → OwnLeaves (folded options.edition t) (in_edition options.edition second.now) tree2.now.left tree2.now.start
-        tree2.now.size tree2.now.nodes
+        → OwnTree (folded options.edition s) options.edition first.now tree1.now
+        → OwnTree (folded options.edition t) options.edition second.now tree2.now
         → Paired options s t tree1.now.nodes result }
 {
     let partner = partners(options.edition, first, tree1, second, tree2);

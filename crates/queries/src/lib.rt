@@ -15,7 +15,7 @@ ghost use Rattle.agreement.specs.Closer.{holds};
 ghost use Rattle.agreement.specs.Sets.{increasing};
 ghost use Rattle.leaves.specs.Numbered.{Numbered};
 ghost use Rattle.pairs.specs.Outcome.{refused};
-ghost use Rattle.pairs.specs.OwnLeaves.{OwnLeaves};
+ghost use Rattle.pairs.specs.OwnLeaves.{OwnTree};
 ghost use Rattle.pairs.specs.PairRead.{OwnTrees};
 ghost use Rattle.queries.specs.Query.{answer_to, held_by};
 ghost use Rattle.queries.specs.ListRead.{OwnList, OwnLabels, ListedIs};
@@ -49,7 +49,7 @@ fn rank_in(
     requires { m ≤ 80 }
     ensures upper_bound { IfSome result (λ r. r < m) }
     ensures found_rank { (s : Tree) (C : List Label)
-        → OwnLeaves s (in_edition edition text1.now) tree1.now.left tree1.now.start tree1.now.size tree1.now.nodes
+        → OwnTree s edition text1.now tree1.now
         → m ≡ length C → Numbered (decoded s) C order1.now → FoundRank C (key edition token.now) result }
 {
     for r in 0..m {
@@ -75,7 +75,7 @@ fn mark(
     requires { (m ≤ 80) × (places.now.count ≤ 80) }
     ensures upper_bound { IfErr result (λ n. n < places.now.count) }
     ensures marked_to { (s : Tree) (C : List Label) (K : List Token)
-        → OwnLeaves s (in_edition edition text1.now) tree1.now.left tree1.now.start tree1.now.size tree1.now.nodes
+        → OwnTree s edition text1.now tree1.now
         → OwnList K (in_edition edition list.now) places.now.start places.now.size places.now.count
         → increasing C ≡ true → m ≡ length C → Numbered (decoded s) C order1.now
         → MarkedTo places.now.count C (map spelling K) result }
@@ -93,7 +93,7 @@ fn mark(
 
 // The tree has a leaf with the label that a token stands for.
 fn holds_label(edition: Edition, text: &[u8], tree: &TreeArrays, token: &[u8]) -> bool
-    ensures { (t : Tree) → OwnLeaves t (in_edition edition text.now) tree.now.left tree.now.start tree.now.size tree.now.nodes
+    ensures { (t : Tree) → OwnTree t edition text.now tree.now
         → result ≡ holds (decoded t) (key edition token.now) }
 {
     leaves::find_leaf(edition, text, tree, token).is_some()
