@@ -28,7 +28,8 @@ use Rattle.agreement.proofs.SetLaws.{number_of, common_in}
 use Rattle.table.specs.Choice.{Marked}
 use Rattle.triples.proofs.Ranks.{place_number}
 use Rattle.pairs.specs.declared.CommonOrder.{CommonOrder}
-use Rattle.mast.specs.ListMarks.{nearer_of, least_missing}
+use Rattle.std.proofs.lemmas.Option.{none-some, same_Some}
+use Rattle.mast.specs.ListMarks.{nearer_of, least_missing, below}
 use Rattle.queries.specs.RankedList.{AskedOf}
 use Rattle.mast.specs.Compare.{missing, IsMissing, place_if}
 use Rattle.mast.specs.Settled.{lacked_at}
@@ -258,6 +259,22 @@ missing_told s t L Y number other m count e all held one two = go (missing L Y 0
         let l : j < count = omega (arith, f.1, f.2.in_list, e) in
         let b = lt-ltb (least_missing number other m count) count (omega (arith, j-is, l)) in
         λ start xs at. rw (b, j-is) (ap Some (at j l))
+
+-- and so where it stands
+module _ (places : LabelPlaces) (k : ℕ) where
+  pub lacked_none : None ≡ below places.count k → None ≡ lacked_at places k
+  lacked_none h = go (ltb k places.count) h
+    where
+      go : (b : Bool) → None ≡ cond b (Some k) None → None ≡ cond b (Some (get_or places.start k 0)) None
+      go true e = absurd (none-some _ e)
+      go false e = refl
+
+  pub lacked_some : (j : ℕ) → Some j ≡ below places.count k → Some (get_or places.start j 0) ≡ lacked_at places k
+  lacked_some j h = go (ltb k places.count) h
+    where
+      go : (b : Bool) → Some j ≡ cond b (Some k) None → Some (get_or places.start j 0) ≡ cond b (Some (get_or places.start k 0)) None
+      go true e = ap (λ (n : ℕ). Some (get_or places.start n 0)) (same_Some _ _ e)
+      go false e = absurd (none-some j (sym e))
 
 pub missing_asked : (e : Edition) (s t : Tree) (xs ys : List Token) {tree1 tree2 : TreeArrays} {order : CommonOrder}
     {number other : List ℕ} {places others : LabelPlaces}

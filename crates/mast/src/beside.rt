@@ -6,7 +6,7 @@ ghost use Rattle.queries.specs.Query.{answer_to};
 ghost use Rattle.mast.specs.Compare.{compare_lists, compare_other, compared_of};
 ghost use Rattle.pairs.specs.PairRead.{OwnTrees, trees_in};
 ghost use Rattle.queries.specs.ListRead.{OwnLabels};
-ghost use Rattle.mast.specs.ListMarks.{nearer_of, least_missing};
+ghost use Rattle.mast.specs.ListMarks.{nearer_of, least_missing, below};
 ghost use Rattle.mast.specs.Settled.{lacked_at, chosen_of, AgreedOn};
 
 use crate::clash::clash_in;
@@ -16,10 +16,11 @@ use lists::LabelPlaces;
 use pairs::CommonOrder;
 use queries::mark_list;
 use table::RANKS;
-use trees::{Body, Edition, TreeArrays, wide};
+use trees::{Body, Edition, TreeArrays};
 
 // Smallest index so far of a required label that the other list lacks. `number` and `other` are the label's position in each list, counted
 // from 1; 0 means the list does not contain it.
+#[tactic(auto, unfolding(crate::specs::ListMarks::nearer_of))]
 fn nearer(best: usize, number: u8, other: u8) -> usize
     ensures { result ≡ nearer_of best number other }
 {
@@ -29,22 +30,23 @@ fn nearer(best: usize, number: u8, other: u8) -> usize
     if other != 0 {
         return best;
     }
-    trees::least(best, wide(number) - 1)
+    best.min(usize::from(number) - 1)
 }
 
-// Index in the required list, from 0, of its first label that a further list lacks, or `count`. `number` and `other` have, by rank, the
-// label's position in each list.
-fn first_missing(number: &[u8; RANKS], other: &[u8; RANKS], m: usize, count: usize) -> usize
+// Index in the required list, from 0, of its first label that a further list lacks. `number` and `other` have, by rank, the label's position
+// in each list.
+fn first_missing(number: &[u8; RANKS], other: &[u8; RANKS], m: usize, count: usize) -> Option<usize>
     requires { m ≤ 80 }
-    ensures { result ≡ least_missing number.now other.now m count }
+    ensures { result ≡ below count (least_missing number.now other.now m count) }
 {
     let mut best = count;
-    let mut r: usize = 0;
-    while r < m {
+    for r in 0..m {
         best = nearer(best, number[r], other[r]);
-        r += 1;
     }
-    best
+    if count <= best {
+        return None;
+    }
+    Some(best)
 }
 
 // Where the first required label that a further list lacks stands in the required list; both lists are given by their marks.
@@ -57,12 +59,9 @@ fn lacked_label(
     requires { m ≤ 80 }
     ensures { result ≡ lacked_at places (least_missing number.now other.now m places.count) }
 {
-    let k = first_missing(number, other, m, places.count);
-    if places.count <= k {
-        return None;
-    }
+    let k = first_missing(number, other, m, places.count)?;
     let starts = places.start;
-    Some(trees::place_entry(&starts, k))
+    Some(trees::entry(&starts, k))
 }
 
 // The further list beside the largest set, which the settled list has.

@@ -14,7 +14,7 @@ use crate::{Named, NamedLabel};
 use lists::LabelPlaces;
 use pairs::{CommonOrder, entries_at};
 use table::RANKS;
-use trees::{Edition, LEAF_LIMIT, NODE_LIMIT, TreeArrays, wide, wide_place};
+use trees::{Edition, LEAF_LIMIT, NODE_LIMIT, TreeArrays};
 use triples::{Indices, RankedLeaves};
 
 // Stores rank r behind n others if it is that of a marked label, and says how many there are then.
@@ -36,10 +36,8 @@ fn marked_ranks(number: &[u8; RANKS], m: usize) -> [usize; LEAF_LIMIT]
 {
     let mut ranks = [0usize; LEAF_LIMIT];
     let mut n: usize = 0;
-    let mut r: usize = 0;
-    while r < m {
+    for r in 0..m {
         n = add_rank(&mut ranks, n, number[r], r);
-        r += 1;
     }
     ranks
 }
@@ -56,8 +54,8 @@ fn place_at(
     ensures { result ≡ get_or starts.now (get_or number.now (get_or ranks.now i 0) 0 - 1) 0 }
 {
     let r = ranks[i];
-    let n = wide(number[r]);
-    wide_place(starts[n - 1])
+    let n = usize::from(number[r]);
+    usize::from(starts[n - 1])
 }
 
 // Label i of the marked ones in label order: its place in the list, and its place and size in the first tree's text.
@@ -77,8 +75,8 @@ fn named_label(
     let u = leaf1[i];
     NamedLabel {
         place: place_at(starts, number, ranks, i),
-        start: wide_place(start1[u]),
-        size: wide(size1[u]),
+        start: usize::from(start1[u]),
+        size: usize::from(size1[u]),
     }
 }
 

@@ -27,7 +27,7 @@ use division::{PiecePlaces, divide, no_pieces};
 use lists::LabelPlaces;
 use pairs::CommonOrder;
 use table::RANKS;
-use trees::{Body, Edition, LEAF_LIMIT, NODE_LIMIT, Reason, Refusal, TreeArrays, wide};
+use trees::{Body, Edition, LEAF_LIMIT, NODE_LIMIT, Reason, Refusal, TreeArrays};
 
 // Stores a label's place behind n others if the label is chosen, and says how many there are then.
 fn add_place(
@@ -66,11 +66,9 @@ fn set_places(
     let mut start = [0u16; LEAF_LIMIT];
     let mut size = [0u8; LEAF_LIMIT];
     let mut count: usize = 0;
-    let mut r: usize = 0;
-    while r < m {
-        let u = wide(order1[r]);
+    for r in 0..m {
+        let u = usize::from(order1[r]);
         count = add_place(chosen[r], start1[u], size1[u], &mut start, &mut size, count);
-        r += 1;
     }
     LabelPlaces { count, start, size }
 }
@@ -96,10 +94,8 @@ fn kept_leaves(
         → Flagged s (chosen_from chosen.now 0 C) result }
 {
     let mut kept = [false; NODE_LIMIT];
-    let mut r: usize = 0;
-    while r < m {
-        flag(chosen[r], wide(order1[r]), &mut kept);
-        r += 1;
+    for r in 0..m {
+        flag(chosen[r], usize::from(order1[r]), &mut kept);
     }
     kept
 }

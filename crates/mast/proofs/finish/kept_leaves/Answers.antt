@@ -15,7 +15,7 @@ loop-r-init c =
 
 pub loop-r-preserved : goal.loop-r-preserved
 loop-r-preserved c =
-    let a = c.args in let r = c.loop-r.r in let put = rw c.wide.ensures at c.flag.ensures in (
+    let a = c.args in let r = c.loop-r.r in let put = rw c.from.ensures at c.flag.ensures in (
       flags_length (get_or a.chosen.now r false) c.loop-r.kept _ (get_or a.order1.now r 0) c.loop-r.invariant.0 put,
       λ s C v k n.
           flags_next s v a.chosen.now a.order1.now C n r (omega arith) c.loop-r.kept _ c.loop-r.invariant.0

@@ -1,5 +1,4 @@
 -- `finish::kept_leaves` meets its contract. Assumes nothing.
-use Prim.Native.Nat.{◌-◌}
 use mathlib.Core.Path.{◌≡◌}
 use mathlib.Core.List.{List}
 use lib.ListN.{length}
@@ -13,6 +12,3 @@ use Rattle.mast.proofs.finish.kept_leaves.Given as goal
 abbrev pub invariant-loop-r : goal.invariant-loop-r
 invariant-loop-r l = (length l.kept ≡ 159)
     × ((s : Tree) (C : List Label) → Proper s → l.m ≡ length C → Numbered s C l.order1 → Flagged s (chosen_to l.chosen C l.r) l.kept)
-
-abbrev pub decreases-loop-r : goal.decreases-loop-r
-decreases-loop-r l = l.m - l.r

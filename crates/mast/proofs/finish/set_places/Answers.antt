@@ -15,7 +15,7 @@ loop-r-preserved c =
       omega (arith, c.loop-r.invariant.0, stored_count _ _ _ _ _ c.add_place-count.ensures),
       λ s C v e f k n.
           places_next s v a.chosen.now a.order1.now C n c.loop-r.r (omega arith) (omega arith) _ _
-          (c.loop-r.invariant.1 s C v e f k n) (rw (c.wide-u.ensures, e, f) at c.add_place-count.ensures),
+          (c.loop-r.invariant.1 s C v e f k n) (rw (c.from-u.ensures, e, f) at c.add_place-count.ensures),
     )
 
 pub returns : goal.returns

@@ -1,5 +1,5 @@
 -- `finish::set_places` meets its contract. Assumes nothing.
-use Prim.Native.Nat.{◌-◌, ◌≤◌}
+use Prim.Native.Nat.{◌≤◌}
 use mathlib.Core.Path.{◌≡◌}
 use mathlib.Core.List.{List}
 use lib.ListN.{length}
@@ -15,6 +15,3 @@ use Rattle.mast.proofs.finish.set_places.Given as goal
 abbrev pub invariant-loop-r : goal.invariant-loop-r
 invariant-loop-r l = (l.count ≤ l.r) × ((s : Tree) (C : List Label) → Valid s → l.start1 ≡ (arrays_of s).start → l.size1 ≡ (arrays_of s).size → l.m ≡ length C
     → Numbered (decoded s) C l.order1 → places_from l.count l.start l.size ≡ set_places s (chosen_to l.chosen C l.r))
-
-abbrev pub decreases-loop-r : goal.decreases-loop-r
-decreases-loop-r l = l.m - l.r
