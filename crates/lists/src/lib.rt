@@ -15,6 +15,7 @@ use trees::{Body, Edition, Halt, Kind, LABEL_LIMIT, Reason, Refusal, SLOTS};
 pub const LIST_LIMIT: usize = 80;
 
 // Where the labels of a list stand in its text, in list order. Entries are as narrow as a list's limits allow: places are passed by value.
+// Two arrays, and not one of pairs: `trees::is_met` and `trees::leaf_label` take those of a tree and of a list alike.
 #[derive(Clone, Copy)]
 pub struct LabelPlaces {
     pub count: usize,
@@ -170,8 +171,7 @@ impl<'a> Reader<'a> {
             (quoted_of (text_in self.old) kind at first len self.old.places.count self.old.places.start self.old.places.size) }
     {
         match kind {
-            Kind::Label => self.more(Mode::Quoted(first, len + 1), len, at),
-            Kind::Blank => self.more(Mode::Quoted(first, len + 1), len, at),
+            Kind::Label | Kind::Blank => self.more(Mode::Quoted(first, len + 1), len, at),
             Kind::Quote => {
                 if len == 0 {
                     return Err(Halt(Reason::BadByte, at));
@@ -202,8 +202,7 @@ impl<'a> Reader<'a> {
             (step_of (text_in self.old) kind at (mode_in mode self.old.places) self.old.places.start self.old.places.size) }
     {
         match mode {
-            Mode::Start => self.due(kind, at),
-            Mode::Due => self.due(kind, at),
+            Mode::Start | Mode::Due => self.due(kind, at),
             Mode::Bare(first, len) => self.bare(first, len, kind, at),
             Mode::Quoted(first, len) => self.quoted(first, len, kind, at),
             Mode::Closed => self.after_quote(kind, at),
@@ -219,12 +218,11 @@ impl<'a> Reader<'a> {
             self.old.places.size) }
     {
         match mode {
-            Mode::Start => Ok(0),
+            Mode::Start | Mode::Closed => Ok(self.places.count),
             Mode::Bare(first, len) => {
                 self.keep(first, len)?;
                 Ok(self.places.count)
             }
-            Mode::Closed => Ok(self.places.count),
             _ => Err(Halt(Reason::EndsTooSoon, self.text.len())),
         }
     }
