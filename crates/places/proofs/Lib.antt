@@ -1,3 +1,4 @@
+pub mod ArrayLaws
 pub mod DownwardLaws
 pub mod LineLaws
 pub mod MarkLaws

@@ -1,6 +1,8 @@
 -- What the passes over a tree's nodes compute: required leaves below a node, the number of its place, the rank of that place's head.
 -- Intermediate: nothing public rests on this text.
-use Rattle.std.specs.Prelude.{ℕ, suc, ◌+◌, ◌-◌, ◌*◌, ◌<◌, ◌≤◌, min, ◌≡◌, Bool, true, false, cond, not, ◌&&◌, List, [], ◌∷◌, eqb, ltb, leb, length, get_or, set}
+use Rattle.std.specs.Prelude.{ℕ, suc, ◌+◌, ◌-◌, ◌*◌, ◌<◌, ◌≤◌, min, ◌≡◌, Bool, true, false, cond, not, ◌&&◌, List, [], ◌∷◌, eqb, ltb, leb, length, map, get_or, set}
+use Rattle.places.specs.declared.downward.Place.{Place}
+use Rattle.places.specs.declared.upward.Below.{Below}
 use Rattle.trees.specs.declared.TreeArrays.{TreeArrays}
 use Rattle.trees.specs.Label.{Label, same_label, is_in}
 use Rattle.trees.specs.Tree.{Tree, leaf, node, Proper}
@@ -11,6 +13,19 @@ use Rattle.agreement.specs.Closer.{holds}
 use Rattle.agreement.specs.Sets.{increasing}
 use Rattle.table.specs.Choice.{Ranked, Marked}
 use Rattle.pieces.specs.Pieces.{required_in, line_in}
+
+-- by node or by rank: how many required leaves are below, and the least of their ranks; a place's number, and its head's rank
+abbrev pub manys : List Below → List ℕ
+manys bs = map (λ (b : Below). b.many) bs
+
+abbrev pub leasts : List Below → List ℕ
+leasts bs = map (λ (b : Below). b.least) bs
+
+abbrev pub numbers : List Place → List ℕ
+numbers ps = map (λ (p : Place). p.number) ps
+
+abbrev pub tops : List Place → List ℕ
+tops ps = map (λ (p : Place). p.top) ps
 
 -- a tree by its arrays, its leaves' ranks among the labels of C, and the required labels K by rank
 pub record TreeRanks (t : Tree) (C K : List Label) (tree : TreeArrays) (rank : List ℕ) (m : ℕ) (number : List ℕ) : Type 0 where

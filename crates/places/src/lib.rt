@@ -10,9 +10,9 @@ ghost use Rattle.agreement.specs.Closer.{Agree};
 ghost use Rattle.agreement.specs.Sets.{set_of};
 ghost use Rattle.table.specs.Choice.{Posed};
 ghost use Rattle.places.specs.PieceRanks.{PieceRanks};
-ghost use Rattle.places.specs.Nodes.{TreeRanks, LeafNumbers, RankNumbers};
+ghost use Rattle.places.specs.Nodes.{TreeRanks, RankNumbers, numbers, tops};
 
-use crate::downward::{Down, numbers_of};
+use crate::downward::{Place, places_in};
 use crate::lines::{by_rank, lines_of};
 use crate::listing::list_lines;
 use crate::upward::below_of;
@@ -42,49 +42,21 @@ pub struct PieceList {
     pub items: [Mark; ITEMS],
 }
 
-// The numbers of a tree's nodes from the root down, and the heads of their places.
-fn node_numbers(
+// By rank, the place of a label in one tree.
+fn tree_places(
     tree: TreeArrays,
     rank: &[u8; NODE_LIMIT],
     m: usize,
     number: &[u8; RANKS],
     count: usize,
-) -> Down
+) -> [Place; RANKS]
     requires { m ≤ 80 }
     ensures { (t : Tree) (C K : List Label) → TreeRanks t C K tree rank.now m number.now
-        → count ≡ length K → LeafNumbers t C K result.number result.top }
+        → count ≡ length K → RankNumbers t C K (numbers result) (tops result) }
 {
     let below = below_of(tree, rank, m, number);
-    let many = below.many;
-    let least = below.least;
-    numbers_of(tree, &many, &least, count)
-}
-
-// By rank, the number of a label's place in one tree and the rank of that place's head.
-#[derive(Clone, Copy)]
-struct TreeLines {
-    line: [u8; RANKS],
-    top: [u8; RANKS],
-}
-
-fn tree_lines(
-    tree: TreeArrays,
-    rank: &[u8; NODE_LIMIT],
-    m: usize,
-    number: &[u8; RANKS],
-    count: usize,
-) -> TreeLines
-    requires { m ≤ 80 }
-    ensures { (t : Tree) (C K : List Label) → TreeRanks t C K tree rank.now m number.now
-        → count ≡ length K → RankNumbers t C K result.line result.top }
-{
-    let down = node_numbers(tree, rank, m, number, count);
-    let numbers = down.number;
-    let tops = down.top;
-    TreeLines {
-        line: by_rank(tree, rank, &numbers),
-        top: by_rank(tree, rank, &tops),
-    }
+    let places = places_in(tree, &below, count);
+    by_rank(tree, rank, &places)
 }
 
 // The pieces of two trees whose required labels agree, by rank among the m common ones. A tree is given by its arrays and, by node,
@@ -105,13 +77,8 @@ pub fn pieces_of(
     ensures count_bound { result.count ≤ 159 }
 {
     let n = m.min(LEAF_LIMIT);
-    let first = tree_lines(tree1, rank1, n, number, count);
-    let second = tree_lines(tree2, rank2, n, number, count);
-    let line1 = first.line;
-    let line2 = second.line;
-    let tops = first.top;
-    let lines = lines_of(number, &line1, &line2, &tops, n);
-    let line = lines.line;
-    let heads = lines.heads;
-    list_lines(&line, &heads, n)
+    let first = tree_places(tree1, rank1, n, number, count);
+    let second = tree_places(tree2, rank2, n, number, count);
+    let lines = lines_of(number, &first, &second, n);
+    list_lines(&lines.line, &lines.heads, n)
 }

@@ -3,8 +3,9 @@ ghost use Rattle.std.specs.Prelude.{◌≡◌, cond, List, ℕ, ◌<◌, ◌≤�
 ghost use Rattle.trees.specs.Label.{Label};
 ghost use Rattle.trees.specs.Tree.{Tree};
 ghost use Rattle.trees.specs.Arrays.{nodes_of};
-ghost use Rattle.places.specs.Nodes.{is_inner, line_at, TreeRanks, ValuesByRank, LinesByRank};
+ghost use Rattle.places.specs.Nodes.{is_inner, line_at, TreeRanks, ValuesByRank, LinesByRank, numbers, tops};
 
+use crate::downward::Place;
 use crate::upward::is_inner;
 use table::RANKS;
 use trees::{LEAF_LIMIT, NODE_LIMIT, TreeArrays};
@@ -24,34 +25,35 @@ pub(crate) struct RankLines {
     pub heads: [u8; LINES],
 }
 
-// The value of node u is stored if it is a leaf.
-fn put_value(a: usize, b: usize, u: usize, rank: usize, value: u8, out: &mut [u8; RANKS])
-    ensures out_after { out.new ≡ cond (is_inner a b u) out.old (set out.old (min rank 80) value) }
+// The place of node u is stored if it is a leaf.
+fn put_place(a: usize, b: usize, u: usize, rank: usize, place: Place, out: &mut [Place; RANKS])
+    ensures out_after { out.new ≡ cond (is_inner a b u) out.old (set out.old (min rank 80) place) }
     ensures out_len_unchanged { length out.new ≡ length out.old }
 {
     if is_inner(a, b, u) {
         return;
     }
     let r = rank.min(LEAF_LIMIT);
-    out[r] = value;
+    out[r] = place;
 }
 
-// The values of a tree's leaves by rank.
+// The places of a tree's leaves by rank.
 pub(crate) fn by_rank(
     tree: TreeArrays,
     rank: &[u8; NODE_LIMIT],
-    values: &[u8; NODE_LIMIT],
-) -> [u8; RANKS]
+    places: &[Place; NODE_LIMIT],
+) -> [Place; RANKS]
     ensures { (t : Tree) (C K : List Label) (m : ℕ) (ks : List ℕ) → TreeRanks t C K tree rank.now m ks
-        → ValuesByRank t C (nodes_of t) values.now result }
+        → ValuesByRank t C (nodes_of t) (numbers places.now) (numbers result)
+        × ValuesByRank t C (nodes_of t) (tops places.now) (tops result) }
 {
     let nodes = tree.nodes.min(NODE_LIMIT);
-    let mut out = [0u8; RANKS];
+    let mut out = [Place { number: 0, top: 0 }; RANKS];
     for u in 0..nodes {
         let a = usize::from(tree.left[u]);
         let b = usize::from(tree.right[u]);
         let r = usize::from(rank[u]);
-        put_value(a, b, u, r, values[u], &mut out);
+        put_place(a, b, u, r, places[u], &mut out);
     }
     out
 }
@@ -78,22 +80,23 @@ fn put_line(r: usize, j: usize, top: u8, line: &mut [u8; RANKS], heads: &mut [u8
     heads[j] = top;
 }
 
-// The lines of the first m ranks, from the numbers of their places in both trees and the heads in the first.
+// The lines of the first m ranks, from their places in both trees. The heads are those of the first.
 pub(crate) fn lines_of(
     number: &[u8; RANKS],
-    one: &[u8; RANKS],
-    two: &[u8; RANKS],
-    tops: &[u8; RANKS],
+    one: &[Place; RANKS],
+    two: &[Place; RANKS],
     m: usize,
 ) -> RankLines
     requires { m ≤ 80 }
-    ensures { LinesByRank m number.now one.now two.now tops.now result.line result.heads }
+    ensures { LinesByRank m number.now (numbers one.now) (numbers two.now) (tops one.now) result.line result.heads }
 {
     let mut line = [0u8; RANKS];
     let mut heads = [NO_LEAF; LINES];
     for r in 0..m {
-        let j = line_at(number[r], one[r], two[r]);
-        put_line(r, j, tops[r], &mut line, &mut heads);
+        let p = one[r];
+        let q = two[r];
+        let j = line_at(number[r], p.number, q.number);
+        put_line(r, j, p.top, &mut line, &mut heads);
     }
     RankLines { line, heads }
 }

@@ -1,18 +1,18 @@
 // From the leaves up: how many required leaves are below each node, and the least of their ranks.
-ghost use Rattle.std.specs.Prelude.{◌≡◌, true, List, ◌+◌, ◌%◌, ◌<◌, ◌≤◌, set};
+ghost use Rattle.std.specs.Prelude.{◌≡◌, true, List, ◌%◌, ◌<◌, ◌≤◌};
 ghost use Rattle.trees.specs.Label.{Label};
 ghost use Rattle.trees.specs.Tree.{Tree};
 ghost use Rattle.trees.specs.Arrays.{nodes_of};
-ghost use Rattle.places.specs.Nodes.{is_inner, required_at, many_at, least_rank_at, TreeRanks, BelowIs};
+ghost use Rattle.places.specs.Nodes.{is_inner, required_at, many_at, least_rank_at, TreeRanks, BelowIs, manys, leasts};
 
 use table::RANKS;
-use trees::{LEAF_LIMIT, NODE_LIMIT, TreeArrays};
+use trees::{NODE_LIMIT, TreeArrays};
 
-// By node, the required leaves below it and the least of their ranks, 80 for none.
+// Of the required leaves below a node: how many there are, and the least of their ranks, 80 for none (the neutral value of `min`).
 #[derive(Clone, Copy)]
 pub(crate) struct Below {
-    pub many: [u8; NODE_LIMIT],
-    pub least: [u8; NODE_LIMIT],
+    pub many: u8,
+    pub least: u8,
 }
 
 // Whether node u has the children a and b: both come before it. In a tree's arrays a leaf is its own left child. In any others the test
@@ -33,62 +33,35 @@ fn is_required(number: &[u8; RANKS], rank: usize, m: usize) -> bool
     rank < m && number[rank] != 0
 }
 
-// As a function of bytes the sum stays in range.
-fn sum_of(p: u8, q: u8) -> usize
-    ensures { result ≡ p + q }
-{
-    usize::from(p) + usize::from(q)
-}
-
-// The required leaves below node u.
-#[tactic(auto, unfolding(crate::specs::Nodes::many_at))]
-fn many_at(many: &[u8; NODE_LIMIT], a: usize, b: usize, u: usize, required: bool) -> usize
-    requires { u < 159 }
-    ensures { result ≡ many_at many.now a b u required }
-{
-    if is_inner(a, b, u) {
-        return sum_of(many[a], many[b]);
-    }
-    if required { 1 } else { 0 }
-}
-
-// The least of their ranks; `rank` is that of a leaf.
-#[tactic(auto, unfolding(crate::specs::Nodes::least_rank_at))]
-fn least_rank_at(
-    least: &[u8; NODE_LIMIT],
+// Node u, from its children, or as a leaf of this rank.
+#[tactic(auto, using(crate::proofs::ArrayLaws::many_get, crate::proofs::ArrayLaws::least_get), unfolding(crate::specs::Nodes::many_at, crate::specs::Nodes::least_rank_at))]
+fn below_at(
+    below: &[Below; NODE_LIMIT],
     a: usize,
     b: usize,
     u: usize,
     required: bool,
-    rank: usize,
-) -> usize
+    rank: u8,
+) -> Below
     requires { u < 159 }
-    ensures { result ≡ least_rank_at least.now a b u required rank }
+    ensures many { result.many ≡ many_at (manys below.now) a b u required % 256 }
+    ensures least { result.least ≡ least_rank_at (leasts below.now) a b u required rank % 256 }
 {
     if is_inner(a, b, u) {
-        return usize::from(least[a]).min(usize::from(least[b]));
+        let p = below[a];
+        let q = below[b];
+        return Below {
+            many: p.many.wrapping_add(q.many),
+            least: p.least.min(q.least),
+        };
     }
-    if required { rank } else { LEAF_LIMIT }
-}
-
-// Node u is stored.
-fn put_below(
-    a: usize,
-    b: usize,
-    u: usize,
-    required: bool,
-    rank: usize,
-    many: &mut [u8; NODE_LIMIT],
-    least: &mut [u8; NODE_LIMIT],
-)
-    requires { u < 159 }
-    ensures many_after { many.new ≡ set many.old u (many_at many.old a b u required % 256) }
-    ensures least_after { least.new ≡ set least.old u (least_rank_at least.old a b u required rank % 256) }
-{
-    let n = many_at(many, a, b, u, required);
-    let r = least_rank_at(least, a, b, u, required, rank);
-    many[u] = trees::narrow(n);
-    least[u] = trees::narrow(r);
+    if required {
+        return Below {
+            many: 1,
+            least: rank,
+        };
+    }
+    Below { many: 0, least: 80 }
 }
 
 // All nodes, children before parents.
@@ -97,20 +70,18 @@ pub(crate) fn below_of(
     rank: &[u8; NODE_LIMIT],
     m: usize,
     number: &[u8; RANKS],
-) -> Below
+) -> [Below; NODE_LIMIT]
     requires { m ≤ 80 }
     ensures { (t : Tree) (C K : List Label) → TreeRanks t C K tree rank.now m number.now
-        → BelowIs t C K (nodes_of t) result.many result.least }
+        → BelowIs t C K (nodes_of t) (manys result) (leasts result) }
 {
     let nodes = tree.nodes.min(NODE_LIMIT);
-    let mut many = [0u8; NODE_LIMIT];
-    let mut least = [0u8; NODE_LIMIT];
+    let mut below = [Below { many: 0, least: 0 }; NODE_LIMIT];
     for u in 0..nodes {
         let a = usize::from(tree.left[u]);
         let b = usize::from(tree.right[u]);
-        let r = usize::from(rank[u]);
-        let required = is_required(number, r, m);
-        put_below(a, b, u, required, r, &mut many, &mut least);
+        let required = is_required(number, usize::from(rank[u]), m);
+        below[u] = below_at(&below, a, b, u, required, rank[u]);
     }
-    Below { many, least }
+    below
 }

@@ -1,21 +1,27 @@
 -- `lines::lines_of` meets its contract. Assumes nothing.
-use Prim.Native.Nat.{ℕ}
-use lib.ListN.{length, length-set, length-replicate}
-use mathlib.Core.Path.{refl, ◌∙◌, ap}
+use lib.ListN.{length, length-set}
+use mathlib.Core.Path.{refl, sym, ◌∙◌, ap}
 use native.Mathlib.Omega.{arith}
+use Rattle.places.specs.Nodes.{numbers, tops}
+use Rattle.places.proofs.ArrayLaws.{number_get, top_get}
 use Rattle.places.proofs.LineLaws.{lines_none, lines_step}
 use Rattle.places.proofs.lines.lines_of.Goals as goal
 
 pub loop-r-init : goal.loop-r-init
-loop-r-init c =
-    (length-replicate {A = ℕ} 81 0, length-replicate {A = ℕ} 160 81, lines_none _ _ _ _ _ _ refl)
+loop-r-init c = record { line_size = refl; heads_size = refl; right = lines_none _ _ _ _ _ _ refl }
 
 pub loop-r-preserved : goal.loop-r-preserved
 loop-r-preserved c =
-    let i = c.loop-r.invariant in let p = c.put_line.ensures in (
-      ap length p.line_after ∙ length-set c.loop-r.line _ _ ∙ i.0,
-      ap length p.heads_after ∙ length-set c.loop-r.heads _ _ ∙ i.1,
-      lines_step _ _ _ _ _ _ _ _ _ _ _ (omega (arith, c.loop-r-test.true, c.requires)) c.line_at-j.ensures.upper_bound i.0 i.1
-          c.line_at-j.ensures.value
-          refl p.line_after p.heads_after i.2,
-    )
+    let l = c.loop-r in
+    let p = c.put_line.ensures in
+    let one = c.args.one.now in
+    let two = c.args.two.now in
+    record {
+      line_size = ap length p.line_after ∙ length-set l.line _ _ ∙ l.invariant.line_size;
+      heads_size = ap length p.heads_after ∙ length-set l.heads _ _ ∙ l.invariant.heads_size;
+      right =
+          lines_step _ (numbers one) (numbers two) (tops one) _ _ _ l.line l.heads _ _ (omega (arith, c.loop-r-test.true, c.requires))
+          c.line_at-j.ensures.upper_bound l.invariant.line_size l.invariant.heads_size
+          (rw (number_get one l.r, number_get two l.r) c.line_at-j.ensures.value)
+          (sym (top_get one l.r)) p.line_after p.heads_after l.invariant.right;
+    }

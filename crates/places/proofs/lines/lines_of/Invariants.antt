@@ -1,8 +1,12 @@
 -- `lines::lines_of` meets its contract. Assumes nothing.
 use lib.ListN.{length}
 use mathlib.Core.Path.{◌≡◌}
-use Rattle.places.specs.Nodes.{LinesByRank}
+use Rattle.places.specs.Nodes.{LinesByRank, numbers, tops}
 use Rattle.places.proofs.lines.lines_of.Given as goal
 
 abbrev pub invariant-loop-r : goal.invariant-loop-r
-invariant-loop-r l = (length l.line ≡ 81) × (length l.heads ≡ 160) × LinesByRank l.r l.number l.one l.two l.tops l.line l.heads
+invariant-loop-r l = record {
+  line_size : length l.line ≡ 81;
+  heads_size : length l.heads ≡ 160;
+  right : LinesByRank l.r l.number (numbers l.one) (numbers l.two) (tops l.one) l.line l.heads;
+}
