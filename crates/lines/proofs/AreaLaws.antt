@@ -7,6 +7,9 @@ use native.Mathlib.Nat.{add-zero, zero-add}
 use native.Mathlib.Numerals.{add-one}
 use native.Mathlib.Omega.{arith}
 use lib.ListN.{length, get_or, set, take, drop, replicate, length-append, length-take, length-map, length-set, take-append-drop}
+use borrow.Rule.Slice.PartMut.{put_mid}
+use Rattle.std.proofs.lemmas.Slice.{put_mid-paste, take-put_mid, drop-put_mid}
+use Rattle.std.proofs.lemmas.List.Edits.{length-paste}
 use lib.Seq.{take_at, take-suc, take-suc-set, drop-set-lt, drop-drop, take-length}
 use borrow.Author.Tests.{le-leb, lt-leb}
 use Rattle.trees.specs.Label.{Label, label_limit}
@@ -69,23 +72,18 @@ put_to {a} {b} {x} {at} i j e p = subst (λ (k : ℕ). Put a at x k b) e p
 pub put_same : (a : List ℕ) (at : ℕ) → Put a at [] at a
 put_same a at = put_to (at + 0) at (add-zero at) (put_none a at)
 
--- one byte more of x
-pub put_more : (a b x : List ℕ) (at i : ℕ) → i < length x → at + length x ≤ length a → Put a at (take i x) (at + i) b
-    → Put a at (take (i + 1) x) (at + (i + 1)) (set b (at + i) (get_or x i 0))
-put_more a b x at i h room p =
-    put_as (take i x ++ (get_or x i 0 ∷ [])) (take (i + 1) x) (sym (ap (λ (k : ℕ). take k x) (add-one i) ∙ take-suc x i 0 h))
-    (put_then p (put_one b (at + i) (at + (i + 1)) (get_or x i 0) (omega arith) (omega (arith, p.whole))))
-
-pub put_all : {a b : List ℕ} {at : ℕ} (x : List ℕ) (i : ℕ) → i ≡ length x → Put a at (take i x) (at + i) b → Put a at x (at + i) b
-put_all x i e p = put_as (take i x) x (ap (λ (k : ℕ). take k x) e ∙ take-length x) p
+-- x copied over a part of its length
+pub put_over : (a y x : List ℕ) (at n : ℕ) → y ≡ x → n ≡ length x → at + length x ≤ length a → Put a at x (at + length x) (put_mid at n a y)
+put_over a y x at n e en room =
+    let l : length y ≡ length x = ap (length {A = ℕ}) e in
+    record {
+      ends = refl;
+      front = take-put_mid at n a y (at + length x) (omega arith) (omega arith) ∙ ap (λ (z : List ℕ). take at a ++ z) e;
+      back = drop-put_mid at n a y (at + length x) (omega arith) (omega arith) (omega arith);
+      whole = ap (length {A = ℕ}) (put_mid-paste at n a y x (length x) e (sym en) refl) ∙ length-paste a at x (length x) (omega arith) (omega arith);
+    }
 
 -- ---- a text handed over
-
-pub handed : (text out after : List ℕ) (n : ℕ) → Put out 0 text n after → after ≡ text ++ drop (length text) out
-handed text out after n p =
-    sym (take-append-drop n after)
-    ∙ ap₂ (λ (a b : List ℕ). a ++ b) p.front p.back
-    ∙ ap (λ (k : ℕ). text ++ drop k out) (p.ends ∙ zero-add (length text))
 
 pub answer_fits : (text : List ℕ) (room n : ℕ) → length text ≤ room → n ≡ 0 + length text → Ok n ≡ line_answer text room
 unfolding line_answer
@@ -98,6 +96,10 @@ answer_short text room h = rw (lt-leb (length text) room h) refl
 pub output_fits : (text out : List ℕ) → length text ≤ length out → text ++ drop (length text) out ≡ line_output text out
 unfolding line_output
 output_fits text out h = rw (le-leb (length text) (length out) h) refl
+
+pub handed : (text out copied : List ℕ) (n : ℕ) → copied ≡ text → n ≡ length text → n ≤ length out → copied ++ drop n out ≡ line_output text out
+handed text out copied n e en h =
+    ap₂ (λ (x : List ℕ) (k : ℕ). x ++ drop k out) e en ∙ output_fits text out (omega arith)
 
 pub output_short : (text out : List ℕ) → length out < length text → out ≡ line_output text out
 unfolding line_output

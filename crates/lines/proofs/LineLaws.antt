@@ -24,12 +24,12 @@ use Rattle.lines.specs.Output.{line_answer, line_output}
 use Rattle.lines.specs.Areas.{Put, item}
 
 words_of : (d p : List ℕ) (l : ℕ)
-    → bytes_of "refused " ++ d ++ (32 ∷ []) ++ (l ∷ []) ++ (32 ∷ []) ++ p ≡ bytes_of "refused " ++ (d ++ (32 ∷ l ∷ 32 ∷ p))
+    → bytes_of "refused " ++ d ++ (32 ∷ l ∷ 32 ∷ []) ++ p ≡ bytes_of "refused " ++ (d ++ (32 ∷ l ∷ 32 ∷ p))
 unfolding bytes_of
 words_of d p l = simp append_assoc
 
 pub refusal_parts : (q : Refusal) (n l : ℕ) → n ≡ number_of q.reason → l ≡ letter_of q.body
-    → bytes_of "refused " ++ decimal_of n ++ (32 ∷ []) ++ (l ∷ []) ++ (32 ∷ []) ++ decimal_of q.place ≡ refused_words q
+    → bytes_of "refused " ++ decimal_of n ++ (32 ∷ l ∷ 32 ∷ []) ++ decimal_of q.place ≡ refused_words q
 unfolding refused_words
 refusal_parts q n l e f = rw (e, f) (words_of (decimal_of (number_of q.reason)) (decimal_of q.place) (letter_of q.body))
 

@@ -1,5 +1,5 @@
 // Lines put together in an area, part by part, and copied to a lent output.
-ghost use Rattle.std.specs.Prelude.{◌≡◌, true, false, cond, [], ◌∷◌, map, ◌+◌, ◌-◌, ◌*◌, ◌≤◌, length, eqb};
+ghost use Rattle.std.specs.Prelude.{◌≡◌, true, false, cond, [], ◌∷◌, map, ◌+◌, ◌-◌, ◌*◌, ◌≤◌, length, take, eqb};
 ghost use Rattle.decimals.specs.Decimal.{decimal_of, digit_room};
 ghost use Rattle.trees.specs.Stored.{shown_bytes};
 ghost use Rattle.trees.specs.Text.{tree_room};
@@ -7,46 +7,23 @@ ghost use Rattle.trees.specs.Token.{token_of};
 ghost use Rattle.trees.specs.Tree.{leaf_limit};
 ghost use Rattle.trees.specs.Words.{bytes_of};
 ghost use Rattle.lists.specs.ReadList.{joined};
-ghost use Rattle.lines.specs.Lines.{refused_words, record_lines, claim_line, item_room, words_room, claim_room, line_room, record_room, label_in, named_line, labels_in, always_line, always_room};
+ghost use Rattle.lines.specs.Lines.{refused_words, claim_line, item_room, words_room, claim_room, line_room, record_room, label_in, named_line, labels_in, always_room};
 ghost use Rattle.lines.specs.Output.{line_answer, line_output};
 ghost use Rattle.lines.specs.ItemText.{head_text, item_text, run_text};
-ghost use Rattle.lines.specs.PieceLines.{items_in, pieces_from, pieces_lines, pieces_room};
+ghost use Rattle.lines.specs.PieceLines.{items_in, pieces_room, placed_record, placed_always, placed_pieces};
 ghost use Rattle.lines.specs.Areas.{Put, item};
 
 use crate::ITEMS;
+use division::PiecePlaces;
+use lists::LabelPlaces;
 use mast::Named;
-use trees::{Body, Edition, Reason, Refusal, ShownLabel, wide};
+use trees::{Body, Edition, LEAF_LIMIT, Reason, Refusal, ShownLabel, TREE_ROOM};
 
-// Puts one byte at `at`, and returns the place of the next.
-pub(crate) fn put_byte(b: u8, area: &mut [u8], at: usize) -> usize
-    requires { at + 1 ≤ length area.old }
-    ensures { Put area.old at (b ∷ []) result area.new }
-{
-    area[at] = b;
-    at + 1
-}
-
-// Puts the bytes of x from `at` on.
-fn put_bytes(x: &[u8], area: &mut [u8], at: usize) -> usize
-    requires { at + length x.now ≤ length area.old }
-    ensures { Put area.old at x.now result area.new }
-{
-    let mut i: usize = 0;
-    while i < x.len() {
-        area[at + i] = x[i];
-        i += 1;
-    }
-    at + i
-}
-
-// Puts the decimal digits of n from `at` on.
-fn put_number(n: usize, area: &mut [u8], at: usize) -> usize
-    requires { at + digit_room ≤ length area.old }
-    ensures { Put area.old at (decimal_of n) result area.new }
-{
-    let numeral = decimals::digits(n);
-    let bytes = numeral.bytes;
-    put_bytes(trees::first_bytes(&bytes, numeral.len), area, at)
+// An area of N bytes for a text; `at` is where its next byte goes.
+#[derive(Drop)]
+pub(crate) struct Area<const N: usize> {
+    pub(crate) bytes: [u8; N],
+    pub(crate) at: usize,
 }
 
 // The label that the `size` bytes at a place of a text decode to, as it is spelled there and printed; for one that no reader accepts, its
@@ -57,283 +34,267 @@ fn label_in(text: &[u8], start: usize, size: usize) -> ShownLabel
     trees::shown(trees::stored(Edition::One, trees::part(text, start, size)))
 }
 
-// Puts a label as it is printed.
-fn put_shown(x: ShownLabel, area: &mut [u8], at: usize) -> usize
-    requires { at + length (shown_bytes x) ≤ length area.old }
-    ensures { Put area.old at (shown_bytes x) result area.new }
+// The front of a tree's text, no longer than one can be.
+fn front<'a>(tree: &'a [u8]) -> &'a [u8]
+    ensures { result.now ≡ take tree_room tree.now }
 {
-    let bytes = x.bytes;
-    put_bytes(trees::first_bytes(&bytes, x.len), area, at)
+    trees::part(tree, 0, tree.len().min(TREE_ROOM))
 }
 
-// Puts a label, after a comma unless it is the first.
-fn put_item(i: usize, x: ShownLabel, area: &mut [u8], at: usize) -> usize
-    requires { at + 1 + length (shown_bytes x) ≤ length area.old }
-    ensures { Put area.old at (item i (shown_bytes x)) result area.new }
-{
-    if i == 0 {
-        return put_shown(x, area, at);
+impl<const N: usize> Area<N> {
+    // Puts one byte.
+    pub(crate) fn put_byte(&mut self, b: u8)
+        requires room { self.old.at + 1 ≤ length self.old.bytes }
+        ensures { Put self.old.bytes self.old.at (b ∷ []) self.new.at self.new.bytes }
+    {
+        self.bytes[self.at] = b;
+        self.at += 1;
     }
-    let next = put_byte(b',', area, at);
-    put_shown(x, area, next)
-}
 
-// Puts the first `count` labels that places and sizes name, joined by commas.
-fn put_labels(
-    text: &[u8],
-    start: &[u16; 80],
-    size: &[u8; 80],
-    count: usize,
-    area: &mut [u8],
-    at: usize,
-) -> usize
-    requires count_le_leaf_limit { count ≤ leaf_limit }
-    requires count_in_bounds { at + item_room * count ≤ length area.old }
-    ensures put { Put area.old at
-        (joined (map token_of (labels_in text.now start.now size.now count))) result area.new }
-    ensures upper_bound { result ≤ at + (item_room * count - 1) }
-{
-    let mut next = at;
-    let mut i: usize = 0;
-    while i < count {
-        let x = label_in(
-            text,
-            trees::place_entry(start, i),
-            trees::byte_entry(size, i),
-        );
-        next = put_item(i, x, area, next);
-        i += 1;
+    // Puts the bytes of x.
+    fn put_bytes(&mut self, x: &[u8])
+        requires room { self.old.at + length x.now ≤ length self.old.bytes }
+        ensures { Put self.old.bytes self.old.at x.now self.new.at self.new.bytes }
+    {
+        let end = self.at + x.len();
+        let bytes = &mut self.bytes[..];
+        bytes[self.at..end].copy_from_slice(x);
+        self.at = end;
     }
-    next
-}
 
-// Ends the line before, if there is one.
-fn put_break(first: bool, area: &mut [u8], at: usize) -> usize
-    requires { at + 1 ≤ length area.old }
-    ensures { Put area.old at (cond first [] (10 ∷ [])) result area.new }
-{
-    if first {
-        return at;
+    // Puts the decimal digits of n.
+    fn put_number(&mut self, n: usize)
+        requires room { self.old.at + digit_room ≤ length self.old.bytes }
+        ensures { Put self.old.bytes self.old.at (decimal_of n) self.new.at self.new.bytes }
+    {
+        let numeral = decimals::digits(n);
+        self.put_bytes(numeral.as_slice());
     }
-    put_byte(b'\n', area, at)
-}
 
-// Begins an `at` line with its required label.
-fn put_head(first: bool, x: ShownLabel, area: &mut [u8], at: usize) -> usize
-    requires { at + 5 + length (shown_bytes x) ≤ length area.old }
-    ensures { Put area.old at (head_text first (shown_bytes x)) result area.new }
-{
-    let a = put_break(first, area, at);
-    let b = put_bytes(b"at ", area, a);
-    let c = put_shown(x, area, b);
-    put_byte(b' ', area, c)
-}
-
-// What is before a leaf: the beginning of a line without a required label, nothing after one, or a comma.
-fn put_before(first: bool, after: bool, area: &mut [u8], at: usize) -> usize
-    requires { at + 4 ≤ length area.old }
-    ensures { Put area.old at (cond first (bytes_of "at  ") (cond after [] (44 ∷ []))) result area.new }
-{
-    if first {
-        return put_bytes(b"at  ", area, at);
+    // Puts a label as it is printed.
+    fn put_shown(&mut self, x: ShownLabel)
+        requires room { self.old.at + length (shown_bytes x) ≤ length self.old.bytes }
+        ensures { Put self.old.bytes self.old.at (shown_bytes x) self.new.at self.new.bytes }
+    {
+        self.put_bytes(x.as_slice());
     }
-    if after {
-        return at;
+
+    // Puts a label, after a comma unless it is the first.
+    fn put_item(&mut self, i: usize, x: ShownLabel)
+        requires room { self.old.at + 1 + length (shown_bytes x) ≤ length self.old.bytes }
+        ensures { Put self.old.bytes self.old.at (item i (shown_bytes x)) self.new.at self.new.bytes }
+    {
+        if i == 0 {
+            return self.put_shown(x);
+        }
+        self.put_byte(b',');
+        self.put_shown(x);
     }
-    put_byte(b',', area, at)
-}
 
-// Puts a label of the `at` lines: a required one begins a line. `after`: whether the label before it is required.
-fn put_piece(
-    first: bool,
-    after: bool,
-    head: bool,
-    x: ShownLabel,
-    area: &mut [u8],
-    at: usize,
-) -> usize
-    requires { at + 5 + length (shown_bytes x) ≤ length area.old }
-    ensures { Put area.old at (item_text first after (record { token = shown_bytes x; head = head })) result area.new }
-{
-    if head {
-        return put_head(first, x, area, at);
+    // Puts the first `count` labels that places and sizes name, joined by commas.
+    fn put_labels(&mut self, text: &[u8], places: &LabelPlaces, count: usize)
+        requires few { count ≤ leaf_limit }
+        requires room { self.old.at + item_room * count ≤ length self.old.bytes }
+        ensures put { Put self.old.bytes self.old.at
+            (joined (map token_of (labels_in text.now places.now.start places.now.size count))) self.new.at self.new.bytes }
+        ensures short { self.new.at ≤ self.old.at + (item_room * count - 1) }
+    {
+        for i in 0..count {
+            let x = label_in(
+                text,
+                usize::from(places.start[i]),
+                usize::from(places.size[i]),
+            );
+            self.put_item(i, x);
+        }
     }
-    let next = put_before(first, after, area, at);
-    put_shown(x, area, next)
-}
 
-// Puts the first `count` labels of the `at` lines, by places, sizes and marks; the last line has no end yet.
-fn put_items(
-    text: &[u8],
-    start: &[u16; ITEMS],
-    size: &[u8; ITEMS],
-    head: &[bool; ITEMS],
-    count: usize,
-    area: &mut [u8],
-    at: usize,
-) -> usize
-    requires count_bound { count ≤ 159 }
-    requires count_in_bounds { at + 39 * count ≤ length area.old }
-    ensures put { Put area.old at
-        (run_text true false (items_in text.now start.now size.now head.now count)) result
-        area.new }
-    ensures upper_bound { result ≤ at + 39 * count }
-{
-    let mut next = at;
-    let mut after = false;
-    let mut i: usize = 0;
-    while i < count {
-        let x = label_in(
-            text,
-            trees::place_entry(start, i),
-            trees::byte_entry(size, i),
-        );
-        let is_head = head[i];
-        next = put_piece(i == 0, after, is_head, x, area, next);
-        after = is_head;
-        i += 1;
+    // Ends the line before, if there is one.
+    fn put_break(&mut self, first: bool)
+        requires room { self.old.at + 1 ≤ length self.old.bytes }
+        ensures { Put self.old.bytes self.old.at (cond first [] (10 ∷ [])) self.new.at self.new.bytes }
+    {
+        if first {
+            return;
+        }
+        self.put_byte(b'\n');
     }
-    next
-}
 
-// Ends the last of these lines, if there is one.
-fn put_end(count: usize, area: &mut [u8], at: usize) -> usize
-    requires { at + 1 ≤ length area.old }
-    ensures { Put area.old at (cond (eqb count 0) [] (10 ∷ [])) result area.new }
-{
-    if count == 0 {
-        return at;
+    // Begins an `at` line with its required label.
+    fn put_head(&mut self, first: bool, x: ShownLabel)
+        requires room { self.old.at + 5 + length (shown_bytes x) ≤ length self.old.bytes }
+        ensures { Put self.old.bytes self.old.at (head_text first (shown_bytes x)) self.new.at self.new.bytes }
+    {
+        self.put_break(first);
+        self.put_bytes(b"at ");
+        self.put_shown(x);
+        self.put_byte(b' ');
     }
-    put_byte(b'\n', area, at)
-}
 
-// The lines of the pieces: `pieces` with the total, then the `at` lines.
-pub(crate) fn put_pieces(
-    text: &[u8],
-    start: &[u16; ITEMS],
-    size: &[u8; ITEMS],
-    head: &[bool; ITEMS],
-    count: usize,
-    area: &mut [u8],
-) -> usize
-    requires count_bound { count ≤ 159 }
-    requires pieces_room_in_bounds { pieces_room ≤ length area.old }
-    ensures put { Put area.old 0
-        (pieces_lines (pieces_from (items_in text.now start.now size.now head.now count))) result
-        area.new }
-    ensures upper_bound { result ≤ pieces_room }
-{
-    let a = put_bytes(b"pieces ", area, 0);
-    let n = put_number(count, area, a);
-    let c = put_byte(b'\n', area, n);
-    let d = put_items(text, start, size, head, count, area, c);
-    put_end(count, area, d)
-}
-
-// Copies a text to the output: all of it, or nothing if the output is too short.
-pub(crate) fn hand_over(text: &[u8], out: &mut [u8]) -> Result<usize, Refusal>
-    ensures answer { result ≡ line_answer text.now (length out.old) }
-    ensures output { out.new ≡ line_output text.now out.old }
-{
-    let n = text.len();
-    if out.len() < n {
-        return Err(Refusal {
-            reason: Reason::TooShort,
-            body: Body::O,
-            place: 0,
-        });
+    // Puts what is before a leaf: the beginning of a line without a required label, nothing after one, or a comma.
+    fn put_before(&mut self, first: bool, after: bool)
+        requires room { self.old.at + 4 ≤ length self.old.bytes }
+        ensures { Put self.old.bytes self.old.at (cond first (bytes_of "at  ") (cond after [] (44 ∷ []))) self.new.at self.new.bytes }
+    {
+        if first {
+            return self.put_bytes(b"at  ");
+        }
+        if after {
+            return;
+        }
+        self.put_bytes(b",");
     }
-    let end = put_bytes(text, out, 0);
-    Ok(end)
-}
 
-// The words of a refusal: `refused`, number, body letter, place.
-pub(crate) fn put_refusal(refusal: Refusal, area: &mut [u8]) -> usize
-    requires { words_room ≤ length area.old }
-    ensures { Put area.old 0 (refused_words refusal) result area.new }
-{
-    let reason = refusal.reason;
-    let body = refusal.body;
-    let a = put_bytes(b"refused ", area, 0);
-    let b = put_number(wide(trees::number(reason)), area, a);
-    let c = put_byte(b' ', area, b);
-    let d = put_byte(trees::letter(body), area, c);
-    let e = put_byte(b' ', area, d);
-    put_number(refusal.place, area, e)
-}
+    // Puts a label of the `at` lines: a required one begins a line. `after`: whether the label before it is required.
+    fn put_piece(&mut self, first: bool, after: bool, head: bool, x: ShownLabel)
+        requires room { self.old.at + 5 + length (shown_bytes x) ≤ length self.old.bytes }
+        ensures { Put self.old.bytes self.old.at (item_text first after (record { token = shown_bytes x; head = head })) self.new.at
+            self.new.bytes }
+    {
+        if head {
+            return self.put_head(first, x);
+        }
+        self.put_before(first, after);
+        self.put_shown(x);
+    }
 
-// The line of a refusal that names three labels.
-pub(crate) fn put_naming(job: &[u8], refusal: Refusal, named: Named, area: &mut [u8]) -> usize
-    requires { line_room ≤ length area.old }
-    ensures { Put area.old 0 (named_line job.now refusal named)
-        result area.new }
-{
-    let a = put_refusal(refusal, area);
-    let b = put_byte(b' ', area, a);
-    let p = named.first;
-    let x = label_in(job, p.start, p.size);
-    let c = put_item(0, x, area, b);
-    let q = named.second;
-    let y = label_in(job, q.start, q.size);
-    let d = put_item(1, y, area, c);
-    let s = named.third;
-    let z = label_in(job, s.start, s.size);
-    let e = put_item(1, z, area, d);
-    put_byte(b'\n', area, e)
-}
+    // Puts the first `count` labels of the `at` lines, by places, sizes and marks; the last line has no end yet.
+    fn put_items(&mut self, text: &[u8], pieces: &PiecePlaces, count: usize)
+        requires few { count ≤ 159 }
+        requires room { self.old.at + 39 * count ≤ length self.old.bytes }
+        ensures put { Put self.old.bytes self.old.at
+            (run_text true false (items_in text.now pieces.now.start pieces.now.size pieces.now.head count)) self.new.at self.new.bytes }
+        ensures short { self.new.at ≤ self.old.at + 39 * count }
+    {
+        let mut after = false;
+        for i in 0..count {
+            let x = label_in(
+                text,
+                usize::from(pieces.start[i]),
+                usize::from(pieces.size[i]),
+            );
+            let head = pieces.head[i];
+            self.put_piece(i == 0, after, head, x);
+            after = head;
+        }
+    }
 
-// The line of a claim that passes: `claim ok` and the size.
-pub(crate) fn put_claim(size: usize, area: &mut [u8]) -> usize
-    requires { claim_room ≤ length area.old }
-    ensures { Put area.old 0 (claim_line size) result area.new }
-{
-    let a = put_bytes(b"claim ok ", area, 0);
-    let b = put_number(size, area, a);
-    put_byte(b'\n', area, b)
-}
+    // Ends the last of these lines, if there is one.
+    fn put_end(&mut self, count: usize)
+        requires room { self.old.at + 1 ≤ length self.old.bytes }
+        ensures { Put self.old.bytes self.old.at (cond (eqb count 0) [] (10 ∷ [])) self.new.at self.new.bytes }
+    {
+        if count == 0 {
+            return;
+        }
+        self.put_byte(b'\n');
+    }
 
-// The three lines of an answer, `size`, `set` and `tree`, from `at` on.
-pub(crate) fn put_record(
-    first: &[u8],
-    start: &[u16; 80],
-    size: &[u8; 80],
-    count: usize,
-    tree: &[u8],
-    area: &mut [u8],
-    at: usize,
-) -> usize
-    requires count_le_leaf_limit { count ≤ leaf_limit }
-    requires tree_len_bound { length tree.now ≤ tree_room }
-    requires record_room_in_bounds { at + record_room ≤ length area.old }
-    ensures { Put area.old at
-        (record_lines (labels_in first.now start.now size.now count) tree.now)
-        result area.new }
-{
-    let a = put_bytes(b"size ", area, at);
-    let b = put_number(count, area, a);
-    let c = put_bytes(b"\nset ", area, b);
-    let d = put_labels(first, start, size, count, area, c);
-    let e = put_bytes(b"\ntree ", area, d);
-    let f = put_bytes(tree, area, e);
-    put_byte(b'\n', area, f)
-}
+    // Puts the lines of the pieces: `pieces` with the total, then the `at` lines.
+    fn put_pieces(&mut self, text: &[u8], pieces: &PiecePlaces)
+        requires room { self.old.at + pieces_room ≤ length self.old.bytes }
+        ensures put { Put self.old.bytes self.old.at (placed_pieces text.now pieces.now) self.new.at self.new.bytes }
+        ensures short { self.new.at ≤ self.old.at + pieces_room }
+    {
+        let labels = pieces.count.min(ITEMS);
+        self.put_bytes(b"pieces ");
+        self.put_number(labels);
+        self.put_byte(b'\n');
+        self.put_items(text, pieces, labels);
+        self.put_end(labels);
+    }
 
-// The line `always` from `at` on.
-pub(crate) fn put_always(
-    first: &[u8],
-    start: &[u16; 80],
-    size: &[u8; 80],
-    count: usize,
-    area: &mut [u8],
-    at: usize,
-) -> usize
-    requires count_le_leaf_limit { count ≤ leaf_limit }
-    requires always_room_in_bounds { at + always_room ≤ length area.old }
-    ensures { Put area.old at
-        (always_line (map token_of (labels_in first.now start.now size.now count)))
-        result area.new }
-{
-    let a = put_bytes(b"always ", area, at);
-    let b = put_labels(first, start, size, count, area, a);
-    put_byte(b'\n', area, b)
+    // Puts the lines of the pieces if they are asked for.
+    pub(crate) fn put_asked(&mut self, asked: bool, text: &[u8], pieces: &PiecePlaces)
+        requires room { self.old.at + pieces_room ≤ length self.old.bytes }
+        ensures put { Put self.old.bytes self.old.at (cond asked (placed_pieces text.now pieces.now) []) self.new.at self.new.bytes }
+        ensures short { self.new.at ≤ self.old.at + pieces_room }
+    {
+        if asked {
+            return self.put_pieces(text, pieces);
+        }
+    }
+
+    // Puts the words of a refusal: `refused`, number, body letter, place.
+    pub(crate) fn put_refusal(&mut self, refusal: Refusal)
+        requires room { self.old.at + words_room ≤ length self.old.bytes }
+        ensures { Put self.old.bytes self.old.at (refused_words refusal) self.new.at self.new.bytes }
+    {
+        let reason = refusal.reason;
+        let body = refusal.body;
+        self.put_bytes(b"refused ");
+        self.put_number(usize::from(u8::from(reason)));
+        self.put_bytes(&[b' ', u8::from(body), b' ']);
+        self.put_number(refusal.place);
+    }
+
+    // Puts the line of a refusal that names three labels.
+    pub(crate) fn put_naming(&mut self, job: &[u8], refusal: Refusal, named: Named)
+        requires room { self.old.at + line_room ≤ length self.old.bytes }
+        ensures { Put self.old.bytes self.old.at (named_line job.now refusal named) self.new.at self.new.bytes }
+    {
+        self.put_refusal(refusal);
+        self.put_bytes(b" ");
+        let p = named.first;
+        self.put_item(0, label_in(job, p.start, p.size));
+        let q = named.second;
+        self.put_item(1, label_in(job, q.start, q.size));
+        let s = named.third;
+        self.put_item(1, label_in(job, s.start, s.size));
+        self.put_byte(b'\n');
+    }
+
+    // Puts the line of a claim that passes: `claim ok` and the size.
+    pub(crate) fn put_claim(&mut self, size: usize)
+        requires room { self.old.at + claim_room ≤ length self.old.bytes }
+        ensures { Put self.old.bytes self.old.at (claim_line size) self.new.at self.new.bytes }
+    {
+        self.put_bytes(b"claim ok ");
+        self.put_number(size);
+        self.put_byte(b'\n');
+    }
+
+    // Puts the three lines of a set, `size`, `set` and `tree`.
+    pub(crate) fn put_record(&mut self, first: &[u8], set: &LabelPlaces, tree: &[u8])
+        requires room { self.old.at + record_room ≤ length self.old.bytes }
+        ensures { Put self.old.bytes self.old.at (placed_record first.now set.now tree.now) self.new.at self.new.bytes }
+    {
+        let count = set.count.min(LEAF_LIMIT);
+        self.put_bytes(b"size ");
+        self.put_number(count);
+        self.put_bytes(b"\nset ");
+        self.put_labels(first, set, count);
+        self.put_bytes(b"\ntree ");
+        self.put_bytes(front(tree));
+        self.put_byte(b'\n');
+    }
+
+    // Puts the line `always`.
+    pub(crate) fn put_always(&mut self, first: &[u8], always: &LabelPlaces)
+        requires room { self.old.at + always_room ≤ length self.old.bytes }
+        ensures { Put self.old.bytes self.old.at (placed_always first.now always.now) self.new.at self.new.bytes }
+    {
+        self.put_bytes(b"always ");
+        self.put_labels(first, always, always.count.min(LEAF_LIMIT));
+        self.put_byte(b'\n');
+    }
+
+    // Copies the text to the output: all of it, or nothing if the output is too short.
+    pub(crate) fn hand_over(&self, out: &mut [u8]) -> Result<usize, Refusal>
+        requires room { self.now.at ≤ length self.now.bytes }
+        ensures answer { result ≡ line_answer (take self.now.at self.now.bytes) (length out.old) }
+        ensures output { out.new ≡ line_output (take self.now.at self.now.bytes) out.old }
+    {
+        let n = self.at;
+        if out.len() < n {
+            return Err(Refusal {
+                reason: Reason::TooShort,
+                body: Body::O,
+                place: 0,
+            });
+        }
+        let bytes = &self.bytes[..];
+        out[..n].copy_from_slice(&bytes[..n]);
+        Ok(n)
+    }
 }

@@ -4,13 +4,12 @@
 // No public function has a `requires`.
 #![tactic(auto)]
 
-ghost use Rattle.std.specs.Prelude.{◌≡◌, cond, [], ◌++◌, ◌+◌, ◌≤◌, length, take};
-ghost use Rattle.trees.specs.Text.{tree_room};
-ghost use Rattle.lines.specs.Areas.{Put};
-ghost use Rattle.lines.specs.Lines.{record_room, always_room, refused_line, named_line, claim_line};
-ghost use Rattle.lines.specs.PieceLines.{placed_record, placed_always, placed_pieces, pieces_room, lines_at};
+ghost use Rattle.std.specs.Prelude.{◌≡◌, ◌++◌, length};
+ghost use Rattle.lines.specs.Lines.{refused_line, named_line, claim_line};
+ghost use Rattle.lines.specs.PieceLines.{placed_record, placed_pieces, lines_at};
 ghost use Rattle.lines.specs.Output.{line_answer, line_output, written_part};
 
+use areas::Area;
 use decimals::DIGIT_ROOM;
 use division::PiecePlaces;
 use lists::LabelPlaces;
@@ -56,10 +55,13 @@ pub fn refusal_line(refusal: Refusal, out: &mut [u8]) -> Result<usize, Refusal>
     ensures answer { result ≡ line_answer (refused_line refusal) (length out.old) }
     ensures output { out.new ≡ line_output (refused_line refusal) out.old }
 {
-    let mut line = [0u8; LINE_ROOM];
-    let end = areas::put_refusal(refusal, &mut line);
-    let n = areas::put_byte(b'\n', &mut line, end);
-    areas::hand_over(&line[..n], out)
+    let mut line = Area {
+        bytes: [0u8; LINE_ROOM],
+        at: 0,
+    };
+    line.put_refusal(refusal);
+    line.put_byte(b'\n');
+    line.hand_over(out)
 }
 
 // Writes the line of a refusal that names three labels, number 8 or 14, into `out`. Starts and sizes name parts of the job; the labels are
@@ -73,9 +75,12 @@ pub fn naming_line(
     ensures answer { result ≡ line_answer (named_line job.now refusal named) (length out.old) }
     ensures output { out.new ≡ line_output (named_line job.now refusal named) out.old }
 {
-    let mut line = [0u8; LINE_ROOM];
-    let n = areas::put_naming(job, refusal, named, &mut line);
-    areas::hand_over(&line[..n], out)
+    let mut line = Area {
+        bytes: [0u8; LINE_ROOM],
+        at: 0,
+    };
+    line.put_naming(job, refusal, named);
+    line.hand_over(out)
 }
 
 // Writes the line of a claim that passes into `out`.
@@ -83,64 +88,12 @@ pub fn claim_line(size: usize, out: &mut [u8]) -> Result<usize, Refusal>
     ensures answer { result ≡ line_answer (claim_line size) (length out.old) }
     ensures output { out.new ≡ line_output (claim_line size) out.old }
 {
-    let mut line = [0u8; LINE_ROOM];
-    let n = areas::put_claim(size, &mut line);
-    areas::hand_over(&line[..n], out)
-}
-
-// The front of a tree's text, no longer than one can be.
-fn front<'a>(tree: &'a [u8]) -> &'a [u8]
-    ensures { result.now ≡ take tree_room tree.now }
-{
-    trees::part(tree, 0, trees::least(tree.len(), TREE_ROOM))
-}
-
-// Puts the three lines of a set from `at` on.
-fn put_set(first: &[u8], set: LabelPlaces, tree: &[u8], area: &mut [u8], at: usize) -> usize
-    requires { at + record_room ≤ length area.old }
-    ensures { Put area.old at (placed_record first.now set tree.now) result area.new }
-{
-    let count = trees::least(set.count, LEAF_LIMIT);
-    let text = front(tree);
-    let start = set.start;
-    let size = set.size;
-    areas::put_record(first, &start, &size, count, text, area, at)
-}
-
-// Puts the line `always` from `at` on.
-fn put_shared(first: &[u8], always: LabelPlaces, area: &mut [u8], at: usize) -> usize
-    requires { at + always_room ≤ length area.old }
-    ensures { Put area.old at (placed_always first.now always) result area.new }
-{
-    let count = trees::least(always.count, LEAF_LIMIT);
-    let start = always.start;
-    let size = always.size;
-    areas::put_always(first, &start, &size, count, area, at)
-}
-
-// Puts the lines of the pieces.
-fn put_division(first: &[u8], pieces: PiecePlaces, area: &mut [u8]) -> usize
-    requires { pieces_room ≤ length area.old }
-    ensures put { Put area.old 0 (placed_pieces first.now pieces) result area.new }
-    ensures upper_bound { result ≤ pieces_room }
-{
-    let labels = trees::least(pieces.count, ITEMS);
-    let start = pieces.start;
-    let size = pieces.size;
-    let head = pieces.head;
-    areas::put_pieces(first, &start, &size, &head, labels, area)
-}
-
-// Puts the lines of the pieces if they are asked for.
-fn put_asked(asked: bool, first: &[u8], pieces: PiecePlaces, area: &mut [u8]) -> usize
-    requires { pieces_room ≤ length area.old }
-    ensures put { Put area.old 0 (cond asked (placed_pieces first.now pieces) []) result area.new }
-    ensures upper_bound { result ≤ pieces_room }
-{
-    if asked {
-        return put_division(first, pieces, area);
-    }
-    0
+    let mut line = Area {
+        bytes: [0u8; LINE_ROOM],
+        at: 0,
+    };
+    line.put_claim(size);
+    line.hand_over(out)
 }
 
 // Writes the lines of a set, after those of its pieces if they are asked for. It has two callers, so the compiler leaves it a function of its
@@ -148,18 +101,21 @@ fn put_asked(asked: bool, first: &[u8], pieces: PiecePlaces, area: &mut [u8]) ->
 fn write_lines(
     asked: bool,
     first: &[u8],
-    pieces: PiecePlaces,
-    set: LabelPlaces,
+    pieces: &PiecePlaces,
+    set: &LabelPlaces,
     tree: &[u8],
     out: &mut [u8],
 ) -> Result<usize, Refusal>
-    ensures answer { result ≡ line_answer (lines_at asked first.now pieces set tree.now) (length out.old) }
-    ensures output { out.new ≡ line_output (lines_at asked first.now pieces set tree.now) out.old }
+    ensures answer { result ≡ line_answer (lines_at asked first.now pieces.now set.now tree.now) (length out.old) }
+    ensures output { out.new ≡ line_output (lines_at asked first.now pieces.now set.now tree.now) out.old }
 {
-    let mut area = [0u8; DIVIDED_ROOM];
-    let at = put_asked(asked, first, pieces, &mut area);
-    let n = put_set(first, set, tree, &mut area, at);
-    areas::hand_over(&area[..n], out)
+    let mut area = Area {
+        bytes: [0u8; DIVIDED_ROOM],
+        at: 0,
+    };
+    area.put_asked(asked, first, pieces);
+    area.put_record(first, set, tree);
+    area.hand_over(out)
 }
 
 // Writes the three lines of a set into `out`. The set's places and sizes name parts of the first tree's text. No set has more than 80
@@ -173,7 +129,7 @@ pub fn set_lines(
     ensures answer { result ≡ line_answer (placed_record first.now set tree.now) (length out.old) }
     ensures output { out.new ≡ line_output (placed_record first.now set tree.now) out.old }
 {
-    write_lines(false, first, division::no_pieces(), set, tree, out)
+    write_lines(false, first, &division::no_pieces(), &set, tree, out)
 }
 
 // Writes the lines of the pieces and the three lines of a set into `out`. Places and sizes name parts of the first tree's text. No job has
@@ -190,5 +146,5 @@ pub fn divided_lines(
     ensures output { out.new ≡ line_output (placed_pieces first.now pieces ++ placed_record first.now set tree.now)
         out.old }
 {
-    write_lines(true, first, pieces, set, tree, out)
+    write_lines(true, first, &pieces, &set, tree, out)
 }
