@@ -15,7 +15,7 @@ ghost use Rattle.triples.specs.Verdict.{verdict, verdict_of};
 ghost use Rattle.triples.specs.Clash.{clash_ranks, RankedTree, Ranks};
 ghost use Rattle.triples.specs.Loops.{label_in, rank_in, InOrder, LeavesFound, lack_from, told_of, AsRead};
 
-use crate::ancestors::{lca_row, lows};
+use crate::ancestors::Lows;
 use crate::search::clash_with;
 use lists::LabelPlaces;
 use trees::{Body, Edition, Reason, Refusal, TreeArrays};
@@ -139,13 +139,11 @@ pub fn first_clash(one: &RankedLeaves, two: &RankedLeaves, count: usize) -> Opti
         → result ≡ clash_ranks xs (first_clash s t xs) }
 {
     let most = count.min(80);
-    let end1 = one.nodes.min(159);
-    let end2 = two.nodes.min(159);
-    let low1 = lows(&one.left, end1);
-    let low2 = lows(&two.left, end2);
+    let lows1 = Lows::of(&one.left, one.nodes);
+    let lows2 = Lows::of(&two.left, two.nodes);
     for i in 0..most {
-        let row1 = lca_row(&low1, end1, &one.leaf, most, i);
-        let row2 = lca_row(&low2, end2, &two.leaf, most, i);
+        let row1 = lows1.lca_row(&one.leaf, most, i);
+        let row2 = lows2.lca_row(&two.leaf, most, i);
         if let Some(three) = clash_with(&row1, &row2, most, i) {
             return Some(three);
         }

@@ -28,7 +28,7 @@ returns-in-Some-clause-value c =
     let d = inc_distinct xs inc in
     let l : n ≡ length xs = omega (arith, c.min-most.ensures) in
     let tells = rows_tell s t xs d a.one.now.left a.one.now.nodes a.one.now.leaf a.two.now.left a.two.now.nodes a.two.now.leaf p q
-    c.lows-low1.result c.lows-low2.result _ _ c.min-end1.ensures c.min-end2.ensures c.lows-low1.ensures c.lows-low2.ensures
+    c.of-lows1.result.low c.of-lows2.result.low _ _ c.of-lows1.ensures.end c.of-lows2.ensures.end c.of-lows1.ensures.each c.of-lows2.ensures.each
     n i c.lca_row-row1.result c.lca_row-row2.result l c.loop-i-test.true c.lca_row-row1.ensures c.lca_row-row2.ensures in
     let told = sym c.in-Some.is ∙ c.clash_with.ensures (clash_at s t xs i) tells in
     let first = sym (from_hit (λ k. ltb (second_of (clash_at s t xs k) n k) n) n i (three_some (clash_at s t xs i) n i c.in-Some.three told))
@@ -40,8 +40,8 @@ loop-i-preserved c =
     let n = c.min-most.result in let i = c.loop-i.i in let a = c.args in
     λ s t xs inc l p q.
     let tells = rows_tell s t xs (inc_distinct xs inc) a.one.now.left a.one.now.nodes a.one.now.leaf a.two.now.left a.two.now.nodes
-    a.two.now.leaf p q c.lows-low1.result c.lows-low2.result _ _ c.min-end1.ensures c.min-end2.ensures c.lows-low1.ensures
-    c.lows-low2.ensures n i c.lca_row-row1.result c.lca_row-row2.result l c.loop-i-test.true c.lca_row-row1.ensures
+    a.two.now.leaf p q c.of-lows1.result.low c.of-lows2.result.low _ _ c.of-lows1.ensures.end c.of-lows2.ensures.end c.of-lows1.ensures.each
+    c.of-lows2.ensures.each n i c.lca_row-row1.result c.lca_row-row2.result l c.loop-i-test.true c.lca_row-row1.ensures
     c.lca_row-row2.ensures in
     sym (from_miss (λ k. ltb (second_of (clash_at s t xs k) n k) n) n i c.loop-i-test.true
     (three_none (clash_at s t xs i) n i (sym c.in_default.is ∙ c.clash_with.ensures (clash_at s t xs i) tells)))

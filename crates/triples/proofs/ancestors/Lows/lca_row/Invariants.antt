@@ -2,7 +2,7 @@
 use Rattle.triples.specs.Loops.{LcaRow}
 use mathlib.Core.Path.{◌≡◌}
 use lib.ListN.{length}
-use Rattle.triples.proofs.ancestors.lca_row.Given as goal
+use Rattle.triples.proofs.ancestors.Lows.lca_row.Given as goal
 
 abbrev pub invariant-loop-q : goal.invariant-loop-q
-invariant-loop-q l = (length l.row ≡ 80) × LcaRow l.low l.nodes l.leaf l.q l.i l.row
+invariant-loop-q l = (length l.row ≡ 80) × LcaRow l.self.low l.self.nodes l.leaf l.q l.i l.row

@@ -3,7 +3,7 @@ use Prim.Native.Nat.{ℕ, ◌<◌}
 use mathlib.Core.Path.{◌≡◌}
 use lib.ListN.{length}
 use Rattle.triples.specs.Loops.{LowAt}
-use Rattle.triples.proofs.ancestors.lows.Given as goal
+use Rattle.triples.proofs.ancestors.Lows.of.Given as goal
 
 abbrev pub invariant-loop-u : goal.invariant-loop-u
 invariant-loop-u l = (length l.low ≡ 159) × ((v : ℕ) → v < l.u → LowAt l.left l.low v)

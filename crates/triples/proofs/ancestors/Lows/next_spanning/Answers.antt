@@ -4,13 +4,13 @@ use native.Mathlib.Decide.{dec_le}
 use borrow.Author.Tests.{lt-leb}
 use Rattle.triples.specs.Loops.{span_from}
 use Rattle.triples.proofs.SpanLaws.{span_end, span_hit, span_miss}
-use Rattle.triples.proofs.ancestors.next_spanning.Goals as goal
+use Rattle.triples.proofs.ancestors.Lows.next_spanning.Goals as goal
 
-pub returns-then-low-k : goal.returns-then-low-k
-returns-then-low-k c = sym (span_hit _ _ _ _ (le-leb _ _ c.if-low-k.true)) ∙ c.loop-k.invariant
+pub returns-then-self-k : goal.returns-then-self-k
+returns-then-self-k c = sym (span_hit _ _ _ _ (le-leb _ _ c.if-self-k.true)) ∙ c.loop-k.invariant
 
 pub loop-k-preserved : goal.loop-k-preserved
-loop-k-preserved c = sym (span_miss _ _ _ _ c.loop-k-test.true (lt-leb _ _ c.if-low-k.false)) ∙ c.loop-k.invariant
+loop-k-preserved c = sym (span_miss _ _ _ _ c.loop-k-test.true (lt-leb _ _ c.if-self-k.false)) ∙ c.loop-k.invariant
 
 passed : (low : List ℕ) (v nodes w k : ℕ) → nodes ≤ k → (w ≤ nodes → k ≤ nodes) → span_from low v nodes k ≡ span_from low v nodes w
     → max w nodes ≡ span_from low v nodes w
