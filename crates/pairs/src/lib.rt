@@ -32,6 +32,7 @@ pub struct Options {
 }
 
 // The common leaves in label order, by their numbers in both trees, and how many they are. A label's index here is its rank.
+// Two columns and a count, since memory is fixed; `rank_leaves` is lent a column alone.
 #[derive(Clone, Copy)]
 pub struct CommonOrder {
     pub count: usize,
@@ -66,6 +67,7 @@ pub fn read_pair(options: Options, first: &[u8], second: &[u8]) -> Result<Pair, 
     ensures { PairIs options first.now second.now result }
 {
     let edition = options.edition;
+    // `let .. else` is the form that 01 names for a body that fails to read; `?` would do the same.
     let one = newick::read_tree(edition, first, Body::S);
     let answer1 = one.answer;
     let Ok(leaves1) = answer1 else {

@@ -62,7 +62,7 @@ fn rank_in(
 }
 
 // Marks each common label of the list, by rank, with its number in the list, counted from 1; or the number, counted from 0, of the first label
-// of the list that is not common.
+// of the list that is not common. A mark 0 is no number: so says `Marked`, the definition in the table's contract.
 fn mark(
     edition: Edition,
     text1: &[u8],
