@@ -1,5 +1,5 @@
 -- From nodes to ranks: the leaves' values by rank, the lines of ranks, and the lines' heads. Assumes nothing.
-use Prim.Native.Nat.{ℕ, ◌+◌, ◌<◌, ◌≤◌, min}
+use Prim.Native.Nat.{ℕ, zero, suc, ◌+◌, ◌<◌, ◌≤◌, min}
 use mathlib.Core.Path.{◌≡◌, refl, sym, ◌∙◌, ap}
 use mathlib.Core.Bool.{Bool, true, false, cond, not, ◌&&◌}
 use mathlib.Core.Logic.{◌⊎◌, inl, inr}
@@ -9,6 +9,7 @@ use lib.Dec.{eqb}
 use lib.ListN.{length, get_or, set, replicate}
 use lib.Seq.{get_or-set_same, get_or-set_other}
 use borrow.Author.Tests.{eqb-true, eqb-false, ne_eqb}
+use Rattle.std.specs.Prelude.{Option, Some, None}
 use Rattle.trees.specs.declared.TreeArrays.{TreeArrays}
 use Rattle.trees.specs.Label.{Label, is_in}
 use Rattle.trees.specs.Tree.{Tree, leaf}
@@ -22,7 +23,7 @@ use Rattle.leaves.specs.Numbered.{LeafIs}
 use Rattle.agreement.specs.Closer.{holds}
 use Rattle.places.specs.Nodes.{TreeRanks, is_inner, rank_among, LeafNumbers, ValuesByRank, RankNumbers, line_at, HeadOn, no_leaf, leaf_there, LinesByRank}
 use Rattle.places.proofs.RankLaws.{once, rank_is, leaf_rank}
-use Rattle.places.proofs.UpwardLaws.{inner_yes, inner_no, filled, laid_at}
+use Rattle.places.proofs.UpwardLaws.{inner_yes, inner_no, laid_at}
 
 -- values by rank
 
@@ -103,16 +104,21 @@ rank_numbers {C = C} number top line tops g numbers by bt = record {
 
 -- lines by rank
 
+none_filled : (n i : ℕ) → get_or (replicate {A = Option ℕ} n None) i None ≡ None
+none_filled zero i = refl
+none_filled (suc n) zero = refl
+none_filled (suc n) (suc i) = none_filled n i
+
 module _ (number one two tops : List ℕ) where
-  pub lines_none : (line : List ℕ) (heads : List ℕ) → heads ≡ replicate {A = ℕ} 160 81 → LinesByRank 0 number one two tops line heads
+  pub lines_none : (line : List ℕ) (heads : List (Option ℕ)) → heads ≡ replicate {A = Option ℕ} 160 None → LinesByRank 0 number one two tops line heads
   lines_none line heads e = record {
     each = λ r h. absurd (omega arith);
-    head_on = λ j h. no_leaf (ap (λ (l : List ℕ). get_or l j 0) e ∙ filled 160 j 81 h) (λ r l. absurd (omega arith));
+    head_on = λ j h. no_leaf (ap (λ (l : List (Option ℕ)). get_or l j None) e ∙ none_filled 160 j) (λ r l. absurd (omega arith));
   }
 
-  module _ (r j : ℕ) (line heads : List ℕ) (h : r < 80) (small : j ≤ 159) (sl : length line ≡ 81) (sh : length heads ≡ 160)
+  module _ (r j : ℕ) (line : List ℕ) (heads : List (Option ℕ)) (h : r < 80) (small : j ≤ 159) (sl : length line ≡ 81) (sh : length heads ≡ 160)
       (is : j ≡ line_at (get_or number r 0) (get_or one r 0) (get_or two r 0)) (lines : LinesByRank r number one two tops line heads) where
-    kept : (i n : ℕ) → (i ≡ j → ⊥) → HeadOn r line tops i n → HeadOn (r + 1) (set line r j) tops i n
+    kept : (i : ℕ) (n : Option ℕ) → (i ≡ j → ⊥) → HeadOn r line tops i n → HeadOn (r + 1) (set line r j) tops i n
     kept i n d (no_leaf e f) = no_leaf e (λ q l k. go q l k (bool_cases (eqb q r)))
       where
         go : (q : ℕ) → q < r + 1 → get_or (set line r j) q 0 ≡ i → (eqb q r ≡ true) ⊎ (eqb q r ≡ false) → ⊥
@@ -124,16 +130,16 @@ module _ (number one two tops : List ℕ) where
         leaf_there q (omega arith) (get_or-set_other line r q j 0 (omega arith) ∙ k) e
 
     head_next : (i : ℕ) → i < 160 → (eqb i j ≡ true) ⊎ (eqb i j ≡ false)
-        → HeadOn (r + 1) (set line r j) tops i (get_or (set heads j (get_or tops r 0)) i 0)
+        → HeadOn (r + 1) (set line r j) tops i (get_or (set heads j (Some (get_or tops r 0))) i None)
     head_next i l (inl e) =
         let same = eqb-true i j e in
         leaf_there r (omega arith) (get_or-set_same line r j 0 (omega arith) ∙ sym same)
-        (ap (λ (n : ℕ). get_or (set heads j (get_or tops r 0)) n 0) same ∙ get_or-set_same heads j (get_or tops r 0) 0 (omega arith))
+        (ap (λ (n : ℕ). get_or (set heads j (Some (get_or tops r 0))) n None) same ∙ get_or-set_same heads j (Some (get_or tops r 0)) None (omega arith))
     head_next i l (inr e) =
-        rw (get_or-set_other heads j i (get_or tops r 0) 0 (eqb-false i j e))
-        (kept i (get_or heads i 0) (eqb-false i j e) (lines.head_on i l))
+        rw (get_or-set_other heads j i (Some (get_or tops r 0)) None (eqb-false i j e))
+        (kept i (get_or heads i None) (eqb-false i j e) (lines.head_on i l))
 
-    pub lines_more : LinesByRank (r + 1) number one two tops (set line r j) (set heads j (get_or tops r 0))
+    pub lines_more : LinesByRank (r + 1) number one two tops (set line r j) (set heads j (Some (get_or tops r 0)))
     lines_more = record {
       each =
           store_next (λ k x. x ≡ line_at (get_or number k 0) (get_or one k 0) (get_or two k 0)) line r j (omega arith) lines.each is;
@@ -170,8 +176,8 @@ line_cases n a b h = go (eqb n 0) (eqb a b)
     go false q = inr refl
 
 -- the label of rank r as it is stored
-pub lines_step : (number one two tops : List ℕ) (r j x : ℕ) (line heads line' heads' : List ℕ) → r < 80 → j ≤ 159 → length line ≡ 81
+pub lines_step : (number one two tops : List ℕ) (r j x : ℕ) (line : List ℕ) (heads : List (Option ℕ)) (line' : List ℕ) (heads' : List (Option ℕ)) → r < 80 → j ≤ 159 → length line ≡ 81
     → length heads ≡ 160 → j ≡ line_at (get_or number r 0) (get_or one r 0) (get_or two r 0) → x ≡ get_or tops r 0 → line' ≡ set line r j
-    → heads' ≡ set heads j x → LinesByRank r number one two tops line heads → LinesByRank (r + 1) number one two tops line' heads'
+    → heads' ≡ set heads j (Some x) → LinesByRank r number one two tops line heads → LinesByRank (r + 1) number one two tops line' heads'
 lines_step number one two tops r j x line heads line' heads' h small sl sh is ex el eh lines =
     rw (el, eh, ex) (lines_more number one two tops r j line heads h small sl sh is lines)

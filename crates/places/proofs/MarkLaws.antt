@@ -8,6 +8,7 @@ use lib.Dec.{eqb}
 use lib.ListN.{length, get_or, take}
 use lib.Seq.{take-suc, take-length}
 use borrow.Author.Tests.{eq-eqb, ne_eqb, lt-ltb, le-ltb}
+use Rattle.std.specs.Prelude.{Option, Some, None}
 use Rattle.trees.specs.Label.{Label, is_in}
 use Rattle.agreement.specs.Sets.{keep}
 use Rattle.agreement.proofs.KeepLaws.{keep_append}
@@ -35,26 +36,25 @@ leaves_next L line j r =
 
 -- a line with its head
 
-pub line_none : (L : List Mark) (line : List ℕ) (m j h : ℕ) → h ≡ 81 → L ≡ L ++ line_marks line m j h
+pub line_none : (L : List Mark) (line : List ℕ) (m j : ℕ) (h : Option ℕ) → h ≡ None → L ≡ L ++ line_marks line m j h
 unfolding line_marks
 line_none L line m j h e = rw e (sym (append-nil L))
 
-pub line_bare : (L : List Mark) (line : List ℕ) (m j h : ℕ) → (h ≡ 81 → ⊥) → 80 ≤ h
-    → L ++ leaf_marks line j m ≡ L ++ line_marks line m j h
+pub line_bare : (L : List Mark) (line : List ℕ) (m j h : ℕ) → 80 ≤ h → L ++ leaf_marks line j m ≡ L ++ line_marks line m j (Some h)
 unfolding line_marks head_marks
-line_bare L line m j h n l = rw (ne_eqb h 81 n, le-ltb h 80 l) refl
+line_bare L line m j h l = rw (le-ltb h 80 l) refl
 
-pub line_headed : (L : List Mark) (line : List ℕ) (m j h : ℕ) → (h ≡ 81 → ⊥) → h < 80
-    → (L ++ (record { rank = h; head = true } ∷ [])) ++ leaf_marks line j m ≡ L ++ line_marks line m j h
+pub line_headed : (L : List Mark) (line : List ℕ) (m j h : ℕ) → h < 80
+    → (L ++ (record { rank = h; head = true } ∷ [])) ++ leaf_marks line j m ≡ L ++ line_marks line m j (Some h)
 unfolding line_marks head_marks
-line_headed L line m j h n l =
-    rw (ne_eqb h 81 n, lt-ltb h 80 l) (append_assoc L (record { rank = h; head = true } ∷ []) (leaf_marks line j m))
+line_headed L line m j h l =
+    rw (lt-ltb h 80 l) (append_assoc L (record { rank = h; head = true } ∷ []) (leaf_marks line j m))
 
-pub lines_none_listed : (line heads : List ℕ) (m : ℕ) → [] ≡ marks_to line heads m 0
+pub lines_none_listed : (line : List ℕ) (heads : List (Option ℕ)) (m : ℕ) → [] ≡ marks_to line heads m 0
 unfolding marks_to
 lines_none_listed line heads m = refl
 
-pub lines_next : (line heads : List ℕ) (m j h : ℕ) → h ≡ get_or heads j 0
+pub lines_next : (line : List ℕ) (heads : List (Option ℕ)) (m j : ℕ) (h : Option ℕ) → h ≡ get_or heads j None
     → marks_to line heads m j ++ line_marks line m j h ≡ marks_to line heads m (j + 1)
 unfolding marks_to
 lines_next line heads m j h e =
@@ -169,15 +169,14 @@ module _ (C : List Label) (line tops : List ℕ) (few : length C ≤ 80) (j : �
       Rattle.agreement.proofs.SetLaws.in_nil (get_or C r []) (ap (is_in (get_or C r [])) (sym k) ∙ m)
 
   -- a line with its head
-  pub line_shows : (h : ℕ) (req : List Label) → HeadOn (length C) line tops j h
+  pub line_shows : (h : Option ℕ) (req : List Label) → HeadOn (length C) line tops j h
       → ((r : ℕ) → r < length C → get_or line r 0 ≡ j → HeadFits C (get_or tops r 0) req)
       → Shows C (line_marks line (length C) j h) (items_of (listed req (keep X C) []))
   unfolding line_marks
   line_shows h req (no_leaf e f) fits =
       rw (e, empty_line req (keep X C) (shows_nothing (no_marks line j (length C) f) all_leaves)) shows_none
   line_shows h req (leaf_there r l k e) fits =
-      let fit : HeadFits C h req = rw e (fits r l k) in
-      rw (ne_eqb h 81 (fits_leaf fit), full_line req (keep X C) (in_line r l k)) (shows_append (fits_shows fit) all_leaves)
+      rw (e, full_line req (keep X C) (in_line r l k)) (shows_append (fits_shows (fits r l k)) all_leaves)
 
 -- line by line
 
@@ -200,10 +199,10 @@ all_append (p ∷ ps) qs =
 abbrev pub no_piece : Piece
 no_piece = record { required = []; others = [] }
 
-module _ (C : List Label) (line heads : List ℕ) (m : ℕ) where
+module _ (C : List Label) (line : List ℕ) (heads : List (Option ℕ)) (m : ℕ) where
   pub lines_show : (ps : List Piece)
       → ((j : ℕ) → j < length ps
-      → Shows C (line_marks line m j (get_or heads j 0)) (items_of (listed (get_or ps j no_piece).required (get_or ps j no_piece).others [])))
+      → Shows C (line_marks line m j (get_or heads j None)) (items_of (listed (get_or ps j no_piece).required (get_or ps j no_piece).others [])))
       → (n : ℕ) → n ≤ length ps → Shows C (marks_to line heads m n) (items_of (listed_all (take n ps)))
   unfolding marks_to listed_all items_of
   lines_show ps f zero h = shows_none
@@ -215,7 +214,7 @@ module _ (C : List Label) (line heads : List ℕ) (m : ℕ) where
       ∙ items_append (listed_all (take n ps)) (listed_all (get_or ps n no_piece ∷ [])) in
       rw e (shows_append (lines_show ps f n (omega arith)) (f n (omega arith)))
 
-  pub marks_rest : (k n N : ℕ) → N ≡ n + k → ((j : ℕ) → n ≤ j → j < N → line_marks line m j (get_or heads j 0) ≡ [])
+  pub marks_rest : (k n N : ℕ) → N ≡ n + k → ((j : ℕ) → n ≤ j → j < N → line_marks line m j (get_or heads j None) ≡ [])
       → marks_to line heads m N ≡ marks_to line heads m n
   unfolding marks_to
   marks_rest zero n N e f = let same : N ≡ n = omega arith in ap (marks_to line heads m) same

@@ -10,6 +10,7 @@ use lib.Dec.{eqb}
 use lib.ListN.{length, get_or, length-map}
 use lib.Seq.{take-length}
 use borrow.Author.Tests.{eqb-true, eq-eqb}
+use Rattle.std.specs.Prelude.{Option, None}
 use Rattle.trees.specs.declared.TreeArrays.{TreeArrays}
 use Rattle.trees.specs.Label.{Label, is_in, distinct}
 use Rattle.trees.specs.Tree.{Tree, leaf, node, leaves, normal}
@@ -136,7 +137,7 @@ module _ (s t : Tree) (K : List Label) (tree1 tree2 : TreeArrays) (rank1 rank2 :
     (one : TreeRanks s (common s t) K tree1 rank1 n number) (two : TreeRanks t (common s t) K tree2 rank2 n number)
     (dk : distinct K ≡ true) (required : Common s t (set_of K)) (agree : Agree s t (set_of K))
     (line1 line2 tops tops2 : List ℕ) (ranks1 : RankNumbers s (common s t) K line1 tops)
-    (ranks2 : RankNumbers t (common s t) K line2 tops2) (line heads : List ℕ) (lines : LinesByRank n number line1 line2 tops line heads) where
+    (ranks2 : RankNumbers t (common s t) K line2 tops2) (line : List ℕ) (heads : List (Option ℕ)) (lines : LinesByRank n number line1 line2 tops line heads) where
   abbrev C : List Label
   C = common s t
 
@@ -153,12 +154,12 @@ module _ (s t : Tree) (K : List Label) (tree1 tree2 : TreeArrays) (rank1 rank2 :
     line_is : get_or line r 0 ≡ line_at (get_or number r 0) (line_in K s (get_or C r []) N) (line_in K t (get_or C r []) N)
     line_is = lines.each r (omega (arith, one.all)) ∙ ap₂ (line_at (get_or number r 0)) (ranks1.line_is r h) (ranks2.line_is r h)
 
-  head_on : (j : ℕ) → j < 160 → HeadOn (length C) line tops j (get_or heads j 0)
-  head_on j h = subst (λ (i : ℕ). HeadOn i line tops j (get_or heads j 0)) one.all (lines.head_on j h)
+  head_on : (j : ℕ) → j < 160 → HeadOn (length C) line tops j (get_or heads j None)
+  head_on j h = subst (λ (i : ℕ). HeadOn i line tops j (get_or heads j None)) one.all (lines.head_on j h)
 
   -- past the places there is no line
   rest_empty : (L : ℕ) → ((r : ℕ) → r < length C → line_in K s (get_or C r []) N < L) → L ≤ 159 → (j : ℕ) → L ≤ j → j < 159
-      → (h : ℕ) → HeadOn (length C) line tops j h → line_marks line (length C) j h ≡ []
+      → (h : Option ℕ) → HeadOn (length C) line tops j h → line_marks line (length C) j h ≡ []
   unfolding line_marks
   rest_empty L f l j a b h (no_leaf e g) = rw e refl
   rest_empty L f l j a b h (leaf_there r k e d) =
@@ -172,12 +173,12 @@ module _ (s t : Tree) (K : List Label) (tree1 tree2 : TreeArrays) (rank1 rank2 :
   -- all lines, from each
   all_lines : (ps : List Piece) → length ps ≤ 159 → ((r : ℕ) → r < length C → line_in K s (get_or C r []) N < length ps)
       → ((j : ℕ) → j < length ps
-      → Shows C (line_marks line (length C) j (get_or heads j 0)) (items_of (listed (get_or ps j no_piece).required (get_or ps j no_piece).others [])))
+      → Shows C (line_marks line (length C) j (get_or heads j None)) (items_of (listed (get_or ps j no_piece).required (get_or ps j no_piece).others [])))
       → Shows C (marks_to line heads (length C) 159) (items_of (listed_all ps))
   all_lines ps l f each =
       let e : marks_to line heads (length C) 159 ≡ marks_to line heads (length C) (length ps) =
       marks_rest C line heads (length C) (159 - length ps) (length ps) 159 (omega arith)
-      (λ j a b. rest_empty (length ps) f l j a b (get_or heads j 0) (head_on j (omega arith))) in
+      (λ j a b. rest_empty (length ps) f l j a b (get_or heads j None) (head_on j (omega arith))) in
       rw e
       (subst (λ (qs : List Piece). Shows C (marks_to line heads (length C) (length ps)) (items_of (listed_all qs))) (take-length ps)
       (lines_show C line heads (length C) ps each (length ps) (omega arith)))
@@ -237,7 +238,7 @@ module _ (s t : Tree) (K : List Label) (tree1 tree2 : TreeArrays) (rank1 rank2 :
         (omega (arith, ranks1.top_is i h, top.0)) (ap (λ (k : ℕ). get_or C k []) (ranks1.top_is i h) ∙ top.1 ∙ ap head_of place)
 
     each : (j : ℕ) → j < length (map (piece_for s t K) qs)
-        → Shows C (line_marks line (length C) j (get_or heads j 0))
+        → Shows C (line_marks line (length C) j (get_or heads j None))
         (items_of (listed (get_or (map (piece_for s t K) qs) j no_piece).required (get_or (map (piece_for s t K) qs) j no_piece).others []))
     unfolding piece_for on
     each j h =
@@ -247,7 +248,7 @@ module _ (s t : Tree) (K : List Label) (tree1 tree2 : TreeArrays) (rank1 rank2 :
         let e : get_or (map (piece_for s t K) qs) j no_piece ≡ piece_for s t K q = map_at (piece_for s t K) qs j [] no_piece hj in
         let by : hanging s t K q ≡ keep (on j) C = hanging_by_number s t K r ds dt dk required agree is j q at in
         rw (e, by)
-        (line_shows C line tops one.few j (on j) (test j hj) (get_or heads j 0) (first_only q) (head_on j (omega (arith, places, one.required_few)))
+        (line_shows C line tops one.few j (on j) (test j hj) (get_or heads j None) (first_only q) (head_on j (omega (arith, places, one.required_few)))
         (fits j q at hj))
 
     pub pieces_shown_lem : Shows C (marks_to line heads (length C) 159) (items_of (pieces s t K))
@@ -270,14 +271,14 @@ module _ (s t : Tree) (K : List Label) (tree1 tree2 : TreeArrays) (rank1 rank2 :
         ∙ (rw (a, b) refl)
 
     whole_each : (j : ℕ) → j < 1
-        → Shows C (line_marks line (length C) j (get_or heads j 0))
+        → Shows C (line_marks line (length C) j (get_or heads j None))
         (items_of
         (listed (get_or (record { required = []; others = C } ∷ []) j no_piece).required (get_or (record { required = []; others = C } ∷ []) j no_piece).others
         []))
     whole_each (suc j) h = absurd (omega arith)
     whole_each zero h =
-        subst (λ (l : List Label). Shows C (line_marks line (length C) 0 (get_or heads 0 0)) (items_of (listed [] l []))) (keep_all C)
-        (line_shows C line tops one.few 0 (λ x. true) whole_test (get_or heads 0 0) [] (head_on 0 (omega arith))
+        subst (λ (l : List Label). Shows C (line_marks line (length C) 0 (get_or heads 0 None)) (items_of (listed [] l []))) (keep_all C)
+        (line_shows C line tops one.few 0 (λ x. true) whole_test (get_or heads 0 None) [] (head_on 0 (omega arith))
         (λ i l e.
         fits_none (ranks1.top_is i l ∙ top_none C K one.few one.ordered one.within s (get_or C i []) one.proper.different (bare s))))
 
@@ -303,7 +304,7 @@ module _ (s t : Tree) (K : List Label) (tree1 tree2 : TreeArrays) (rank1 rank2 :
 -- the stored list is that of the pieces
 module _ {s t : Tree} {K : List Label} {tree1 tree2 : TreeArrays} {rank1 rank2 : List ℕ} {m : ℕ} {number : List ℕ} {count : ℕ}
     (posed : Posed s t K tree1 tree2 rank1 rank2 m number count) (agree : Agree s t (set_of K)) (n : ℕ) (n_is : n ≡ min m 80)
-    (line1 line2 tops tops2 line heads : List ℕ)
+    (line1 line2 tops tops2 line : List ℕ) (heads : List (Option ℕ))
     (first : (v : Tree) (C k : List Label) → TreeRanks v C k tree1 rank1 n number → count ≡ length k → RankNumbers v C k line1 tops)
     (second : (v : Tree) (C k : List Label) → TreeRanks v C k tree2 rank2 n number → count ≡ length k → RankNumbers v C k line2 tops2)
     (lines : LinesByRank n number line1 line2 tops line heads) where

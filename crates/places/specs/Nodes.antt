@@ -1,6 +1,6 @@
 -- What the passes over a tree's nodes compute: required leaves below a node, the number of its place, the rank of that place's head.
 -- Intermediate: nothing public rests on this text.
-use Rattle.std.specs.Prelude.{ℕ, suc, ◌+◌, ◌-◌, ◌*◌, ◌<◌, ◌≤◌, min, ◌≡◌, Bool, true, false, cond, not, ◌&&◌, List, [], ◌∷◌, eqb, ltb, leb, length, map, get_or, set}
+use Rattle.std.specs.Prelude.{ℕ, suc, ◌+◌, ◌-◌, ◌*◌, ◌<◌, ◌≤◌, min, ◌≡◌, Bool, true, false, cond, not, ◌&&◌, List, [], ◌∷◌, eqb, ltb, leb, length, map, get_or, set, Option, Some, None}
 use Rattle.places.specs.declared.downward.Place.{Place}
 use Rattle.places.specs.declared.upward.Below.{Below}
 use Rattle.trees.specs.declared.TreeArrays.{TreeArrays}
@@ -128,12 +128,12 @@ pub record RankNumbers (t : Tree) (C K : List Label) (line top : List ℕ) : Typ
 unfoldable pub line_at : ℕ → ℕ → ℕ → ℕ
 line_at number one two = cond (eqb number 0) (cond (eqb one two) (min one 159) 159) 159
 
--- the head stored for line j is that of one of its leaves; 81 if it has none
-pub data HeadOn (m : ℕ) (line tops : List ℕ) (j : ℕ) (h : ℕ) : Type 0 where
-  no_leaf : h ≡ 81 → ((r : ℕ) → r < m → get_or line r 0 ≡ j → ⊥) → HeadOn m line tops j h
-  leaf_there : (r : ℕ) → r < m → get_or line r 0 ≡ j → h ≡ get_or tops r 0 → HeadOn m line tops j h
+-- the head stored for line j is that of one of its leaves; none if it has no leaf
+pub data HeadOn (m : ℕ) (line tops : List ℕ) (j : ℕ) (h : Option ℕ) : Type 0 where
+  no_leaf : h ≡ None → ((r : ℕ) → r < m → get_or line r 0 ≡ j → ⊥) → HeadOn m line tops j h
+  leaf_there : (r : ℕ) → r < m → get_or line r 0 ≡ j → h ≡ Some (get_or tops r 0) → HeadOn m line tops j h
 
 -- the first m ranks have their lines, and the lines their heads
-pub record LinesByRank (m : ℕ) (number one two tops : List ℕ) (line heads : List ℕ) : Type 0 where
+pub record LinesByRank (m : ℕ) (number one two tops line : List ℕ) (heads : List (Option ℕ)) : Type 0 where
   pub each : (r : ℕ) → r < m → get_or line r 0 ≡ line_at (get_or number r 0) (get_or one r 0) (get_or two r 0)
-  pub head_on : (j : ℕ) → j < 160 → HeadOn m line tops j (get_or heads j 0)
+  pub head_on : (j : ℕ) → j < 160 → HeadOn m line tops j (get_or heads j None)

@@ -10,19 +10,17 @@ use crate::upward::is_inner;
 use table::RANKS;
 use trees::{LEAF_LIMIT, NODE_LIMIT, TreeArrays};
 
-// 80 required leaves have 159 places. One line more is for the labels that are on none.
+// 80 required leaves have 159 places. One line more is for the labels that are on none: so each label has a line, and no step needs a case
+// for none.
 const NO_LINE: usize = NODE_LIMIT;
 
 pub(crate) const LINES: usize = NO_LINE + 1;
 
-// In place of a head's rank, for a line without leaf. A line without required label has 80.
-pub(crate) const NO_LEAF: u8 = 81;
-
-// By rank the label's line, 159 for none, and by line the rank of its head.
+// By rank the label's line, 159 for none, and by line the rank of its head, 80 if no label there is required; none for a line without leaf.
 #[derive(Clone, Copy)]
 pub(crate) struct RankLines {
     pub line: [u8; RANKS],
-    pub heads: [u8; LINES],
+    pub heads: [Option<u8>; LINES],
 }
 
 // The place of node u is stored if it is a leaf.
@@ -71,13 +69,13 @@ fn line_at(number: u8, one: u8, two: u8) -> usize
 }
 
 // The label of rank r is put on line j, whose head is `top`.
-fn put_line(r: usize, j: usize, top: u8, line: &mut [u8; RANKS], heads: &mut [u8; LINES])
+fn put_line(r: usize, j: usize, top: u8, line: &mut [u8; RANKS], heads: &mut [Option<u8>; LINES])
     requires { (r < 80) × (j ≤ 159) }
     ensures line_after { line.new ≡ set line.old r j }
-    ensures heads_after { heads.new ≡ set heads.old j top }
+    ensures heads_after { heads.new ≡ set heads.old j (Some top) }
 {
     line[r] = trees::narrow(j);
-    heads[j] = top;
+    heads[j] = Some(top);
 }
 
 // The lines of the first m ranks, from their places in both trees. The heads are those of the first.
@@ -91,7 +89,7 @@ pub(crate) fn lines_of(
     ensures { LinesByRank m number.now (numbers one.now) (numbers two.now) (tops one.now) result.line result.heads }
 {
     let mut line = [0u8; RANKS];
-    let mut heads = [NO_LEAF; LINES];
+    let mut heads = [None; LINES];
     for r in 0..m {
         let p = one[r];
         let q = two[r];

@@ -3,7 +3,7 @@ ghost use Rattle.std.specs.Prelude.{true, false, cond, List, [], ◌∷◌, ◌+
 ghost use Rattle.places.specs.Marks.{leaf_marks, line_marks, marks_to, ListHolds};
 ghost use Rattle.places.specs.declared.Mark.{Mark};
 
-use crate::lines::{LINES, NO_LEAF};
+use crate::lines::LINES;
 use crate::{ITEMS, Mark, PieceList};
 use table::RANKS;
 use trees::{LEAF_LIMIT, NODE_LIMIT};
@@ -55,14 +55,14 @@ impl PieceList {
         }
     }
 
-    // Line j with its head.
-    fn push_line(&mut self, line: &[u8; RANKS], m: usize, j: usize, top: u8)
+    // Line j with its head, if it has a leaf.
+    fn push_line(&mut self, line: &[u8; RANKS], m: usize, j: usize, top: Option<u8>)
         requires { m ≤ 80 }
         ensures { (L : List Mark) → ListHolds self.old L → ListHolds self.new (L ++ line_marks line.now m j top) }
     {
-        if top == NO_LEAF {
+        let Some(top) = top else {
             return;
-        }
+        };
         if usize::from(top) < LEAF_LIMIT {
             self.push(top, true);
         }
@@ -71,7 +71,7 @@ impl PieceList {
 }
 
 // All lines.
-pub(crate) fn list_lines(line: &[u8; RANKS], tops: &[u8; LINES], m: usize) -> PieceList
+pub(crate) fn list_lines(line: &[u8; RANKS], tops: &[Option<u8>; LINES], m: usize) -> PieceList
     requires { m ≤ 80 }
     ensures { ListHolds result (marks_to line.now tops.now m 159) }
 {

@@ -4,19 +4,18 @@ use Rattle.places.proofs.MarkLaws.{hold_as, line_none, line_bare, line_headed}
 use Rattle.places.proofs.PieceList.push_line.Goals as goal
 use Rattle.places.proofs.PieceList.push_line.Goals.{then-from-lt-LEAF_LIMIT, else-from-lt-LEAF_LIMIT}
 
-pub returns-then-top-eq-NO_LEAF : goal.returns-then-top-eq-NO_LEAF
-returns-then-top-eq-NO_LEAF c =
-    λ L h. hold_as (line_none L c.args.line.now c.args.m c.args.j c.args.top c.if-top-eq-NO_LEAF.true) h
+pub returns-in_default : goal.returns-in_default
+returns-in_default c = λ L h. hold_as (line_none L c.args.line.now c.args.m c.args.j c.args.top c.in_default.is) h
 
 pub returns : goal.returns
 returns c =
     let a = c.args in
-    let n = c.if-top-eq-NO_LEAF.false in
-    λ L h. elim c.if-from-lt-LEAF_LIMIT.branch [
+    let top = c.in-Some.top in
+    λ L h. rw c.in-Some.is (elim c.if-from-lt-LEAF_LIMIT.branch [
       | then-from-lt-LEAF_LIMIT w ↦
-          hold_as (line_headed L a.line.now a.m a.j a.top n (omega (arith, w.if-from-lt-LEAF_LIMIT.true, c.from.ensures)))
+          hold_as (line_headed L a.line.now a.m a.j top (omega (arith, w.if-from-lt-LEAF_LIMIT.true, c.from.ensures)))
           (c.push_leaves.ensures _ (rw w.self-is (w.push.ensures L h)))
       | else-from-lt-LEAF_LIMIT w ↦
-          hold_as (line_bare L a.line.now a.m a.j a.top n (omega (arith, w.if-from-lt-LEAF_LIMIT.false, c.from.ensures)))
+          hold_as (line_bare L a.line.now a.m a.j top (omega (arith, w.if-from-lt-LEAF_LIMIT.false, c.from.ensures)))
           (c.push_leaves.ensures L (rw w.self-is h))
-    ]
+    ])
