@@ -26,6 +26,7 @@ pub(crate) struct TreeColumns {
 }
 
 // The rows that a node needs, from what its children need.
+#[tactic(auto, unfolding(crate::specs::Table::join_need))]
 fn joined_need(a: usize, b: usize) -> usize
     ensures { result ≡ join_need a b }
 {
@@ -40,6 +41,7 @@ fn joined_need(a: usize, b: usize) -> usize
 
 // Child a of node u, whose other child is b; u where they do not both come before it. Then u is taken for a leaf: in a tree's arrays it
 // is one, and in any others indices stay in range.
+#[tactic(auto, unfolding(crate::specs::Columns::child_at))]
 fn child(a: usize, b: usize, u: usize) -> usize
     ensures value { result ≡ child_at a b u }
     ensures upper_bound { result ≤ u }

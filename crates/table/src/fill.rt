@@ -23,6 +23,7 @@ pub(crate) const AREA: usize = WEIGHTS + ROW;
 
 // Two inner nodes: below one child of either, or the children paired. The rows of the first node's children start at a and b, its
 // own at u; v has children c and d.
+#[tactic(auto, unfolding(crate::specs::Table::inner_at))]
 fn inner_cell(
     area: &[u128; AREA],
     a: usize,
@@ -44,6 +45,7 @@ fn inner_cell(
 }
 
 // The cell of an inner node, whose row starts at u and its children's at a and b, and node v.
+#[tactic(auto, unfolding(crate::specs::Table::cell_at))]
 fn pair_cell(
     second: &TreeColumns,
     area: &[u128; AREA],
@@ -65,6 +67,7 @@ fn pair_cell(
 }
 
 // The cell of leaf `at` of the second tree and a node v from it on: the leaf's weight if it is below v.
+#[tactic(auto, unfolding(crate::specs::Table::span_at))]
 fn span_cell(second: &TreeColumns, weight: u128, at: usize, v: usize) -> u128
     requires { (v < 159) × (at ≤ v) }
     ensures { result ≡ span_at second.now weight at v }

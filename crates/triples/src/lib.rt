@@ -164,6 +164,7 @@ fn ranked(leaf: &[Option<usize>; 80], order: &[usize; 80], count: usize) -> [usi
 }
 
 // The places of three labels by their ranks.
+#[tactic(auto, unfolding(crate::specs::Loops::told_of))]
 fn told(three: Option<Indices>, order: &[usize; 80], places: &LabelPlaces) -> Option<Indices>
     requires { (places.now.count ≤ 80) × ((i : ℕ) → get_or order.now i 0 < 80) × Ranks places.now.count three }
     ensures { result ≡ told_of order.now places.now.start three }

@@ -8,6 +8,7 @@ ghost use Rattle.triples.specs.Loops.{apart_of, Tells, below, third_of, second_o
 use crate::Indices;
 
 // Two numbers are not ordered in one tree as in the other.
+#[tactic(auto, unfolding(crate::specs::Loops::apart_of))]
 fn apart(x1: u8, y1: u8, x2: u8, y2: u8) -> bool
     ensures { result ≡ apart_of x1 y1 x2 y2 }
 {
