@@ -13,7 +13,8 @@ use trees::{LEAF_LIMIT, NODE_LIMIT, TreeArrays};
 const INNER: usize = LEAF_LIMIT + 1;
 
 // By node: left children, right children, ranks, how many rows of the table it needs beside two, and the first node below. By rank the
-// leaf; 255, past every node, where there is none. Nodes are numbered children first, and a leaf is its own left child.
+// leaf. Nodes are numbered children first, and a leaf is its own left child. Columns of fixed length: no heap. The leaf of a rank that
+// has none is 255, past every node: so one `min` serves a row with a leaf and one without; an `Option` would need a case for each.
 #[derive(Clone, Copy)]
 pub(crate) struct TreeColumns {
     pub(crate) left: [u8; NODE_LIMIT],

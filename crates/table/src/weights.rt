@@ -17,7 +17,7 @@ const UNIT: u128 = 1208925819614629174706176;
 // What a required label weighs in units; more than all other labels together.
 const REQUIRED: u128 = 128;
 
-// The units of a label by its number in the required list, counted from 1.
+// The units of a label by its number in the required list, counted from 1; 0, as `queries::mark_list` writes it, if it is not required.
 fn units(number: u8) -> u128
     ensures value { result ≡ unit_of number }
     ensures upper_bound { result ≤ 128 }
