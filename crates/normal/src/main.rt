@@ -16,9 +16,8 @@ const REFUSAL_ROOM: usize = 4096;
 // As in `text_vectors`: a crate for both would be longer than the function.
 fn print_refusal<W: Write>(output: &mut W, refusal: Refusal) {
     let mut area = [0u8; REFUSAL_ROOM];
-    let out: &mut [u8] = &mut area;
-    let answer = lines::refusal_line(refusal, out);
-    streams::write_all(output, lines::written(out, answer));
+    let answer = lines::refusal_line(refusal, &mut area);
+    streams::write_all(output, lines::written(&area, answer));
 }
 
 // The line for a text. The writer has room for every tree that was read, so it always writes.
@@ -31,10 +30,9 @@ fn print_line<W: Write>(output: &mut W, text: &[u8]) {
     }
     let tree = read.tree;
     let mut area = [0u8; TREE_ROOM];
-    let out: &mut [u8] = &mut area;
-    let written = writer::write_tree(Edition::One, tree, text, out);
+    let written = writer::write_tree(Edition::One, tree, text, &mut area);
     if let Ok(n) = written {
-        streams::write_all(output, trees::part(out, 0, n));
+        streams::write_all(output, trees::part(&area, 0, n));
         streams::write_all(output, b"\n");
     }
 }

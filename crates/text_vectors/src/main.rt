@@ -20,9 +20,8 @@ const CASES: usize = 100000;
 // As in `normal`: a crate for both would be longer than the function.
 fn print_refusal<W: Write>(output: &mut W, refusal: Refusal) {
     let mut area = [0u8; REFUSAL_ROOM];
-    let out: &mut [u8] = &mut area;
-    let answer = lines::refusal_line(refusal, out);
-    streams::write_all(output, lines::written(out, answer));
+    let answer = lines::refusal_line(refusal, &mut area);
+    streams::write_all(output, lines::written(&area, answer));
 }
 
 fn print_tree<W: Write>(output: &mut W, edition: Edition, text: &[u8]) {
@@ -34,10 +33,9 @@ fn print_tree<W: Write>(output: &mut W, edition: Edition, text: &[u8]) {
     }
     let tree = read.tree;
     let mut area = [0u8; TREE_ROOM];
-    let out: &mut [u8] = &mut area;
-    let written = writer::write_tree(edition, tree, text, out);
+    let written = writer::write_tree(edition, tree, text, &mut area);
     if let Ok(n) = written {
-        streams::write_all(output, trees::part(out, 0, n));
+        streams::write_all(output, trees::part(&area, 0, n));
         streams::write_all(output, b"\n");
     }
 }
@@ -105,9 +103,8 @@ fn run_case<R: Read, W: Write>(input: &mut R, output: &mut W) -> bool {
     }
     let size = usize::from(u16::from_be_bytes([head[1], head[2]]));
     let mut area = [0u8; CASE_ROOM];
-    let body: &mut [u8] = &mut area;
-    let n = streams::read_full(input, &mut body[..size]);
-    print_case(output, head[0], trees::part(body, 0, n));
+    let n = streams::read_full(input, &mut area[..size]);
+    print_case(output, head[0], trees::part(&area, 0, n));
     true
 }
 
