@@ -3,7 +3,8 @@
 // is made, so that a few rows are enough.
 //
 // A weight takes 94 bits. The area has eight rows of cells and, in a ninth, the weights of the common labels by rank. Arrays
-// are lent: by value they would cost more than the work.
+// are lent: by value they would cost more than the work. Both trees' columns and the area stay three parameters: a struct of the three
+// references would be taken apart again in each function that has them.
 ghost use Rattle.std.specs.Prelude.{◌≡◌, ◌<◌, ◌≤◌, slice_index};
 ghost use Rattle.table.specs.Table.{inner_at, cell_at, span_at, Shape};
 ghost use Rattle.table.specs.Table.{SplitAt, InnerRow, Joined, SpanRow, NodeRow};
