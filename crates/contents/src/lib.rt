@@ -137,7 +137,7 @@ fn head_at(job: &[u8]) -> HeadAt
 fn line_after(job: &[u8], at: usize, body: Body, needed: bool) -> Option<Line>
     ensures { result ≡ line_of (line_after job.now (Some at) (record { body = body; needed = needed })) }
 {
-    let opening = [trees::letter(body), b' '];
+    let opening = [u8::from(body), b' '];
     let Some(digits) = word_after(job, at, &opening) else {
         if needed {
             return None;
