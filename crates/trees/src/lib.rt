@@ -356,20 +356,6 @@ pub fn comes_before(edition: Edition, a: &[u8], b: &[u8]) -> bool
     Spelled::of(a).compare(edition, Spelled::of(b)).is_lt()
 }
 
-// A byte as a number.
-pub fn wide(b: u8) -> usize
-    ensures { result ≡ b }
-{
-    b as usize
-}
-
-// A place as it is kept in an array, as a number.
-pub fn wide_place(n: u16) -> usize
-    ensures { result ≡ n }
-{
-    n as usize
-}
-
 // The low byte of a number. Two functions: a trait of both types would have the same two bodies, and a ghost member for what they give.
 pub fn narrow(n: usize) -> u8
     ensures { result ≡ n % 256 }
@@ -384,29 +370,11 @@ pub fn narrow_place(n: usize) -> u16
     (n % 65536) as u16
 }
 
-// The smaller of two numbers.
-pub fn least(a: usize, b: usize) -> usize
-    ensures { result ≡ min a b }
-{
-    if a < b { a } else { b }
-}
-
 // Two tokens stand for the same label, as an edition reads them.
 pub fn same_label(edition: Edition, a: &[u8], b: &[u8]) -> bool
     ensures { result ≡ same_label (key edition a.now) (key edition b.now) }
 {
     Spelled::of(a).same(edition, Spelled::of(b))
-}
-
-// The first `len` bytes, or all of them where they are fewer: of a stored label's bytes the label.
-pub fn first_bytes<'a>(bytes: &'a [u8], len: usize) -> &'a [u8]
-    ensures { result.now ≡ take len bytes.now }
-{
-    if len <= bytes.len() {
-        &bytes[..len]
-    } else {
-        bytes
-    }
 }
 
 // Where `a` stands against `b` in label order, for labels kept apart from their text.
@@ -437,20 +405,6 @@ pub fn entry<T: Copy + Into<usize>>(xs: &[T], i: usize) -> usize
         Some(x) => (*x).into(),
         None => 0,
     }
-}
-
-// An entry of an array of bytes, 0 past its end.
-pub fn byte_entry(xs: &[u8], i: usize) -> usize
-    ensures { result ≡ get_or xs.now i 0 }
-{
-    entry(xs, i)
-}
-
-// An entry of an array of places, 0 past its end.
-pub fn place_entry(xs: &[u16], i: usize) -> usize
-    ensures { result ≡ get_or xs.now i 0 }
-{
-    entry(xs, i)
 }
 
 // A leaf's label as the part of the caller's text that holds it, by the arrays' starts and sizes; nothing for an inner node,
