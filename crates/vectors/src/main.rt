@@ -14,9 +14,8 @@ const CASES: usize = 100000;
 // What is printed for one job.
 fn run_job<W: Write>(output: &mut W, text: &[u8]) {
     let mut area = [0u8; LINES_ROOM];
-    let out: &mut [u8] = &mut area;
-    let answer = job::print_job(text, out);
-    streams::write_all(output, lines::written(out, answer));
+    let answer = job::print_job(text, &mut area);
+    streams::write_all(output, lines::written(&area, answer));
 }
 
 // The next case of the stream; false if there is none.
@@ -28,9 +27,8 @@ fn run_case<R: Read, W: Write>(input: &mut R, output: &mut W) -> bool {
     }
     let size = usize::from(u16::from_be_bytes(head));
     let mut area = [0u8; CASE_ROOM];
-    let body: &mut [u8] = &mut area;
-    let n = streams::read_full(input, &mut body[..size]);
-    run_job(output, trees::part(body, 0, n));
+    let n = streams::read_full(input, &mut area[..size]);
+    run_job(output, trees::part(&area, 0, n));
     true
 }
 
