@@ -1,14 +1,14 @@
 -- The stack of things to write: one step of it, what it writes and how many steps are left. Assumes nothing.
-use Prim.Native.Nat.{ℕ, zero, suc, ◌+◌, ◌*◌, ◌-◌, ◌≤◌, ◌<◌}
+use Prim.Native.Nat.{ℕ, zero, suc, ◌+◌, ◌≤◌, ◌<◌}
 use mathlib.Core.Path.{◌≡◌, refl, sym, ◌∙◌, ap, ap₂, subst}
 use mathlib.Core.Bool.{Bool, true, false, cond}
 use mathlib.Core.Logic.{◌⊎◌, inl, inr}
 use mathlib.Core.List.{List, [], ◌∷◌, ◌++◌, append_assoc, append-nil}
 use native.Mathlib.Omega.{arith}
-use lib.Dec.{eqb, ltb}
+use lib.Dec.{eqb}
 use lib.ListN.{length, get_or, set, replicate, length-append, length-set, length-replicate}
 use lib.Seq.{sets, get_or-set_same, get_or-set_other}
-use borrow.Author.Tests.{eq-eqb, ne_eqb, eqb-true, eqb-false, lt-ltb, le-ltb, ltb-true}
+use borrow.Author.Tests.{eq-eqb, ne_eqb, eqb-true, eqb-false}
 use Rattle.trees.specs.declared.Edition.{Edition}
 use Rattle.trees.specs.declared.TreeArrays.{TreeArrays}
 use Rattle.trees.specs.Tree.{Tree, leaf, leaves}
@@ -17,7 +17,9 @@ use Rattle.trees.specs.Edition.{in_edition}
 use Rattle.trees.proofs.TreeLaws.{leaves_node, leaves_some}
 use Rattle.trees.proofs.Bools.{bool_cases}
 use Rattle.writer.specs.Passes.{leaf_token, goes_first, first_at, below, node_text, Leasts, Child, own, pair, other_of, ChildNodes}
-use Rattle.writer.specs.Passes.{mark_of, thing_text, own_text, goes_on, depth_after, stack_after, stack_text, thing_steps, stack_steps}
+use Rattle.writer.specs.declared.Thing.{Thing}
+use Rattle.writer.specs.declared.Thing.TheVariants.{Node, Comma, Close}
+use Rattle.writer.specs.Passes.{thing_text, own_text, goes_on, depth_after, stack_after, stack_text, thing_steps, stack_steps}
 use Rattle.writer.proofs.NodeLaws.{below_leaf, below_node}
 use Rattle.writer.proofs.PassLaws.{pair_of, leaf_written, label_token}
 use Rattle.writer.proofs.WriteLaws.{sets_append}
@@ -83,171 +85,175 @@ leaf_one x = refl
 
 -- the first d entries of a stack
 module _ (a : TreeArrays) (text : List ℕ) where
-  text_kept : (e : Edition) (stack : List ℕ) (k x d : ℕ) → d ≤ k → stack_text e a text (set stack k x) d ≡ stack_text e a text stack d
+  text_kept : (e : Edition) (stack : List Thing) (k : ℕ) (x : Thing) (d : ℕ) → d ≤ k
+      → stack_text e a text (set stack k x) d ≡ stack_text e a text stack d
   unfolding stack_text
   text_kept e stack k x zero h = refl
   text_kept e stack k x (suc d) h =
-      ap₂ (λ (z : ℕ) (l : List ℕ). thing_text e a text z ++ l) (get_or-set_other stack k d x 0 (λ (q : d ≡ k). omega arith))
+      ap₂ (λ (z : Thing) (l : List ℕ). thing_text e a text z ++ l) (get_or-set_other stack k d x (Node 0) (λ (q : d ≡ k). omega arith))
       (text_kept e stack k x d (omega arith))
 
-  steps_kept : (stack : List ℕ) (k x d : ℕ) → d ≤ k → stack_steps a text (set stack k x) d ≡ stack_steps a text stack d
+  steps_kept : (stack : List Thing) (k : ℕ) (x : Thing) (d : ℕ) → d ≤ k → stack_steps a text (set stack k x) d ≡ stack_steps a text stack d
   unfolding stack_steps
   steps_kept stack k x zero h = refl
   steps_kept stack k x (suc d) h =
-      ap₂ (λ (z n : ℕ). thing_steps a text z + n) (get_or-set_other stack k d x 0 (λ (e : d ≡ k). omega arith))
+      ap₂ (λ (z : Thing) (n : ℕ). thing_steps a text z + n) (get_or-set_other stack k d x (Node 0) (λ (e : d ≡ k). omega arith))
       (steps_kept stack k x d (omega arith))
 
-  steps_one : (k : ℕ) → 1 ≤ thing_steps a text k
+  steps_one : (x : Thing) → 1 ≤ thing_steps a text x
   unfolding thing_steps
-  steps_one k = go (ltb k 159)
-    where
-      go : (b : Bool) → 1 ≤ cond b (4 * length (leaves (below a text k)) - 3) 1
-      go true = omega (arith, leaves_some (below a text k))
-      go false = omega arith
+  steps_one (Node k) = omega (arith, leaves_some (below a text k))
+  steps_one Comma = omega arith
+  steps_one Close = omega arith
 
   -- no more things than steps
-  pub depth_steps : (stack : List ℕ) (d : ℕ) → d ≤ stack_steps a text stack d
+  pub depth_steps : (stack : List Thing) (d : ℕ) → d ≤ stack_steps a text stack d
   unfolding stack_steps
   depth_steps stack zero = omega arith
-  depth_steps stack (suc d) = omega (arith, depth_steps stack d, steps_one (get_or stack d 0))
+  depth_steps stack (suc d) = omega (arith, depth_steps stack d, steps_one (get_or stack d (Node 0)))
 
 -- four things put onto a stack
-four : List ℕ → ℕ → ℕ → ℕ → List ℕ
-four stack d s f = set (set (set (set stack d 160) (d + 1) s) (d + 2) 159) (d + 3) f
+four : List Thing → ℕ → ℕ → ℕ → List Thing
+four stack d s f = set (set (set (set stack d Close) (d + 1) (Node s)) (d + 2) Comma) (d + 3) (Node f)
 
-four_long : (stack : List ℕ) (d s f : ℕ) → length (four stack d s f) ≡ length stack
+four_long : (stack : List Thing) (d s f : ℕ) → length (four stack d s f) ≡ length stack
 unfolding four
 four_long stack d s f = simp length-set
 
 pair_append : (x y r : List ℕ) → (40 ∷ (x ++ (44 ∷ (y ++ (41 ∷ []))))) ++ r ≡ 40 ∷ (x ++ (44 ∷ (y ++ (41 ∷ r))))
 pair_append x y r = simp append_assoc
 
-module _ (stack : List ℕ) (d s f : ℕ) (room : d + 4 ≤ length stack) where
-  four_close : get_or (four stack d s f) d 0 ≡ 160
+module _ (stack : List Thing) (d s f : ℕ) (room : d + 4 ≤ length stack) where
+  abbrev one : List Thing
+  one = set stack d Close
+
+  abbrev two : List Thing
+  two = set one (d + 1) (Node s)
+
+  abbrev three : List Thing
+  three = set two (d + 2) Comma
+
+  four_close : get_or (four stack d s f) d (Node 0) ≡ Close
   unfolding four
   four_close =
-      get_or-set_other (set (set (set stack d 160) (d + 1) s) (d + 2) 159) (d + 3) d f 0 (λ (e : d ≡ d + 3). omega arith)
-      ∙ get_or-set_other (set (set stack d 160) (d + 1) s) (d + 2) d 159 0 (λ (e : d ≡ d + 2). omega arith)
-      ∙ get_or-set_other (set stack d 160) (d + 1) d s 0 (λ (e : d ≡ d + 1). omega arith)
-      ∙ get_or-set_same stack d 160 0 (omega arith)
+      get_or-set_other three (d + 3) d (Node f) (Node 0) (λ (e : d ≡ d + 3). omega arith)
+      ∙ get_or-set_other two (d + 2) d Comma (Node 0) (λ (e : d ≡ d + 2). omega arith)
+      ∙ get_or-set_other one (d + 1) d (Node s) (Node 0) (λ (e : d ≡ d + 1). omega arith)
+      ∙ get_or-set_same stack d Close (Node 0) (omega arith)
 
-  four_second : get_or (four stack d s f) (suc d) 0 ≡ s
+  four_second : get_or (four stack d s f) (suc d) (Node 0) ≡ Node s
   unfolding four
   four_second =
       let i : suc d ≡ d + 1 = omega arith in
-      ap (λ (k : ℕ). get_or (four stack d s f) k 0) i
-      ∙ get_or-set_other (set (set (set stack d 160) (d + 1) s) (d + 2) 159) (d + 3) (d + 1) f 0 (λ (e : d + 1 ≡ d + 3). omega arith)
-      ∙ get_or-set_other (set (set stack d 160) (d + 1) s) (d + 2) (d + 1) 159 0 (λ (e : d + 1 ≡ d + 2). omega arith)
-      ∙ get_or-set_same (set stack d 160) (d + 1) s 0 (omega (arith, length-set stack d 160))
+      ap (λ (k : ℕ). get_or (four stack d s f) k (Node 0)) i
+      ∙ get_or-set_other three (d + 3) (d + 1) (Node f) (Node 0) (λ (e : d + 1 ≡ d + 3). omega arith)
+      ∙ get_or-set_other two (d + 2) (d + 1) Comma (Node 0) (λ (e : d + 1 ≡ d + 2). omega arith)
+      ∙ get_or-set_same one (d + 1) (Node s) (Node 0) (omega (arith, length-set stack d Close))
 
-  four_comma : get_or (four stack d s f) (suc (suc d)) 0 ≡ 159
+  four_comma : get_or (four stack d s f) (suc (suc d)) (Node 0) ≡ Comma
   unfolding four
   four_comma =
       let i : suc (suc d) ≡ d + 2 = omega arith in
-      ap (λ (k : ℕ). get_or (four stack d s f) k 0) i
-      ∙ get_or-set_other (set (set (set stack d 160) (d + 1) s) (d + 2) 159) (d + 3) (d + 2) f 0 (λ (e : d + 2 ≡ d + 3). omega arith)
-      ∙ get_or-set_same (set (set stack d 160) (d + 1) s) (d + 2) 159 0
-      (omega (arith, length-set stack d 160, length-set (set stack d 160) (d + 1) s))
+      ap (λ (k : ℕ). get_or (four stack d s f) k (Node 0)) i
+      ∙ get_or-set_other three (d + 3) (d + 2) (Node f) (Node 0) (λ (e : d + 2 ≡ d + 3). omega arith)
+      ∙ get_or-set_same two (d + 2) Comma (Node 0) (omega (arith, length-set stack d Close, length-set one (d + 1) (Node s)))
 
-  four_first : get_or (four stack d s f) (suc (suc (suc d))) 0 ≡ f
+  four_first : get_or (four stack d s f) (suc (suc (suc d))) (Node 0) ≡ Node f
   unfolding four
   four_first =
       let i : suc (suc (suc d)) ≡ d + 3 = omega arith in
-      ap (λ (k : ℕ). get_or (four stack d s f) k 0) i
-      ∙ get_or-set_same (set (set (set stack d 160) (d + 1) s) (d + 2) 159) (d + 3) f 0
-      (omega (
-        arith,
-        length-set stack d 160,
-        length-set (set stack d 160) (d + 1) s,
-        length-set (set (set stack d 160) (d + 1) s) (d + 2) 159,
-      ))
+      ap (λ (k : ℕ). get_or (four stack d s f) k (Node 0)) i
+      ∙ get_or-set_same three (d + 3) (Node f) (Node 0)
+      (omega (arith, length-set stack d Close, length-set one (d + 1) (Node s), length-set two (d + 2) Comma))
 
   four_kept : (e : Edition) (a : TreeArrays) (text : List ℕ) → stack_text e a text (four stack d s f) d ≡ stack_text e a text stack d
   unfolding four
   four_kept e a text =
-      text_kept a text e _ (d + 3) f d (omega arith)
-      ∙ text_kept a text e _ (d + 2) 159 d (omega arith)
-      ∙ text_kept a text e _ (d + 1) s d (omega arith)
-      ∙ text_kept a text e stack d 160 d (omega arith)
+      text_kept a text e three (d + 3) (Node f) d (omega arith)
+      ∙ text_kept a text e two (d + 2) Comma d (omega arith)
+      ∙ text_kept a text e one (d + 1) (Node s) d (omega arith)
+      ∙ text_kept a text e stack d Close d (omega arith)
 
   four_left : (a : TreeArrays) (text : List ℕ) → stack_steps a text (four stack d s f) d ≡ stack_steps a text stack d
   unfolding four
   four_left a text =
-      steps_kept a text _ (d + 3) f d (omega arith)
-      ∙ steps_kept a text _ (d + 2) 159 d (omega arith)
-      ∙ steps_kept a text _ (d + 1) s d (omega arith)
-      ∙ steps_kept a text stack d 160 d (omega arith)
+      steps_kept a text three (d + 3) (Node f) d (omega arith)
+      ∙ steps_kept a text two (d + 2) Comma d (omega arith)
+      ∙ steps_kept a text one (d + 1) (Node s) d (omega arith)
+      ∙ steps_kept a text stack d Close d (omega arith)
 
   four_text : (e : Edition) (a : TreeArrays) (text : List ℕ)
       → stack_text e a text (four stack d s f) (d + 4)
-      ≡ thing_text e a text f ++ (44 ∷ (thing_text e a text s ++ (41 ∷ stack_text e a text stack d)))
-  unfolding stack_text thing_text mark_of
+      ≡ node_text e a text f ++ (44 ∷ (node_text e a text s ++ (41 ∷ stack_text e a text stack d)))
+  unfolding stack_text thing_text
   four_text e a text =
       let i : d + 4 ≡ suc (suc (suc (suc d))) = omega arith in
       ap (stack_text e a text (four stack d s f)) i ∙ rw (four_first, four_comma, four_second, four_close, four_kept e a text) refl
 
   four_steps : (a : TreeArrays) (text : List ℕ)
       → stack_steps a text (four stack d s f) (d + 4)
-      ≡ thing_steps a text f + (1 + (thing_steps a text s + (1 + stack_steps a text stack d)))
+      ≡ thing_steps a text (Node f) + (1 + (thing_steps a text (Node s) + (1 + stack_steps a text stack d)))
   unfolding stack_steps thing_steps
   four_steps a text =
       let e : d + 4 ≡ suc (suc (suc (suc d))) = omega arith in
       ap (stack_steps a text (four stack d s f)) e ∙ rw (four_first, four_comma, four_second, four_close, four_left a text) refl
 
--- the first m things are marks or nodes below n
-abbrev pub Things : ℕ → List ℕ → ℕ → Type 0
-Things n stack m = (i : ℕ) → i < m → get_or stack i 0 < 159 → get_or stack i 0 < n
+-- a mark or a node below n
+abbrev pub Within : ℕ → Thing → Type 0
+Within n (Node k) = k < n
+Within n Comma = Unit {0}
+Within n Close = Unit {0}
 
-things_more : (n : ℕ) (stack : List ℕ) (d m x : ℕ) → m ≡ d + 1 → d < length stack → (x < 159 → x < n) → Things n stack d
+-- so are the first m things
+abbrev pub Things : ℕ → List Thing → ℕ → Type 0
+Things n stack m = (i : ℕ) → i < m → Within n (get_or stack i (Node 0))
+
+things_more : (n : ℕ) (stack : List Thing) (d m : ℕ) (x : Thing) → m ≡ d + 1 → d < length stack → Within n x → Things n stack d
     → Things n (set stack d x) m
 things_more n stack d m x em h p all i l = go (bool_cases (eqb i d))
   where
-    go : (eqb i d ≡ true) ⊎ (eqb i d ≡ false) → get_or (set stack d x) i 0 < 159 → get_or (set stack d x) i 0 < n
-    go (inl e) = rw (eqb-true i d e, get_or-set_same stack d x 0 h) p
-    go (inr e) = rw (get_or-set_other stack d i x 0 (eqb-false i d e)) (all i (omega (arith, eqb-false i d e)))
+    go : (eqb i d ≡ true) ⊎ (eqb i d ≡ false) → Within n (get_or (set stack d x) i (Node 0))
+    go (inl e) = subst (Within n) (sym (ap (λ (k : ℕ). get_or (set stack d x) k (Node 0)) (eqb-true i d e) ∙ get_or-set_same stack d x (Node 0) h)) p
+    go (inr e) = subst (Within n) (sym (get_or-set_other stack d i x (Node 0) (eqb-false i d e))) (all i (omega (arith, eqb-false i d e)))
 
-four_things : (n : ℕ) (stack : List ℕ) (d s f : ℕ) → d + 4 ≤ length stack → f < n → s < n → Things n stack d
+four_things : (n : ℕ) (stack : List Thing) (d s f : ℕ) → d + 4 ≤ length stack → f < n → s < n → Things n stack d
     → Things n (four stack d s f) (d + 4)
 unfolding four
 four_things n stack d s f room hf hs all =
-    let a = things_more n stack d (d + 1) 160 refl (omega arith) (λ k. absurd (omega arith)) all in
-    let b = things_more n (set stack d 160) (d + 1) (d + 2) s (omega arith) (omega (arith, length-set stack d 160)) (λ k. hs) a in
-    let e = length-set (set stack d 160) (d + 1) s in
-    let c = things_more n (set (set stack d 160) (d + 1) s) (d + 2) (d + 3) 159 (omega arith)
-    (omega (arith, e, length-set stack d 160)) (λ k. absurd (omega arith)) b in
-    things_more n (set (set (set stack d 160) (d + 1) s) (d + 2) 159) (d + 3) (d + 4) f (omega arith)
-    (omega (arith, e, length-set stack d 160, length-set (set (set stack d 160) (d + 1) s) (d + 2) 159)) (λ k. hf) c
+    let a = things_more n stack d (d + 1) Close refl (omega arith) tt all in
+    let b = things_more n (set stack d Close) (d + 1) (d + 2) (Node s) (omega arith) (omega (arith, length-set stack d Close)) hs a in
+    let e = length-set (set stack d Close) (d + 1) (Node s) in
+    let c = things_more n (set (set stack d Close) (d + 1) (Node s)) (d + 2) (d + 3) Comma (omega arith)
+    (omega (arith, e, length-set stack d Close)) tt b in
+    things_more n (set (set (set stack d Close) (d + 1) (Node s)) (d + 2) Comma) (d + 3) (d + 4) (Node f) (omega arith)
+    (omega (arith, e, length-set stack d Close, length-set (set (set stack d Close) (d + 1) (Node s)) (d + 2) Comma)) hf c
 
--- one step: thing k, the last of the stack's d + 1, is taken off; what it writes itself and the stack afterwards
-pub record Step (e : Edition) (a : TreeArrays) (text first : List ℕ) (n : ℕ) (stack : List ℕ) (d k : ℕ) : Type 0 where
-  pub writes : thing_text e a text k ++ stack_text e a text stack d
-      ≡ own_text text a.start a.size first k
-      ++ stack_text e a text (stack_after a.left a.right first k stack d) (depth_after first k d)
-  pub counts : thing_steps a text k + stack_steps a text stack d
-      ≡ suc (stack_steps a text (stack_after a.left a.right first k stack d) (depth_after first k d))
-  pub things : Things n (stack_after a.left a.right first k stack d) (depth_after first k d)
-  pub long : length (stack_after a.left a.right first k stack d) ≡ length stack
+-- one step: thing x, the last of the stack's d + 1, is taken off; what it writes itself and the stack afterwards
+pub record Step (e : Edition) (a : TreeArrays) (text first : List ℕ) (n : ℕ) (stack : List Thing) (d : ℕ) (x : Thing) : Type 0 where
+  pub writes : thing_text e a text x ++ stack_text e a text stack d
+      ≡ own_text text a.start a.size first x
+      ++ stack_text e a text (stack_after a.left a.right first x stack d) (depth_after first x d)
+  pub counts : thing_steps a text x + stack_steps a text stack d
+      ≡ suc (stack_steps a text (stack_after a.left a.right first x stack d) (depth_after first x d))
+  pub things : Things n (stack_after a.left a.right first x stack d) (depth_after first x d)
+  pub long : length (stack_after a.left a.right first x stack d) ≡ length stack
 
-module _ (e : Edition) (a : TreeArrays) (text first : List ℕ) (n : ℕ) (children : ChildNodes e a text first n) (stack : List ℕ) (d k : ℕ)
-    (few : n ≤ 159) (room : d + 4 ≤ length stack) (all : Things n stack d) where
-  step_mark : ltb k 159 ≡ false → Step e a text first n stack d k
+module _ (e : Edition) (a : TreeArrays) (text first : List ℕ) (n : ℕ) (children : ChildNodes e a text first n) (stack : List Thing) (d : ℕ)
+    (room : d + 4 ≤ length stack) (all : Things n stack d) where
+  step_leaf : (k : ℕ) → get_or first k 0 ≡ k → is_leaf a k ≡ true → node_text e a text k ≡ leaf_token text a.start a.size k
+      → Step e a text first n stack d (Node k)
   unfolding own_text stack_after depth_after goes_on thing_text thing_steps
-  step_mark q = record { writes = rw q refl; counts = rw q (omega arith); things = rw q all; long = rw q refl }
-
-  step_leaf : ltb k 159 ≡ true → get_or first k 0 ≡ k → is_leaf a k ≡ true → node_text e a text k ≡ leaf_token text a.start a.size k
-      → Step e a text first n stack d k
-  unfolding own_text stack_after depth_after goes_on thing_text thing_steps
-  step_leaf q f l made =
+  step_leaf k f l made =
       let own_leaf = eq-eqb (get_or first k 0) k f in
       let one : length (leaves (below a text k)) ≡ 1 = ap (λ (t : Tree). length (leaves t)) (below_leaf a text k l) ∙ leaf_one (label_at a text k) in
       record {
-        writes = rw (q, own_leaf) (ap (λ (x : List ℕ). x ++ stack_text e a text stack d) made);
-        counts = rw (q, own_leaf) (omega (arith, one));
-        things = rw (q, own_leaf) all;
-        long = rw (q, own_leaf) refl;
+        writes = rw own_leaf (ap (λ (x : List ℕ). x ++ stack_text e a text stack d) made);
+        counts = rw own_leaf (omega (arith, one));
+        things = rw own_leaf all;
+        long = rw own_leaf refl;
       }
 
-  step_pair : ltb k 159 ≡ true → (get_or first k 0 ≡ k → ⊥) → get_or first k 0 < n
+  step_pair : (k : ℕ) → (get_or first k 0 ≡ k → ⊥) → get_or first k 0 < n
       → other_of a.left a.right (get_or first k 0) k < n
       → node_text e a text k
       ≡ 40 ∷ (node_text e a text (get_or first k 0)
@@ -255,94 +261,42 @@ module _ (e : Edition) (a : TreeArrays) (text first : List ℕ) (n : ℕ) (child
       → length (leaves (below a text k))
       ≡ length (leaves (below a text (get_or first k 0)))
       + length (leaves (below a text (other_of a.left a.right (get_or first k 0) k)))
-      → Step e a text first n stack d k
+      → Step e a text first n stack d (Node k)
   unfolding own_text stack_after depth_after goes_on thing_text thing_steps four
-  step_pair q ne hf hs made count =
+  step_pair k ne hf hs made count =
       let f = get_or first k 0 in
       let s = other_of a.left a.right (get_or first k 0) k in
       let apart = ne_eqb (get_or first k 0) k ne in
-      let lf = lt-ltb f 159 (omega arith) in
-      let ls = lt-ltb s 159 (omega arith) in
-      let tf : thing_text e a text f ≡ node_text e a text f = rw lf refl in
-      let ts : thing_text e a text s ≡ node_text e a text s = rw ls refl in
-      let cf : thing_steps a text f ≡ 4 * length (leaves (below a text f)) - 3 = rw lf refl in
-      let cs : thing_steps a text s ≡ 4 * length (leaves (below a text s)) - 3 = rw ls refl in
       record {
-        writes = rw (q, apart)
+        writes = rw apart
             (ap (λ (x : List ℕ). x ++ stack_text e a text stack d) made
             ∙ pair_append (node_text e a text f) (node_text e a text s) (stack_text e a text stack d)
-            ∙ sym (ap (λ (x : List ℕ). 40 ∷ x) (four_text stack d s f room e a text
-            ∙ ap₂ (λ (x y : List ℕ). x ++ (44 ∷ (y ++ (41 ∷ stack_text e a text stack d)))) tf ts)));
-        counts = rw (q, apart)
+            ∙ sym (ap (λ (x : List ℕ). 40 ∷ x) (four_text stack d s f room e a text)));
+        counts = rw apart
             (omega (
               arith,
               count,
-              cf,
-              cs,
               leaves_some (below a text f),
               leaves_some (below a text s),
               four_steps stack d s f room a text,
             ));
-        things = rw (q, apart) (four_things n stack d s f room hf hs all);
-        long = rw (q, apart) (four_long stack d s f);
+        things = rw apart (four_things n stack d s f room hf hs all);
+        long = rw apart (four_long stack d s f);
       }
 
-  pub step : (k < 159 → k < n) → Step e a text first n stack d k
-  step below-n = go (bool_cases (ltb k 159))
+  pub step : (x : Thing) → Within n x → Step e a text first n stack d x
+  unfolding own_text stack_after depth_after goes_on thing_text thing_steps
+  step Comma h = record { writes = refl; counts = omega arith; things = all; long = refl }
+  step Close h = record { writes = refl; counts = omega arith; things = all; long = refl }
+  step (Node k) h = node_step (children k h)
     where
-      node_step : ltb k 159 ≡ true → Child e a text k (get_or first k 0) (other_of a.left a.right (get_or first k 0) k)
-          → Step e a text first n stack d k
-      node_step q (own f l made) = step_leaf q f l made
-      node_step q (pair f s made count) =
-          let h = below-n (ltb-true k 159 q) in
-          step_pair q (λ (z : get_or first k 0 ≡ k). omega arith) (omega arith) (omega arith) made count
-
-      go : (ltb k 159 ≡ true) ⊎ (ltb k 159 ≡ false) → Step e a text first n stack d k
-      go (inl q) = node_step q (children k (below-n (ltb-true k 159 q)))
-      go (inr q) = step_mark q
-
--- a thing by the tests of the code
-module _ (text s z first : List ℕ) (k : ℕ) where
-  pub own_mark : 159 ≤ k → own_text text s z first k ≡ mark_of k ∷ []
-  unfolding own_text
-  own_mark h = rw (le-ltb k 159 h) refl
-
-  pub own_label : k < 159 → get_or first k 0 ≡ k → own_text text s z first k ≡ leaf_token text s z k
-  unfolding own_text
-  own_label h e = rw (lt-ltb k 159 h, eq-eqb (get_or first k 0) k e) refl
-
-  pub own_open : k < 159 → (get_or first k 0 ≡ k → ⊥) → own_text text s z first k ≡ 40 ∷ []
-  unfolding own_text
-  own_open h e = rw (lt-ltb k 159 h, ne_eqb (get_or first k 0) k e) refl
-
-module _ (l r first : List ℕ) (k : ℕ) (stack : List ℕ) (d : ℕ) where
-  -- the stack stays as it is, or has four more
-  pub stays_mark : 159 ≤ k → (d ≡ depth_after first k d) × (stack ≡ stack_after l r first k stack d)
-  unfolding depth_after stack_after goes_on
-  stays_mark h = (rw (le-ltb k 159 h) refl, rw (le-ltb k 159 h) refl)
-
-  pub stays_leaf : k < 159 → get_or first k 0 ≡ k → (d ≡ depth_after first k d) × (stack ≡ stack_after l r first k stack d)
-  unfolding depth_after stack_after goes_on
-  stays_leaf h e = (
-    rw (lt-ltb k 159 h, eq-eqb (get_or first k 0) k e) refl,
-    rw (lt-ltb k 159 h, eq-eqb (get_or first k 0) k e) refl,
-  )
-
-  pub grows : (f x y o : ℕ) → f ≡ get_or first k 0 → x ≡ get_or l k 0 → y ≡ get_or r k 0 → o ≡ cond (eqb f x) y x → k < 159 → (f ≡ k → ⊥)
-      → (d + 4 ≡ depth_after first k d)
-      × (set (set (set (set stack d 160) (d + 1) o) (d + 2) 159) (d + 3) f ≡ stack_after l r first k stack d)
-  unfolding depth_after stack_after goes_on
-  grows f x y o ef ex ey eo h ne =
-      let apart = ne_eqb (get_or first k 0) k (λ (e : get_or first k 0 ≡ k). ne (ef ∙ e)) in
-      let other : o ≡ other_of l r (get_or first k 0) k =
-      eo ∙ ap (λ (u : ℕ). cond (eqb u x) y x) ef ∙ ap₂ (λ (u v : ℕ). cond (eqb (get_or first k 0) u) v u) ex ey in (
-        rw (lt-ltb k 159 h, apart) refl,
-        rw (lt-ltb k 159 h, apart)
-            (ap₂ (λ (u v : ℕ). set (set (set (set stack d 160) (d + 1) u) (d + 2) 159) (d + 3) v) other ef),
-      )
+      node_step : Child e a text k (get_or first k 0) (other_of a.left a.right (get_or first k 0) k) → Step e a text first n stack d (Node k)
+      node_step (own f l made) = step_leaf k f l made
+      node_step (pair f s made count) =
+          step_pair k (λ (z : get_or first k 0 ≡ k). omega arith) (omega arith) (omega arith) made count
 
 -- the tree is being written: what is stored and what the stack will store is the whole text
-pub record Writing (e : Edition) (a : TreeArrays) (text : List ℕ) (n : ℕ) (whole before out stack : List ℕ) (depth at : ℕ) : Type 0 where
+pub record Writing (e : Edition) (a : TreeArrays) (text : List ℕ) (n : ℕ) (whole before out : List ℕ) (stack : List Thing) (depth at : ℕ) : Type 0 where
   pub long : length stack ≡ 320
   pub things : Things n stack depth
   pub few : stack_steps a text stack depth ≤ 317
@@ -350,51 +304,49 @@ pub record Writing (e : Edition) (a : TreeArrays) (text : List ℕ) (n : ℕ) (w
   pub stores : sets out at (stack_text e a text stack depth) ≡ sets before 0 whole
   pub kept : length out ≡ length before
 
-pub depth_few : {e : Edition} {a : TreeArrays} {text : List ℕ} {n : ℕ} {whole before out stack : List ℕ} {depth at : ℕ}
+pub depth_few : {e : Edition} {a : TreeArrays} {text : List ℕ} {n : ℕ} {whole before out : List ℕ} {stack : List Thing} {depth at : ℕ}
     → Writing e a text n whole before out stack depth at → depth ≤ 317
 depth_few {e} {a} {text} {n} {whole} {before} {out} {stack} {depth} w = omega (arith, w.few, depth_steps a text stack depth)
 
-module _ (e : Edition) (a : TreeArrays) (text : List ℕ) (n : ℕ) (fits : n ≤ 159) (before : List ℕ) where
-  one_thing : (u : ℕ) → u < n → (stack : List ℕ) → get_or stack 0 0 ≡ u → length (leaves (below a text u)) ≤ 80
+module _ (e : Edition) (a : TreeArrays) (text : List ℕ) (n : ℕ) (before : List ℕ) where
+  one_thing : (u : ℕ) → (stack : List Thing) → get_or stack 0 (Node 0) ≡ Node u → length (leaves (below a text u)) ≤ 80
       → (stack_text e a text stack 1 ≡ node_text e a text u) × (stack_steps a text stack 1 ≤ 317)
   unfolding stack_text stack_steps thing_text thing_steps
-  one_thing u h stack q few =
-      let l = lt-ltb u 159 (omega arith) in
-      (rw (q, l) (append-nil (node_text e a text u)), rw (q, l) (omega arith))
+  one_thing u stack q few = (rw q (append-nil (node_text e a text u)), rw q (omega arith))
 
   -- v is node u as the code stores it
   pub writing_start : (u : ℕ) → u < n → length (leaves (below a text u)) ≤ 80 → (v : ℕ) → v ≡ u
-      → Writing e a text n (node_text e a text u) before before (set (replicate 320 0) 0 v) 1 0
+      → Writing e a text n (node_text e a text u) before before (set (replicate 320 Comma) 0 (Node v)) 1 0
   writing_start u h few v ev =
-      let z : length {A = ℕ} (replicate 320 0) ≡ 320 = length-replicate {A = ℕ} 320 0 in
-      let q = get_or-set_same (replicate 320 0) 0 v 0 (omega (arith, z)) ∙ ev in
-      let t = one_thing u h (set (replicate 320 0) 0 v) q few in
+      let z : length {A = Thing} (replicate 320 Comma) ≡ 320 = length-replicate {A = Thing} 320 Comma in
+      let q = get_or-set_same (replicate 320 Comma) 0 (Node v) (Node 0) (omega (arith, z)) ∙ ap Node ev in
+      let t = one_thing u (set (replicate 320 Comma) 0 (Node v)) q few in
       record {
-        long = length-set (replicate 320 0) 0 v ∙ z;
-        things = things_more n (replicate 320 0) 0 1 v (omega arith) (omega (arith, z)) (λ k. omega (arith, ev, h)) (λ i l k. absurd (omega arith));
+        long = length-set (replicate 320 Comma) 0 (Node v) ∙ z;
+        things = things_more n (replicate 320 Comma) 0 1 (Node v) (omega arith) (omega (arith, z)) (omega (arith, ev, h)) (λ i l. absurd (omega arith));
         few = t.1;
         rest = rw t.0 (omega arith);
         stores = rw t.0 refl;
         kept = refl;
       }
 
-  module _ (first : List ℕ) (children : ChildNodes e a text first n) (whole out stack : List ℕ) (depth at d : ℕ) (ed : depth ≡ suc d)
+  module _ (first : List ℕ) (children : ChildNodes e a text first n) (whole out : List ℕ) (stack : List Thing) (depth at d : ℕ) (ed : depth ≡ suc d)
       (w : Writing e a text n whole before out stack depth at) where
     room : d + 4 ≤ length stack
     room = omega (arith, w.long, w.few, depth_steps a text stack depth)
 
-    last_step : Step e a text first n stack d (get_or stack d 0)
+    last_step : Step e a text first n stack d (get_or stack d (Node 0))
     last_step =
-        step e a text first n children stack d (get_or stack d 0) fits room (λ i l. w.things i (omega arith)) (w.things d (omega arith))
+        step e a text first n children stack d room (λ i l. w.things i (omega arith)) (get_or stack d (Node 0)) (w.things d (omega arith))
 
     top : stack_text e a text stack depth
-        ≡ own_text text a.start a.size first (get_or stack d 0)
-        ++ stack_text e a text (stack_after a.left a.right first (get_or stack d 0) stack d) (depth_after first (get_or stack d 0) d)
+        ≡ own_text text a.start a.size first (get_or stack d (Node 0))
+        ++ stack_text e a text (stack_after a.left a.right first (get_or stack d (Node 0)) stack d) (depth_after first (get_or stack d (Node 0)) d)
     unfolding stack_text
     top = ap (stack_text e a text stack) ed ∙ last_step.writes
 
     falls : stack_steps a text stack depth
-        ≡ suc (stack_steps a text (stack_after a.left a.right first (get_or stack d 0) stack d) (depth_after first (get_or stack d 0) d))
+        ≡ suc (stack_steps a text (stack_after a.left a.right first (get_or stack d (Node 0)) stack d) (depth_after first (get_or stack d (Node 0)) d))
     unfolding stack_steps
     falls = ap (stack_steps a text stack) ed ∙ last_step.counts
 
@@ -402,24 +354,24 @@ module _ (e : Edition) (a : TreeArrays) (text : List ℕ) (n : ℕ) (fits : n �
     has_room = room
 
     top_fits : length whole ≤ length before
-        → at + length (own_text text a.start a.size first (get_or stack d 0)) ≤ length out
+        → at + length (own_text text a.start a.size first (get_or stack d (Node 0))) ≤ length out
     top_fits h =
         omega (
           arith,
           w.rest,
           w.kept,
           ap length top,
-          length-append (own_text text a.start a.size first (get_or stack d 0))
-              (stack_text e a text (stack_after a.left a.right first (get_or stack d 0) stack d) (depth_after first (get_or stack d 0) d)),
+          length-append (own_text text a.start a.size first (get_or stack d (Node 0)))
+              (stack_text e a text (stack_after a.left a.right first (get_or stack d (Node 0)) stack d) (depth_after first (get_or stack d (Node 0)) d)),
         )
 
-    next : (o : List ℕ) (i : ℕ) → i ≡ at + length (own_text text a.start a.size first (get_or stack d 0))
-        → o ≡ sets out at (own_text text a.start a.size first (get_or stack d 0)) → length o ≡ length out
-        → Writing e a text n whole before o (stack_after a.left a.right first (get_or stack d 0) stack d)
-        (depth_after first (get_or stack d 0) d) i
+    next : (o : List ℕ) (i : ℕ) → i ≡ at + length (own_text text a.start a.size first (get_or stack d (Node 0)))
+        → o ≡ sets out at (own_text text a.start a.size first (get_or stack d (Node 0))) → length o ≡ length out
+        → Writing e a text n whole before o (stack_after a.left a.right first (get_or stack d (Node 0)) stack d)
+        (depth_after first (get_or stack d (Node 0)) d) i
     next o i ei eo el =
-        let own_part = own_text text a.start a.size first (get_or stack d 0) in
-        let left = stack_text e a text (stack_after a.left a.right first (get_or stack d 0) stack d) (depth_after first (get_or stack d 0) d) in
+        let own_part = own_text text a.start a.size first (get_or stack d (Node 0)) in
+        let left = stack_text e a text (stack_after a.left a.right first (get_or stack d (Node 0)) stack d) (depth_after first (get_or stack d (Node 0)) d) in
         record {
           long = last_step.long ∙ w.long;
           things = last_step.things;
@@ -433,33 +385,33 @@ module _ (e : Edition) (a : TreeArrays) (text : List ℕ) (n : ℕ) (fits : n �
         }
 
     -- as the code has it: the thing, then the output, the stack and the two numbers afterwards
-    module _ (k : ℕ) (ek : k ≡ get_or stack d 0) where
-      own_is : own_text text a.start a.size first k ≡ own_text text a.start a.size first (get_or stack d 0)
+    module _ (x : Thing) (ek : x ≡ get_or stack d (Node 0)) where
+      own_is : own_text text a.start a.size first x ≡ own_text text a.start a.size first (get_or stack d (Node 0))
       own_is = ap (own_text text a.start a.size first) ek
 
-      pub own_fits : length whole ≤ length before → at + length (own_text text a.start a.size first k) ≤ length out
+      pub own_fits : length whole ≤ length before → at + length (own_text text a.start a.size first x) ≤ length out
       own_fits h = omega (arith, ap length own_is, top_fits h)
 
-      module _ (o st : List ℕ) (dd i : ℕ) (est : st ≡ stack_after a.left a.right first k stack d) (edd : dd ≡ depth_after first k d) where
-        stack_is : st ≡ stack_after a.left a.right first (get_or stack d 0) stack d
-        stack_is = est ∙ ap (λ (q : ℕ). stack_after a.left a.right first q stack d) ek
+      module _ (o : List ℕ) (st : List Thing) (dd i : ℕ) (est : st ≡ stack_after a.left a.right first x stack d) (edd : dd ≡ depth_after first x d) where
+        stack_is : st ≡ stack_after a.left a.right first (get_or stack d (Node 0)) stack d
+        stack_is = est ∙ ap (λ (q : Thing). stack_after a.left a.right first q stack d) ek
 
-        depth_is : dd ≡ depth_after first (get_or stack d 0) d
-        depth_is = edd ∙ ap (λ (q : ℕ). depth_after first q d) ek
+        depth_is : dd ≡ depth_after first (get_or stack d (Node 0)) d
+        depth_is = edd ∙ ap (λ (q : Thing). depth_after first q d) ek
 
-        pub writing_next : i ≡ at + length (own_text text a.start a.size first k)
-            → o ≡ sets out at (own_text text a.start a.size first k) → length o ≡ length out → Writing e a text n whole before o st dd i
+        pub writing_next : i ≡ at + length (own_text text a.start a.size first x)
+            → o ≡ sets out at (own_text text a.start a.size first x) → length o ≡ length out → Writing e a text n whole before o st dd i
         writing_next ei eo el =
-            subst (λ (q : List ℕ). Writing e a text n whole before o q dd i) (sym stack_is)
+            subst (λ (q : List Thing). Writing e a text n whole before o q dd i) (sym stack_is)
             (subst
-            (λ (q : ℕ). Writing e a text n whole before o (stack_after a.left a.right first (get_or stack d 0) stack d) q i)
+            (λ (q : ℕ). Writing e a text n whole before o (stack_after a.left a.right first (get_or stack d (Node 0)) stack d) q i)
             (sym depth_is)
-            (next o i (ei ∙ ap (λ (x : List ℕ). at + length x) own_is) (eo ∙ ap (sets out at) own_is) el))
+            (next o i (ei ∙ ap (λ (b : List ℕ). at + length b) own_is) (eo ∙ ap (sets out at) own_is) el))
 
         pub fewer_steps : stack_steps a text st dd < stack_steps a text stack depth
         fewer_steps = rw (stack_is, depth_is) (omega (arith, falls))
 
-  pub writing_end : (whole out stack : List ℕ) (at : ℕ) → Writing e a text n whole before out stack 0 at
+  pub writing_end : (whole out : List ℕ) (stack : List Thing) (at : ℕ) → Writing e a text n whole before out stack 0 at
       → (at ≡ 0 + length whole) × (out ≡ sets before 0 whole)
   unfolding stack_text
   writing_end whole out stack at w = (omega (arith, w.rest), w.stores)

@@ -1,5 +1,5 @@
 -- The passes over tree arrays as the code makes them; intermediate: nothing public rests on this text.
-use Rattle.std.specs.Prelude.{ℕ, zero, suc, ◌+◌, ◌*◌, ◌-◌, ◌<◌, ◌≤◌, min, ◌≡◌, Bool, true, false, cond, not, List, [], ◌∷◌, ◌++◌, eqb, ltb, length, get_or, set, replicate}
+use Rattle.std.specs.Prelude.{ℕ, zero, suc, ◌+◌, ◌*◌, ◌-◌, ◌<◌, ◌≤◌, min, ◌≡◌, Bool, true, false, cond, not, List, [], ◌∷◌, ◌++◌, eqb, length, get_or, set, replicate}
 use Rattle.trees.specs.declared.Edition.{Edition}
 use Rattle.trees.specs.declared.TreeArrays.{TreeArrays}
 use Rattle.trees.specs.Label.{Label, label_less}
@@ -8,6 +8,8 @@ use Rattle.trees.specs.Tree.{Tree, leaves, relabel, smallest, leaf_limit}
 use Rattle.trees.specs.Text.{written}
 use Rattle.trees.specs.Arrays.{tree_at, is_leaf, good_nodes}
 use Rattle.trees.specs.Edition.{in_edition, keyed, normal_in, rewritten}
+use Rattle.writer.specs.declared.Thing.{Thing}
+use Rattle.writer.specs.declared.Thing.TheVariants.{Node, Comma, Close}
 use Rattle.trees.specs.Stored.{stored_bytes, stored_of, shown_bytes, shown_of, leaf_label}
 
 -- entries 0 to n - 1 stored in this order, each from the entries stored before it
@@ -107,47 +109,52 @@ abbrev pub ChildNodes : Edition → TreeArrays → List ℕ → List ℕ → ℕ
 ChildNodes e a text first n =
     (u : ℕ) → u < n → Child e a text u (get_or first u 0) (other_of a.left a.right (get_or first u 0) u)
 
--- things to write: a node by its number, 159 for `,` and 160 for `)`
-unfoldable pub mark_of : ℕ → ℕ
-mark_of k = cond (eqb k 159) 44 41
-
 -- what a thing writes in all
-unfoldable pub thing_text : Edition → TreeArrays → List ℕ → ℕ → List ℕ
-unfolding node_text mark_of
-thing_text e a text k = cond (ltb k 159) (node_text e a text k) (mark_of k ∷ [])
+unfoldable pub thing_text : Edition → TreeArrays → List ℕ → Thing → List ℕ
+unfolding node_text
+thing_text e a text (Node k) = node_text e a text k
+thing_text e a text Comma = 44 ∷ []
+thing_text e a text Close = 41 ∷ []
 
 -- and itself
-unfoldable pub own_text : List ℕ → List ℕ → List ℕ → List ℕ → ℕ → List ℕ
-unfolding mark_of leaf_token
-own_text text s z first k =
-    cond (ltb k 159) (cond (eqb (get_or first k 0) k) (leaf_token text s z k) (40 ∷ [])) (mark_of k ∷ [])
+unfoldable pub own_text : List ℕ → List ℕ → List ℕ → List ℕ → Thing → List ℕ
+unfolding leaf_token
+own_text text s z first (Node k) = cond (eqb (get_or first k 0) k) (leaf_token text s z k) (40 ∷ [])
+own_text text s z first Comma = 44 ∷ []
+own_text text s z first Close = 41 ∷ []
 
 -- a thing after which others come
-unfoldable pub goes_on : List ℕ → ℕ → Bool
-goes_on first k = cond (ltb k 159) (not (eqb (get_or first k 0) k)) false
+unfoldable pub goes_on : List ℕ → Thing → Bool
+goes_on first (Node k) = not (eqb (get_or first k 0) k)
+goes_on first Comma = false
+goes_on first Close = false
 
-unfoldable pub depth_after : List ℕ → ℕ → ℕ → ℕ
+unfoldable pub depth_after : List ℕ → Thing → ℕ → ℕ
 unfolding goes_on
-depth_after first k d = cond (goes_on first k) (d + 4) d
+depth_after first x d = cond (goes_on first x) (d + 4) d
 
-unfoldable pub stack_after : List ℕ → List ℕ → List ℕ → ℕ → List ℕ → ℕ → List ℕ
+unfoldable pub stack_after : List ℕ → List ℕ → List ℕ → Thing → List Thing → ℕ → List Thing
 unfolding goes_on
-stack_after l r first k stack d =
-    cond (goes_on first k)
-    (set (set (set (set stack d 160) (d + 1) (other_of l r (get_or first k 0) k)) (d + 2) 159) (d + 3) (get_or first k 0))
+stack_after l r first (Node k) stack d =
+    cond (goes_on first (Node k))
+    (set (set (set (set stack d Close) (d + 1) (Node (other_of l r (get_or first k 0) k))) (d + 2) Comma) (d + 3) (Node (get_or first k 0)))
     stack
+stack_after l r first Comma stack d = stack
+stack_after l r first Close stack d = stack
 
 -- what the stack's first d things write, the last of them first, and in how many steps
-unfoldable pub stack_text : Edition → TreeArrays → List ℕ → List ℕ → ℕ → List ℕ
+unfoldable pub stack_text : Edition → TreeArrays → List ℕ → List Thing → ℕ → List ℕ
 unfolding thing_text
 stack_text e a text stack zero = []
-stack_text e a text stack (suc d) = thing_text e a text (get_or stack d 0) ++ stack_text e a text stack d
+stack_text e a text stack (suc d) = thing_text e a text (get_or stack d (Node 0)) ++ stack_text e a text stack d
 
-unfoldable pub thing_steps : TreeArrays → List ℕ → ℕ → ℕ
+unfoldable pub thing_steps : TreeArrays → List ℕ → Thing → ℕ
 unfolding below
-thing_steps a text k = cond (ltb k 159) (4 * length (leaves (below a text k)) - 3) 1
+thing_steps a text (Node k) = 4 * length (leaves (below a text k)) - 3
+thing_steps a text Comma = 1
+thing_steps a text Close = 1
 
-unfoldable pub stack_steps : TreeArrays → List ℕ → List ℕ → ℕ → ℕ
+unfoldable pub stack_steps : TreeArrays → List ℕ → List Thing → ℕ → ℕ
 unfolding thing_steps
 stack_steps a text stack zero = 0
-stack_steps a text stack (suc d) = thing_steps a text (get_or stack d 0) + stack_steps a text stack d
+stack_steps a text stack (suc d) = thing_steps a text (get_or stack d (Node 0)) + stack_steps a text stack d

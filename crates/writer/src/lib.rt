@@ -12,7 +12,7 @@ ghost use Rattle.writer.specs.Write.{write_answer, output_after};
 ghost use Rattle.trees.specs.Stored.{shown_bytes};
 ghost use Rattle.trees.specs.Token.{token_limit};
 ghost use Rattle.writer.specs.Passes.{pass, leaf_token, weight_at, sum_at, root_sum, goes_first, least_at, first_at, ChildNodes, Good, root_tree, root_text};
-ghost use Rattle.writer.specs.Passes.{mark_of, own_text, depth_after, stack_after};
+ghost use Rattle.writer.specs.Passes.{own_text, depth_after, stack_after};
 
 use trees::{
     Body, Edition, LABEL_LIMIT, LEAF_LIMIT, NODE_LIMIT, Reason, Refusal, ShownLabel, TOKEN_LIMIT,
@@ -262,64 +262,67 @@ fn put_bytes(x: &[u8], out: &mut [u8], at: usize) -> usize
     end
 }
 
-// What stands on the stack of things to write: a node by its number, or one of these.
-const COMMA: u8 = 159;
-
-const CLOSE: u8 = 160;
-
-// The byte of a thing to write that is no node.
-fn mark(k: usize) -> u8
-    ensures { result ≡ mark_of k }
-{
-    if k == usize::from(COMMA) { b',' } else { b')' }
+// What stands on the stack of things to write.
+#[derive(Clone, Copy)]
+enum Thing {
+    Node(u8),
+    Comma,
+    Close,
 }
 
-// Stores what thing k writes itself: its byte, a leaf's label, an inner node's `(`. Says where the next byte goes.
+// Stores what a thing writes itself: its byte, a leaf's label, an inner node's `(`. Says where the next byte goes.
+#[tactic(auto, unfolding(crate::specs::Passes::own_text, trees::specs::Stored::shown_bytes))]
 fn put_own(
     tree: &TreeArrays,
     text: &[u8],
     first: &[u8],
-    k: usize,
+    thing: Thing,
     out: &mut [u8],
     at: usize,
 ) -> usize
-    requires { at + length (own_text text.now tree.now.start tree.now.size first.now k) ≤ length out.old }
-    ensures next { result ≡ at + length (own_text text.now tree.now.start tree.now.size first.now k) }
+    requires { at + length (own_text text.now tree.now.start tree.now.size first.now thing) ≤ length out.old }
+    ensures next { result ≡ at + length (own_text text.now tree.now.start tree.now.size first.now thing) }
     ensures stored { out.new ≡ sets out.old at
-        (own_text text.now tree.now.start tree.now.size first.now k) }
+        (own_text text.now tree.now.start tree.now.size first.now thing) }
 {
-    if NODE_LIMIT <= k {
-        out[at] = mark(k);
-        return at + 1;
-    }
-    if entry(first, k) == k {
-        let label = leaf_token(tree, text, k);
-        return put_bytes(label.as_slice(), out, at);
-    }
-    out[at] = b'(';
+    let own = match thing {
+        Thing::Comma => b',',
+        Thing::Close => b')',
+        Thing::Node(u) => {
+            let k = usize::from(u);
+            if entry(first, k) == k {
+                let label = leaf_token(tree, text, k);
+                return put_bytes(label.as_slice(), out, at);
+            }
+            b'('
+        }
+    };
+    out[at] = own;
     at + 1
 }
 
 // Puts what is to be written after an inner node's `(` onto the stack, the first last, and says how much is there then.
-fn push(tree: &TreeArrays, first: &[u8], k: usize, stack: &mut [u8], depth: usize) -> usize
+#[tactic(auto, unfolding(crate::specs::Passes::depth_after, crate::specs::Passes::goes_on, crate::specs::Passes::stack_after))]
+fn push(tree: &TreeArrays, first: &[u8], thing: Thing, stack: &mut [Thing], depth: usize) -> usize
     requires { depth + 4 ≤ length stack.old }
-    ensures depth { result ≡ depth_after first.now k depth }
-    ensures stored { stack.new ≡ stack_after tree.now.left tree.now.right first.now k stack.old depth }
+    ensures depth { result ≡ depth_after first.now thing depth }
+    ensures stored { stack.new ≡ stack_after tree.now.left tree.now.right first.now thing stack.old depth }
 {
-    if NODE_LIMIT <= k {
+    let Thing::Node(u) = thing else {
         return depth;
-    }
+    };
+    let k = usize::from(u);
     let f = byte_at(first, k);
-    if usize::from(f) == k {
+    if f == u {
         return depth;
     }
     let l = byte_at(&tree.left, k);
     let r = byte_at(&tree.right, k);
     let other = pick(f == l, r, l);
-    stack[depth] = CLOSE;
-    stack[depth + 1] = other;
-    stack[depth + 2] = COMMA;
-    stack[depth + 3] = f;
+    stack[depth] = Thing::Close;
+    stack[depth + 1] = Thing::Node(other);
+    stack[depth + 2] = Thing::Comma;
+    stack[depth + 3] = Thing::Node(f);
     depth + 4
 }
 
@@ -334,15 +337,15 @@ fn put_tree(edition: Edition, tree: &TreeArrays, text: &[u8], first: &[u8], out:
     ensures next { result ≡ 0 + length (root_text edition tree.now text.now) }
     ensures stored { out.new ≡ sets out.old 0 (root_text edition tree.now text.now) }
 {
-    let mut stack = [0u8; 320];
-    stack[0] = narrow(tree.nodes - 1);
+    let mut stack = [Thing::Comma; 320];
+    stack[0] = Thing::Node(narrow(tree.nodes - 1));
     let mut depth: usize = 1;
     let mut at: usize = 0;
     while 0 < depth {
         depth -= 1;
-        let k = usize::from(stack[depth]);
-        at = put_own(tree, text, first, k, out, at);
-        depth = push(tree, first, k, &mut stack, depth);
+        let thing = stack[depth];
+        at = put_own(tree, text, first, thing, out, at);
+        depth = push(tree, first, thing, &mut stack, depth);
     }
     at
 }
