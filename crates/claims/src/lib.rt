@@ -44,7 +44,8 @@ fn verdict(c: Compared) -> Result<usize, Denied>
 }
 
 // Whether the claimed set contains every required label, the trees agree on it and no larger such set exists: its size; or the first
-// refusal, 8 with three required labels and 14 with three claimed ones, in the order S, T, 12 if the options are strict, K, C, 6 or 7 of K, 8, 6 or 7 of C, 13, 14, 15.
+// refusal, 8 with three required labels and 14 with three claimed ones. Refusals come in the order S, T, 12 if the options are strict, K, C,
+// 6 or 7 of K, 8, 6 or 7 of C, 13, 14, 15.
 pub fn judge(
     options: Options,
     first: &[u8],

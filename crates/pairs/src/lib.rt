@@ -19,7 +19,8 @@ use trees::{Body, Edition, LEAF_LIMIT, NODE_LIMIT, Reason, Refusal, TreeArrays};
 mod ranks;
 mod strict;
 
-// The rank of a label that is not common, LEAF_LIMIT.
+// The rank of a label that is not common, LEAF_LIMIT. A number and no `Option`: the definition `Ranked` of table, which the clause cites, has
+// ranks as numbers.
 const NO_RANK: u8 = 80;
 
 // The options of a call.

@@ -6,14 +6,14 @@ use mathlib.Core.List.{List, ◌∷◌}
 use native.Mathlib.Omega.{arith}
 use lib.ListN.{length, get_or, get_or-map, set, replicate, length-set}
 use Rattle.std.proofs.lemmas.List.{map-set, length-map}
-use Rattle.places.specs.declared.downward.Place.{Place}
+use Rattle.places.specs.declared.downward.NodePlace.{NodePlace}
 use Rattle.places.specs.declared.upward.Below.{Below}
 use Rattle.places.specs.Nodes.{child_number, child_top, PassedOn, manys, leasts, numbers, tops}
 
 abbrev pub no_below : Below
 no_below = record { many = 0; least = 0 }
 
-abbrev pub no_place : Place
+abbrev pub no_place : NodePlace
 no_place = record { number = 0; top = 0 }
 
 pub many_get : (bs : List Below) (i : ℕ) → get_or (manys bs) i 0 ≡ (get_or bs i no_below).many
@@ -22,11 +22,11 @@ many_get bs i = get_or-map (λ (b : Below). b.many) bs i no_below
 pub least_get : (bs : List Below) (i : ℕ) → get_or (leasts bs) i 0 ≡ (get_or bs i no_below).least
 least_get bs i = get_or-map (λ (b : Below). b.least) bs i no_below
 
-pub number_get : (ps : List Place) (i : ℕ) → get_or (numbers ps) i 0 ≡ (get_or ps i no_place).number
-number_get ps i = get_or-map (λ (p : Place). p.number) ps i no_place
+pub number_get : (ps : List NodePlace) (i : ℕ) → get_or (numbers ps) i 0 ≡ (get_or ps i no_place).number
+number_get ps i = get_or-map (λ (p : NodePlace). p.number) ps i no_place
 
-pub top_get : (ps : List Place) (i : ℕ) → get_or (tops ps) i 0 ≡ (get_or ps i no_place).top
-top_get ps i = get_or-map (λ (p : Place). p.top) ps i no_place
+pub top_get : (ps : List NodePlace) (i : ℕ) → get_or (tops ps) i 0 ≡ (get_or ps i no_place).top
+top_get ps i = get_or-map (λ (p : NodePlace). p.top) ps i no_place
 
 -- an entry is set
 pub many_set : (bs : List Below) (i : ℕ) (x : Below) → manys (set bs i x) ≡ set (manys bs) i x.many
@@ -35,11 +35,11 @@ many_set bs i x = map-set (λ (b : Below). b.many) bs i x
 pub least_set : (bs : List Below) (i : ℕ) (x : Below) → leasts (set bs i x) ≡ set (leasts bs) i x.least
 least_set bs i x = map-set (λ (b : Below). b.least) bs i x
 
-pub number_set : (ps : List Place) (i : ℕ) (x : Place) → numbers (set ps i x) ≡ set (numbers ps) i x.number
-number_set ps i x = map-set (λ (p : Place). p.number) ps i x
+pub number_set : (ps : List NodePlace) (i : ℕ) (x : NodePlace) → numbers (set ps i x) ≡ set (numbers ps) i x.number
+number_set ps i x = map-set (λ (p : NodePlace). p.number) ps i x
 
-pub top_set : (ps : List Place) (i : ℕ) (x : Place) → tops (set ps i x) ≡ set (tops ps) i x.top
-top_set ps i x = map-set (λ (p : Place). p.top) ps i x
+pub top_set : (ps : List NodePlace) (i : ℕ) (x : NodePlace) → tops (set ps i x) ≡ set (tops ps) i x.top
+top_set ps i x = map-set (λ (p : NodePlace). p.top) ps i x
 
 -- as many entries
 pub many_size : (bs : List Below) → length (manys bs) ≡ length bs
@@ -48,36 +48,36 @@ many_size bs = length-map bs (λ (b : Below). b.many)
 pub least_size : (bs : List Below) → length (leasts bs) ≡ length bs
 least_size bs = length-map bs (λ (b : Below). b.least)
 
-pub number_size : (ps : List Place) → length (numbers ps) ≡ length ps
-number_size ps = length-map ps (λ (p : Place). p.number)
+pub number_size : (ps : List NodePlace) → length (numbers ps) ≡ length ps
+number_size ps = length-map ps (λ (p : NodePlace). p.number)
 
-pub top_size : (ps : List Place) → length (tops ps) ≡ length ps
-top_size ps = length-map ps (λ (p : Place). p.top)
+pub top_size : (ps : List NodePlace) → length (tops ps) ≡ length ps
+top_size ps = length-map ps (λ (p : NodePlace). p.top)
 
 -- an entry is set or not
-pub number_put : (b : Bool) (ps : List Place) (i : ℕ) (x : Place) → numbers (cond b ps (set ps i x)) ≡ cond b (numbers ps) (set (numbers ps) i x.number)
+pub number_put : (b : Bool) (ps : List NodePlace) (i : ℕ) (x : NodePlace) → numbers (cond b ps (set ps i x)) ≡ cond b (numbers ps) (set (numbers ps) i x.number)
 number_put true ps i x = refl
 number_put false ps i x = number_set ps i x
 
-pub top_put : (b : Bool) (ps : List Place) (i : ℕ) (x : Place) → tops (cond b ps (set ps i x)) ≡ cond b (tops ps) (set (tops ps) i x.top)
+pub top_put : (b : Bool) (ps : List NodePlace) (i : ℕ) (x : NodePlace) → tops (cond b ps (set ps i x)) ≡ cond b (tops ps) (set (tops ps) i x.top)
 top_put true ps i x = refl
 top_put false ps i x = top_set ps i x
 
 -- an array of one place
-numbers_filled : (n : ℕ) (p : Place) → numbers (replicate n p) ≡ replicate n p.number
+numbers_filled : (n : ℕ) (p : NodePlace) → numbers (replicate n p) ≡ replicate n p.number
 numbers_filled zero p = refl
 numbers_filled (suc n) p = ap (λ (xs : List ℕ). p.number ∷ xs) (numbers_filled n p)
 
-tops_filled : (n : ℕ) (p : Place) → tops (replicate n p) ≡ replicate n p.top
+tops_filled : (n : ℕ) (p : NodePlace) → tops (replicate n p) ≡ replicate n p.top
 tops_filled zero p = refl
 tops_filled (suc n) p = ap (λ (xs : List ℕ). p.top ∷ xs) (tops_filled n p)
 
-pub filled_places : (P : List ℕ → List ℕ → Type 0) (n : ℕ) (p : Place) → P (replicate n p.number) (replicate n p.top)
+pub filled_places : (P : List ℕ → List ℕ → Type 0) (n : ℕ) (p : NodePlace) → P (replicate n p.number) (replicate n p.top)
     → P (numbers (replicate n p)) (tops (replicate n p))
 filled_places P n p h = rw (numbers_filled n p, tops_filled n p) h
 
 -- both children of node u have their places
-module _ (below : List Below) (places : List Place) (a b u : ℕ) (x y : Place) (h : a < u) where
+module _ (below : List Below) (places : List NodePlace) (a b u : ℕ) (x y : NodePlace) (h : a < u) where
   abbrev at : ℕ → Below
   at i = get_or below i no_below
 

@@ -1,7 +1,7 @@
 -- What the passes over a tree's nodes compute: required leaves below a node, the number of its place, the rank of that place's head.
 -- Intermediate: nothing public rests on this text.
 use Rattle.std.specs.Prelude.{ℕ, suc, ◌+◌, ◌-◌, ◌*◌, ◌<◌, ◌≤◌, min, ◌≡◌, Bool, true, false, cond, not, ◌&&◌, List, [], ◌∷◌, eqb, ltb, leb, length, map, get_or, set, Option, Some, None}
-use Rattle.places.specs.declared.downward.Place.{Place}
+use Rattle.places.specs.declared.downward.NodePlace.{NodePlace}
 use Rattle.places.specs.declared.upward.Below.{Below}
 use Rattle.trees.specs.declared.TreeArrays.{TreeArrays}
 use Rattle.trees.specs.Label.{Label, same_label, is_in}
@@ -21,11 +21,11 @@ manys bs = map (λ (b : Below). b.many) bs
 abbrev pub leasts : List Below → List ℕ
 leasts bs = map (λ (b : Below). b.least) bs
 
-abbrev pub numbers : List Place → List ℕ
-numbers ps = map (λ (p : Place). p.number) ps
+abbrev pub numbers : List NodePlace → List ℕ
+numbers ps = map (λ (p : NodePlace). p.number) ps
 
-abbrev pub tops : List Place → List ℕ
-tops ps = map (λ (p : Place). p.top) ps
+abbrev pub tops : List NodePlace → List ℕ
+tops ps = map (λ (p : NodePlace). p.top) ps
 
 -- a tree by its arrays, its leaves' ranks among the labels of C, and the required labels K by rank
 pub record TreeRanks (t : Tree) (C K : List Label) (tree : TreeArrays) (rank : List ℕ) (m : ℕ) (number : List ℕ) : Type 0 where

@@ -11,7 +11,7 @@ use trees::{LEAF_LIMIT, NODE_LIMIT, TreeArrays};
 
 // A place by its number, and the rank of its head.
 #[derive(Clone, Copy)]
-pub(crate) struct Place {
+pub(crate) struct NodePlace {
     pub number: u8,
     pub top: u8,
 }
@@ -25,7 +25,7 @@ fn root_number(count: usize) -> u8
 
 // The place of a child of a node at `place`; `other` is its sibling. The child with the greater least rank comes right before its parent.
 #[tactic(auto, unfolding(crate::specs::Nodes::child_number, crate::specs::Nodes::child_top))]
-fn child_place(child: Below, other: Below, place: Place) -> Place
+fn child_place(child: Below, other: Below, place: NodePlace) -> NodePlace
     ensures number { result.number ≡ child_number child.many other.many child.least other.least place.number }
     ensures top { result.top ≡ child_top child.many other.many child.least place.top }
 {
@@ -34,12 +34,12 @@ fn child_place(child: Below, other: Below, place: Place) -> Place
     }
     let n = usize::from(place.number);
     if child.least < other.least {
-        return Place {
+        return NodePlace {
             number: trees::narrow(n.saturating_sub(2 * usize::from(other.many))),
             top: child.least,
         };
     }
-    Place {
+    NodePlace {
         number: trees::narrow(n.saturating_sub(1)),
         top: child.least,
     }
@@ -51,7 +51,7 @@ fn pass_on(
     a: usize,
     b: usize,
     u: usize,
-    places: &mut [Place; NODE_LIMIT],
+    places: &mut [NodePlace; NODE_LIMIT],
 )
     requires { u < 159 }
     ensures { PassedOn (manys below.now) (leasts below.now) a b u
@@ -70,14 +70,14 @@ pub(crate) fn places_in(
     tree: TreeArrays,
     below: &[Below; NODE_LIMIT],
     count: usize,
-) -> [Place; NODE_LIMIT]
+) -> [NodePlace; NODE_LIMIT]
     ensures { (t : Tree) (C K : List Label) (rank : List ℕ) (m : ℕ) (ks : List ℕ) → TreeRanks t C K tree rank m ks
         → BelowIs t C K (nodes_of t) (manys below.now) (leasts below.now) → count ≡ length K
         → LeafNumbers t C K (numbers result) (tops result) }
 {
     let nodes = tree.nodes.min(NODE_LIMIT);
     let root = below[nodes.saturating_sub(1)];
-    let mut places = [Place {
+    let mut places = [NodePlace {
         number: root_number(count),
         top: root.least,
     }; NODE_LIMIT];

@@ -12,7 +12,7 @@ ghost use Rattle.table.specs.Choice.{Posed};
 ghost use Rattle.places.specs.PieceRanks.{PieceRanks};
 ghost use Rattle.places.specs.Nodes.{TreeRanks, RankNumbers, numbers, tops};
 
-use crate::downward::{Place, places_in};
+use crate::downward::{NodePlace, places_in};
 use crate::lines::{by_rank, lines_of};
 use crate::listing::list_lines;
 use crate::upward::below_of;
@@ -49,7 +49,7 @@ fn tree_places(
     m: usize,
     number: &[u8; RANKS],
     count: usize,
-) -> [Place; RANKS]
+) -> [NodePlace; RANKS]
     requires { m ≤ 80 }
     ensures { (t : Tree) (C K : List Label) → TreeRanks t C K tree rank.now m number.now
         → count ≡ length K → RankNumbers t C K (numbers result) (tops result) }

@@ -5,7 +5,7 @@ ghost use Rattle.trees.specs.Tree.{Tree};
 ghost use Rattle.trees.specs.Arrays.{nodes_of};
 ghost use Rattle.places.specs.Nodes.{is_inner, line_at, TreeRanks, ValuesByRank, LinesByRank, numbers, tops};
 
-use crate::downward::Place;
+use crate::downward::NodePlace;
 use crate::upward::is_inner;
 use table::RANKS;
 use trees::{LEAF_LIMIT, NODE_LIMIT, TreeArrays};
@@ -24,7 +24,14 @@ pub(crate) struct RankLines {
 }
 
 // The place of node u is stored if it is a leaf.
-fn put_place(a: usize, b: usize, u: usize, rank: usize, place: Place, out: &mut [Place; RANKS])
+fn put_place(
+    a: usize,
+    b: usize,
+    u: usize,
+    rank: usize,
+    place: NodePlace,
+    out: &mut [NodePlace; RANKS],
+)
     ensures out_after { out.new ≡ cond (is_inner a b u) out.old (set out.old (min rank 80) place) }
     ensures out_len_unchanged { length out.new ≡ length out.old }
 {
@@ -39,14 +46,14 @@ fn put_place(a: usize, b: usize, u: usize, rank: usize, place: Place, out: &mut 
 pub(crate) fn by_rank(
     tree: TreeArrays,
     rank: &[u8; NODE_LIMIT],
-    places: &[Place; NODE_LIMIT],
-) -> [Place; RANKS]
+    places: &[NodePlace; NODE_LIMIT],
+) -> [NodePlace; RANKS]
     ensures { (t : Tree) (C K : List Label) (m : ℕ) (ks : List ℕ) → TreeRanks t C K tree rank.now m ks
         → ValuesByRank t C (nodes_of t) (numbers places.now) (numbers result)
         × ValuesByRank t C (nodes_of t) (tops places.now) (tops result) }
 {
     let nodes = tree.nodes.min(NODE_LIMIT);
-    let mut out = [Place { number: 0, top: 0 }; RANKS];
+    let mut out = [NodePlace { number: 0, top: 0 }; RANKS];
     for u in 0..nodes {
         let a = usize::from(tree.left[u]);
         let b = usize::from(tree.right[u]);
@@ -81,8 +88,8 @@ fn put_line(r: usize, j: usize, top: u8, line: &mut [u8; RANKS], heads: &mut [Op
 // The lines of the first m ranks, from their places in both trees. The heads are those of the first.
 pub(crate) fn lines_of(
     number: &[u8; RANKS],
-    one: &[Place; RANKS],
-    two: &[Place; RANKS],
+    one: &[NodePlace; RANKS],
+    two: &[NodePlace; RANKS],
     m: usize,
 ) -> RankLines
     requires { m ≤ 80 }

@@ -21,7 +21,7 @@ use Rattle.trees.proofs.PostorderLaws.{length_postorder, subtree_few, leaf_once,
 use Rattle.trees.proofs.PostorderLaws.{Third, in_first_lem, in_second_lem, at_last, third, third_first, third_second, third_last}
 use Rattle.leaves.proofs.OwnLaws.{own_laid}
 use Rattle.table.specs.Table.{join_need, need, LeafOf, no_leaf, one_leaf, Spans, Columns}
-use Rattle.table.specs.Columns.{child_at, need_at, low_at, leaf_place, Sized, Kept, NodeIs, NodePut, Gathered}
+use Rattle.table.specs.Columns.{child_at, need_at, low_at, leaf_place, Sized, OthersKept, NodeIs, NodePut, Gathered}
 use Rattle.table.specs.Choice.{Ranked, Given}
 use Rattle.table.specs.Solving.{Rooted, OwnColumns}
 use Rattle.table.proofs.RowLaws.{NodeCase, is_leaf, is_node_lem, node_case}
@@ -94,7 +94,7 @@ module _ (old : TreeColumns) (u left right rank a b n need low place xa xb xn xn
     nodes = old.nodes;
   }
 
-  others : Kept u old new
+  others : OthersKept u old new
   others = record {
     left = λ q d. get_or-set_other old.left u q xa 0 d;
     right = λ q d. get_or-set_other old.right u q xb 0 d;
@@ -164,7 +164,7 @@ module _ (old : TreeColumns) (u left right rank a b n need low place xa xb xn xn
 
 -- node by node
 
-node_kept : (a b rank u n : ℕ) (old new : TreeColumns) → u < n → Kept n old new → NodeIs a b rank u old → NodeIs a b rank u new
+node_kept : (a b rank u n : ℕ) (old new : TreeColumns) → u < n → OthersKept n old new → NodeIs a b rank u old → NodeIs a b rank u new
 node_kept a b rank u n old new hu kept is = record {
   left_is = kept.left u (λ e. omega arith) ∙ is.left_is;
   right_is = kept.right u (λ e. omega arith) ∙ is.right_is;

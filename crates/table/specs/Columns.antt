@@ -29,7 +29,7 @@ pub record Sized (columns : TreeColumns) : Type 0 where
   pub leaf_size : length columns.leaf ≡ 159
 
 -- every node but u is as it was
-pub record Kept (u : ℕ) (old new : TreeColumns) : Type 0 where
+pub record OthersKept (u : ℕ) (old new : TreeColumns) : Type 0 where
   pub left : (q : ℕ) → (q ≢ u) → slice_index new.left q ≡ slice_index old.left q
   pub right : (q : ℕ) → (q ≢ u) → slice_index new.right q ≡ slice_index old.right q
   pub rank : (q : ℕ) → (q ≢ u) → slice_index new.rank q ≡ slice_index old.rank q
@@ -48,7 +48,7 @@ pub record NodeIs (a b rank u : ℕ) (columns : TreeColumns) : Type 0 where
 pub record NodePut (u a b rank : ℕ) (old new : TreeColumns) : Type 0 where
   pub size : Sized old → Sized new
   pub is : Sized old → NodeIs a b rank u new
-  pub others : Kept u old new
+  pub others : OthersKept u old new
   pub leaf_is : Sized old → slice_index new.left u ≡ u → slice_index new.leaf (slice_index new.rank u) ≡ u
   pub leaves_kept : Sized old → (r : ℕ) → r ≤ 80 → (slice_index new.left u ≡ u → slice_index new.rank u ≢ r)
       → slice_index new.leaf r ≡ slice_index old.leaf r

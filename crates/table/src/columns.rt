@@ -9,7 +9,7 @@ ghost use Rattle.table.specs.Solving.{Rooted, OwnColumns};
 
 use trees::{LEAF_LIMIT, NODE_LIMIT, TreeArrays};
 
-// No leaf's rank.
+// No leaf's rank. A number: a leaf whose label is not common has 80 by the definition `Ranked`, and an inner node one more.
 const INNER: usize = LEAF_LIMIT + 1;
 
 // By node: left children, right children, ranks, how many rows of the table it needs beside two, and the first node below. By rank the

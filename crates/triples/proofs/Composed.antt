@@ -42,7 +42,7 @@ use Rattle.leaves.specs.Find.{leaf_found}
 use Rattle.leaves.specs.Numbered.{LeafIs, Numbered}
 use Rattle.leaves.proofs.OwnLaws.{own_found, found, missing}
 use Rattle.triples.specs.declared.Indices.{Indices as Ranked}
-use Rattle.triples.specs.Verdict.{Verdict, agreed, clash_at_places, verdict_of}
+use Rattle.triples.specs.Verdict.{AgreeVerdict, agreed, clash_at_places, verdict_of}
 use Rattle.triples.specs.Clash.{rank_of, clash_ranks, RankedTree}
 use Rattle.triples.specs.Loops.{label_in, rank_in, InOrder, LeavesFound, lack_from, told_of, AsRead}
 use Rattle.triples.proofs.Ranks.{label_at, place_of, place_number, order_sorted}
@@ -159,7 +159,7 @@ module _ (s t : Tree) (xs : List Token) (v : Valid s) (w : Valid t) (different :
         go false p b q r = lack_first k
 
   -- the verdict on three that clash
-  abbrev clash_told : Option Three → Verdict
+  abbrev clash_told : Option Three → AgreeVerdict
   clash_told none = agreed
   clash_told (some c) = clash_at_places (place_of_label xs 0 c.one) (place_of_label xs 0 c.two) (place_of_label xs 0 c.three)
 
@@ -225,7 +225,7 @@ module _ (s t : Tree) (xs : List Token) (v : Valid s) (w : Valid t) (different :
         )
 
     told_clash : (c : Option Three) → FirstThree (Clash S T (sorted labels)) c
-        → ◌≡◌ {A = Verdict} (Ok (told_of order (places_of xs).start (clash_ranks (sorted labels) c))) (clash_told c)
+        → ◌≡◌ {A = AgreeVerdict} (Ok (told_of order (places_of xs).start (clash_ranks (sorted labels) c))) (clash_told c)
     unfolding told_of clash_ranks
     told_clash none f = refl
     told_clash (some c) f =
@@ -235,7 +235,7 @@ module _ (s t : Tree) (xs : List Token) (v : Valid s) (w : Valid t) (different :
         rw (a.1, b.1, d.1) refl
 
     told_verdict : lacking S T labels 0 ≡ none
-        → ◌≡◌ {A = Verdict} (Ok (told_of order (places_of xs).start (clash_ranks (sorted labels) (first_clash S T (sorted labels)))))
+        → ◌≡◌ {A = AgreeVerdict} (Ok (told_of order (places_of xs).start (clash_ranks (sorted labels) (first_clash S T (sorted labels)))))
         (verdict_of xs (answer S T labels))
     told_verdict e =
         told_clash (first_clash S T (sorted labels)) (clash_found S T (sorted labels) (sorted_inc labels different)) ∙ sym (answer_clash e)
@@ -285,7 +285,7 @@ module _ (s t : Tree) (xs : List Token) (first second list : List ℕ) (one two 
     view = lack_of s t xs g.valid1 g.valid2 g.different leaf1 leaf2 l1 l2 (length xs) 0 (omega arith)
 
     -- a label is lacking
-    pub lacked : (e : Refusal) → lack ≡ Err e → ◌≡◌ {A = Verdict} (Err e) (verdict_of xs (answer (decoded s) (decoded t) (map spelling xs)))
+    pub lacked : (e : Refusal) → lack ≡ Err e → ◌≡◌ {A = AgreeVerdict} (Err e) (verdict_of xs (answer (decoded s) (decoded t) (map spelling xs)))
     unfolding verdict_of
     lacked e is =
         go (lacking (decoded s) (decoded t) (map spelling xs) 0) refl
@@ -293,7 +293,7 @@ module _ (s t : Tree) (xs : List Token) (first second list : List ℕ) (one two 
       where
         go : (o : Option Answer) → lacking (decoded s) (decoded t) (map spelling xs) 0 ≡ o → (A : Lacking) → Err e ≡ A
             → Lack s t xs g.valid1 g.valid2 g.different 0 o A
-            → ◌≡◌ {A = Verdict} (Err e) (verdict_of xs (answer (decoded s) (decoded t) (map spelling xs)))
+            → ◌≡◌ {A = AgreeVerdict} (Err e) (verdict_of xs (answer (decoded s) (decoded t) (map spelling xs)))
         go o h A k (no_lack f) = absurd (let z : ◌≡◌ {A = ℕ} 0 1 = cc in omega arith)
         go o h A k (lack_first n) =
             let d : e ≡ record { reason = FirstLacks; body = K; place = place_of_number xs n } = cc in
@@ -355,7 +355,7 @@ module _ (s t : Tree) (xs : List Token) (first second list : List ℕ) (one two 
           → ((u v : Tree) (C : List Label) → increasing C ≡ true → places.count ≡ length C → places.count ≤ 80
           → RankedTree u C one.left one.nodes ranked1 → RankedTree v C two.left two.nodes ranked2
           → three ≡ clash_ranks C (first_clash u v C)) → (told : Maybe Ranked) → told ≡ told_of order places.start three
-          → ◌≡◌ {A = Verdict} (Ok told) (verdict_of xs (answer (decoded s) (decoded t) (map spelling xs)))
+          → ◌≡◌ {A = AgreeVerdict} (Ok told) (verdict_of xs (answer (decoded s) (decoded t) (map spelling xs)))
       compared_verdict few three search told is =
           ap Ok (is
           ∙ ap (λ (q : LabelPlaces). told_of order q.start three) g.placed

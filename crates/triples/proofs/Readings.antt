@@ -19,7 +19,7 @@ use Rattle.lists.specs.declared.ListRead.{ListRead}
 use Rattle.lists.specs.ReadList.{read_list, list_read, places_of}
 use Rattle.lists.proofs.Accepts.{list_accepts}
 use Rattle.agreement.specs.Answer.{answer}
-use Rattle.triples.specs.Verdict.{Verdict, agreed, verdict_of, verdict_on_list, verdict_on_second, verdict_on, verdict, AllRead}
+use Rattle.triples.specs.Verdict.{AgreeVerdict, agreed, verdict_of, verdict_on_list, verdict_on_second, verdict_on, verdict, AllRead}
 use Rattle.triples.specs.Loops.{AsRead}
 
 -- a tree that was read, and a list
@@ -49,7 +49,7 @@ list_was body (refused x i) r n e a =
 
 -- a body that cannot be read decides
 first_body : (reading second : Reading Tree) (list : Reading (List Token)) (r : TreeRead) (x : Refusal) → r ≡ tree_read S reading
-    → r.answer ≡ Err x → ◌≡◌ {A = Verdict} (Err x) (verdict_on reading second list)
+    → r.answer ≡ Err x → ◌≡◌ {A = AgreeVerdict} (Err x) (verdict_on reading second list)
 unfolding tree_read verdict_on
 first_body (good t) second list r x e a =
     absurd (let b = ap (λ (q : TreeRead). q.answer) e in let z : ◌≡◌ {A = ℕ} 0 1 = cc in omega arith)
@@ -59,7 +59,7 @@ first_body (refused y i) second list r x e a =
     ap Err d
 
 second_body : (s : Tree) (reading : Reading Tree) (list : Reading (List Token)) (r : TreeRead) (x : Refusal) → r ≡ tree_read T reading
-    → r.answer ≡ Err x → ◌≡◌ {A = Verdict} (Err x) (verdict_on_second s reading list)
+    → r.answer ≡ Err x → ◌≡◌ {A = AgreeVerdict} (Err x) (verdict_on_second s reading list)
 unfolding tree_read verdict_on_second
 second_body s (good t) list r x e a =
     absurd (let b = ap (λ (q : TreeRead). q.answer) e in let z : ◌≡◌ {A = ℕ} 0 1 = cc in omega arith)
@@ -69,7 +69,7 @@ second_body s (refused y i) list r x e a =
     ap Err d
 
 list_body : (s t : Tree) (reading : Reading (List Token)) (r : ListRead) (x : Refusal) → r ≡ list_read K reading
-    → r.answer ≡ Err x → ◌≡◌ {A = Verdict} (Err x) (verdict_on_list s t reading)
+    → r.answer ≡ Err x → ◌≡◌ {A = AgreeVerdict} (Err x) (verdict_on_list s t reading)
 unfolding list_read verdict_on_list
 list_body s t (good xs) r x e a =
     absurd (let b = ap (λ (q : ListRead). q.answer) e in let z : ◌≡◌ {A = ℕ} 0 1 = cc in omega arith)
@@ -80,7 +80,7 @@ list_body s t (refused y i) r x e a =
 
 module _ (first second list : List ℕ) where
   pub first_refused : (r : TreeRead) (x : Refusal) → r ≡ tree_read S (read_tree first) → r.answer ≡ Err x
-      → ◌≡◌ {A = Verdict} (Err x) (verdict first second list)
+      → ◌≡◌ {A = AgreeVerdict} (Err x) (verdict first second list)
   unfolding verdict
   first_refused r x e a = first_body (read_tree first) (read_tree second) (read_list list) r x e a
 
@@ -91,7 +91,7 @@ module _ (first second list : List ℕ) where
     on_second = ap (λ (q : Reading Tree). verdict_on q (read_tree second) (read_list list)) (sym s.read)
 
     pub second_refused : (r : TreeRead) (x : Refusal) → r ≡ tree_read T (read_tree second) → r.answer ≡ Err x
-        → ◌≡◌ {A = Verdict} (Err x) (verdict first second list)
+        → ◌≡◌ {A = AgreeVerdict} (Err x) (verdict first second list)
     second_refused r x e a = second_body s.tree (read_tree second) (read_list list) r x e a ∙ on_second
 
     module _ (two : TreeRead) (t : TreeWas (read_tree second) two) where
@@ -101,7 +101,7 @@ module _ (first second list : List ℕ) where
       on_list = ap (λ (q : Reading Tree). verdict_on_second s.tree q (read_list list)) (sym t.read) ∙ on_second
 
       pub list_refused : (r : ListRead) (x : Refusal) → r ≡ list_read K (read_list list) → r.answer ≡ Err x
-          → ◌≡◌ {A = Verdict} (Err x) (verdict first second list)
+          → ◌≡◌ {A = AgreeVerdict} (Err x) (verdict first second list)
       list_refused r x e a = list_body s.tree t.tree (read_list list) r x e a ∙ on_list
 
       module _ (three : ListRead) (k : ListWas (read_list list) three) where
