@@ -11,7 +11,6 @@ fn main(rt: HostRuntime) {
     let mut input = job::job_area();
     let n = streams::read_full(&mut rt.stdin(), &mut input);
     let mut area = [0u8; LINES_ROOM];
-    let out: &mut [u8] = &mut area;
-    let answer = job::print_job(&input[..n], out);
-    streams::write_all(&mut rt.stdout(), lines::written(out, answer));
+    let answer = job::print_job(&input[..n], &mut area);
+    streams::write_all(&mut rt.stdout(), lines::written(&area, answer));
 }
