@@ -2,15 +2,15 @@
 -- that place's head. Assumes nothing.
 use Prim.Native.Nat.{ℕ, ◌+◌, ◌-◌, ◌*◌, ◌<◌, ◌≤◌, min}
 use mathlib.Core.Path.{◌≡◌, refl, sym, ◌∙◌, ap}
-use mathlib.Core.Bool.{true, false, and-false}
+use mathlib.Core.Bool.{true, false}
 use mathlib.Core.Logic.{◌⊎◌, inl, inr}
 use mathlib.Core.List.{List}
 use native.Mathlib.Omega.{arith}
 use native.Mathlib.Decide.{dec_lt}
-use lib.Dec.{leb, eqb}
+use lib.Dec.{eqb}
 use lib.ListN.{length, get_or, set, replicate, length-set}
 use lib.Seq.{get_or-set_same, get_or-set_other}
-use borrow.Author.Tests.{eqb-true, eqb-false, le-leb, lt-ltb, le-ltb}
+use borrow.Author.Tests.{eqb-true, eqb-false}
 use Rattle.trees.specs.declared.TreeArrays.{TreeArrays}
 use Rattle.trees.specs.Label.{Label, is_in, distinct}
 use Rattle.trees.specs.Tree.{Tree, leaf, node, leaves}
@@ -26,28 +26,6 @@ use Rattle.pieces.specs.Pieces.{required_in, number_below, line_in}
 use Rattle.places.specs.Nodes.{TreeRanks, least_rank, BelowIs, child_number, child_top, down_in, top_below, top_in, PassedOn, LeafNumbers}
 use Rattle.places.proofs.RankLaws.{number_by_rank}
 use Rattle.places.proofs.UpwardLaws.{filled, laid_at, nodes_few}
-
--- a child's number and head
-
-pub number_one : (p q l o n : ℕ) → p ≡ 0 → child_number p q l o n ≡ n
-unfolding child_number
-number_one p q l o n e = rw e refl
-
-pub number_other : (p q l o n : ℕ) → q ≡ 0 → child_number p q l o n ≡ n
-unfolding child_number
-number_other p q l o n e = rw (e, and-false (leb 1 p)) refl
-
-pub number_first : (p q l o n : ℕ) → 1 ≤ p → 1 ≤ q → l < o → child_number p q l o n ≡ n - 2 * q
-unfolding child_number
-number_first p q l o n hp hq h = rw (le-leb 1 p hp, le-leb 1 q hq, lt-ltb l o h) refl
-
-pub number_second : (p q l o n : ℕ) → 1 ≤ p → 1 ≤ q → o ≤ l → child_number p q l o n ≡ n - 1
-unfolding child_number
-number_second p q l o n hp hq h = rw (le-leb 1 p hp, le-leb 1 q hq, le-ltb l o h) refl
-
--- arrays keep their lengths
-pub twice_length : (l : List ℕ) (a b x y : ℕ) → length (set (set l a x) b y) ≡ length l
-twice_length l a b x y = length-set (set l a x) b y ∙ length-set l a x
 
 -- one step down
 

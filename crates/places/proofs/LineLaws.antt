@@ -27,9 +27,6 @@ use Rattle.places.proofs.UpwardLaws.{inner_yes, inner_no, laid_at}
 
 -- values by rank
 
-pub ranks_none : (t : Tree) (C : List Label) (values out : List ℕ) → ValuesByRank t C 0 values out
-ranks_none t C values out r u h l is = absurd (omega arith)
-
 module _ {t : Tree} {C K : List Label} {tree : TreeArrays} {rank : List ℕ} {m : ℕ} {ks : List ℕ}
     (g : TreeRanks t C K tree rank m ks) (u a b : ℕ) (values out : List ℕ) (h : u < nodes_of t) (ea : a ≡ get_or tree.left u 0)
     (eb : b ≡ get_or tree.right u 0) (size : length out ≡ 81) (ranks : ValuesByRank t C u values out) where

@@ -146,10 +146,6 @@ module _ (C : List Label) (line tops : List ℕ) (few : length C ≤ 80) (j : �
   fits_shows {h} (fits_none e) = rw (le-ltb h 80 (omega arith)) shows_none
   fits_shows {h} (fits_one l e) = rw (lt-ltb h 80 (omega arith)) (shows_one l e refl shows_none)
 
-  fits_leaf : {h : ℕ} {req : List Label} → HeadFits C h req → h ≡ 81 → ⊥
-  fits_leaf (fits_none e) d = omega arith
-  fits_leaf (fits_one l e) d = omega arith
-
   empty_line : (req others : List Label) → items_with false others ≡ [] → items_of (listed req others []) ≡ []
   unfolding items_with items_of listed
   empty_line req [] e = refl

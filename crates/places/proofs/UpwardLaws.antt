@@ -66,9 +66,6 @@ module _ {t : Tree} {C K : List Label} {tree : TreeArrays} {rank : List ℕ} {m 
         go x l (inr k) = rw k refl
     least_stored (laid_node l r) is = rw (inner_yes a b u l r, below.least_is a l, below.least_is b r) refl
 
-  pub below_none : (many least : List ℕ) → BelowIs t C K 0 many least
-  below_none many least = record { many_is = λ u h. absurd (omega arith); least_is = λ u h. absurd (omega arith) }
-
   pub below_more : (u a b : ℕ) (many least : List ℕ) → u < nodes_of t → a ≡ get_or tree.left u 0 → b ≡ get_or tree.right u 0
       → length many ≡ 159 → length least ≡ 159 → BelowIs t C K u many least
       → BelowIs t C K (u + 1) (set many u (many_at many a b u (required_at number (get_or rank u 0) m) % 256))
