@@ -68,7 +68,7 @@ pub fn read_pair(options: Options, first: &[u8], second: &[u8]) -> Result<Pair, 
     ensures { PairIs options first.now second.now result }
 {
     let edition = options.edition;
-    // `let .. else` is the form that 01 names for a body that fails to read; `?` would do the same.
+    // `let .. else` is the form that 01 names for a body that fails to read.
     let one = newick::read_tree(edition, first, Body::S);
     let answer1 = one.answer;
     let Ok(leaves1) = answer1 else {

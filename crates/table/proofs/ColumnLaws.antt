@@ -21,7 +21,7 @@ use Rattle.trees.proofs.PostorderLaws.{length_postorder, subtree_few, leaf_once,
 use Rattle.trees.proofs.PostorderLaws.{Third, in_first_lem, in_second_lem, at_last, third, third_first, third_second, third_last}
 use Rattle.leaves.proofs.OwnLaws.{own_laid}
 use Rattle.table.specs.Table.{join_need, need, LeafOf, no_leaf, one_leaf, Spans, Columns}
-use Rattle.table.specs.Columns.{child_at, need_at, low_at, leaf_place, Sized, OthersKept, NodeIs, NodePut, Gathered}
+use Rattle.table.specs.Columns.{child_at, need_at, low_at, leaf_place, SizedColumns, OthersKept, NodeIs, NodePut, Gathered}
 use Rattle.table.specs.Choice.{Ranked, Given}
 use Rattle.table.specs.Solving.{Rooted, OwnColumns}
 use Rattle.table.proofs.RowLaws.{NodeCase, is_leaf, is_node_lem, node_case}
@@ -106,7 +106,7 @@ module _ (old : TreeColumns) (u left right rank a b n need low place xa xb xn xn
   below : (q : ℕ) → q < u → (get_or new.rows q 0 ≡ get_or old.rows q 0) × (get_or new.low q 0 ≡ get_or old.low q 0)
   below q l = (others.rows q (λ e. omega arith), others.low q (λ e. omega arith))
 
-  module _ (size : Sized old) where
+  module _ (size : SizedColumns old) where
     a_is : get_or new.left u 0 ≡ a
     a_is = get_or-set_same old.left u xa 0 (omega (arith, size.left_size)) ∙ omega arith
 

@@ -20,7 +20,7 @@ abbrev pub leaf_place : ℕ → ℕ → ℕ → ℕ
 leaf_place u a n = cond (a == u) n 81
 
 -- each array has its size
-pub record Sized (columns : TreeColumns) : Type 0 where
+pub record SizedColumns (columns : TreeColumns) : Type 0 where
   pub left_size : length columns.left ≡ 159
   pub right_size : length columns.right ≡ 159
   pub rank_size : length columns.rank ≡ 159
@@ -46,17 +46,17 @@ pub record NodeIs (a b rank u : ℕ) (columns : TreeColumns) : Type 0 where
 
 -- node u is stored, a leaf also as that of its rank; every other node and rank, and the number of nodes, stay
 pub record NodePut (u a b rank : ℕ) (old new : TreeColumns) : Type 0 where
-  pub size : Sized old → Sized new
-  pub is : Sized old → NodeIs a b rank u new
+  pub size : SizedColumns old → SizedColumns new
+  pub is : SizedColumns old → NodeIs a b rank u new
   pub others : OthersKept u old new
-  pub leaf_is : Sized old → slice_index new.left u ≡ u → slice_index new.leaf (slice_index new.rank u) ≡ u
-  pub leaves_kept : Sized old → (r : ℕ) → r ≤ 80 → (slice_index new.left u ≡ u → slice_index new.rank u ≢ r)
+  pub leaf_is : SizedColumns old → slice_index new.left u ≡ u → slice_index new.leaf (slice_index new.rank u) ≡ u
+  pub leaves_kept : SizedColumns old → (r : ℕ) → r ≤ 80 → (slice_index new.left u ≡ u → slice_index new.rank u ≢ r)
       → slice_index new.leaf r ≡ slice_index old.leaf r
   pub nodes_kept : new.nodes ≡ old.nodes
 
 -- the first n nodes are stored
 pub record Gathered (n : ℕ) (left right rank : List ℕ) (nodes : ℕ) (columns : TreeColumns) : Type 0 where
-  pub size : Sized columns
+  pub size : SizedColumns columns
   pub count : columns.nodes ≡ nodes
   pub each : (u : ℕ) → u < n → NodeIs (slice_index left u) (slice_index right u) (slice_index rank u) u columns
   pub leaf_of : (r : ℕ) → r ≤ 80 → LeafOf columns n r (slice_index columns.leaf r)
