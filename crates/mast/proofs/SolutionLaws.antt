@@ -3,14 +3,12 @@ use Prim.Native.Nat.{ℕ}
 use mathlib.Core.Path.{◌≡◌, refl, sym, ◌∙◌, ap, subst}
 use mathlib.Core.Bool.{Bool, true, false}
 use mathlib.Core.Logic.{◌⊎◌, inl, inr}
-use mathlib.Core.List.{List, [], ◌∷◌}
+use mathlib.Core.List.{List}
 use mathlib.Core.Option.{Option, some, none}
 use native.Mathlib.Omega.{arith}
 use lib.Dec.{leb}
 use Rattle.std.specs.Prelude.{Result, Ok, Err, IsErr}
 use lib.ListN.{length}
-use types.Run.{OneOf}
-use denote.Enum.Declared.{tag_of}
 use Rattle.trees.specs.declared.TreeArrays.{TreeArrays}
 use Rattle.trees.specs.declared.Refusal.{Refusal}
 use Rattle.trees.specs.Label.{Label}
@@ -26,7 +24,6 @@ use Rattle.trees.proofs.TokenLaws.{valid_decoded}
 use Rattle.lists.specs.declared.LabelPlaces.{LabelPlaces}
 use Rattle.writer.specs.declared.WriteError.{WriteError}
 use Rattle.writer.specs.declared.WriteError.TheVariants.{Refused}
-use Rattle.newick.proofs.Keys.{left_over}
 use Rattle.writer.specs.Write.{standing_text, output_too_short, text_answer, text_output, write_answer, output_after}
 use Rattle.agreement.specs.Sets.{set_of, common}
 use Rattle.agreement.specs.Restrict.{restrict_in}

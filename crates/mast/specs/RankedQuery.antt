@@ -2,7 +2,6 @@
 use Rattle.std.specs.Prelude.{ℕ, ◌<◌, ◌≡◌, List, get_or, Option}
 use Rattle.trees.specs.declared.Body.{Body}
 use Rattle.trees.specs.declared.Edition.{Edition}
-use Rattle.trees.specs.declared.TreeArrays.{TreeArrays}
 use Rattle.trees.specs.Edition.{folded}
 use Rattle.trees.specs.Token.{Token}
 use Rattle.trees.specs.Tree.{Tree}
@@ -10,6 +9,7 @@ use Rattle.lists.specs.declared.LabelPlaces.{LabelPlaces}
 use Rattle.lists.specs.ReadList.{folded_list}
 use Rattle.mast.specs.declared.Named.{Named}
 use Rattle.pairs.specs.declared.CommonOrder.{CommonOrder}
+use Rattle.pairs.specs.declared.Pair.{Pair}
 use Rattle.pairs.specs.Outcome.{found}
 use Rattle.queries.specs.RankedList.{AskedOf}
 use Rattle.queries.specs.Query.{AllHeld, answer_to, held_by}
@@ -17,12 +17,12 @@ use Rattle.mast.specs.Compare.{clash_of, named_if}
 use Rattle.mast.specs.ListMarks.{ranks_from, Entries}
 
 -- there are such trees and such a list: what keeps indices in range
-pub record SomeAsked (tree1 tree2 : TreeArrays) (order : CommonOrder) (number : List ℕ) (places : LabelPlaces) : Type 0 where
+pub record SomeAsked (p : Pair) (number : List ℕ) (places : LabelPlaces) : Type 0 where
   pub e : Edition
   pub s : Tree
   pub t : Tree
   pub xs : List Token
-  pub of : AskedOf (folded e s) (folded e t) (folded_list e xs) tree1 tree2 order number places
+  pub of : AskedOf (folded e s) (folded e t) (folded_list e xs) p.tree1 p.tree2 p.order number places
 
 -- the marked labels by their ranks, and their leaves in both trees
 pub record RanksGathered (number : List ℕ) (order : CommonOrder) (count : ℕ) (ranks leaf1 leaf2 : List ℕ) : Type 0 where

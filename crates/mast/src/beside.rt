@@ -4,19 +4,19 @@
 ghost use Rattle.std.specs.Prelude.{◌≡◌, List, ℕ, ◌≤◌, length};
 ghost use Rattle.queries.specs.Query.{answer_to};
 ghost use Rattle.mast.specs.Compare.{compare_lists, compare_other, compared_of};
-ghost use Rattle.pairs.specs.PairRead.{OwnTrees, trees_in};
+ghost use Rattle.pairs.specs.PairRead.{trees_in};
 ghost use Rattle.queries.specs.ListRead.{OwnLabels};
 ghost use Rattle.mast.specs.ListMarks.{nearer_of, least_missing, below};
-ghost use Rattle.mast.specs.Settled.{lacked_at, chosen_of, AgreedOn};
+ghost use Rattle.mast.specs.Settled.{OwnPair, lacked_at, chosen_of, AgreedOn};
 
 use crate::clash::clash_in;
 use crate::settle::{Settled, settle};
 use crate::{Compared, Denied};
 use lists::LabelPlaces;
-use pairs::CommonOrder;
+use pairs::Pair;
 use queries::mark_list;
 use table::RANKS;
-use trees::{Body, Edition, TreeArrays};
+use trees::{Body, Edition};
 
 // Smallest index so far of a required label that the other list lacks. `number` and `other` are the label's position in each list, counted
 // from 1; 0 means the list does not contain it.
@@ -68,28 +68,34 @@ fn lacked_label(
 fn beside(
     edition: Edition,
     first: &[u8],
-    tree1: TreeArrays,
-    tree2: TreeArrays,
-    order: CommonOrder,
+    pair: &Pair,
     settled: Settled,
     places: LabelPlaces,
     other: &[u8],
     others: LabelPlaces,
 ) -> Result<Compared, Denied>
-    requires { OwnTrees edition first.now tree1 tree2 order × OwnLabels edition other.now others }
-    ensures { (list : List ℕ) (b : OwnTrees edition first.now tree1 tree2 order) (l : OwnLabels edition list places)
+    requires { OwnPair edition first.now pair.now × OwnLabels edition other.now others }
+    ensures { (list : List ℕ) (b : OwnPair edition first.now pair.now) (l : OwnLabels edition list places)
         (k : OwnLabels edition other.now others) → AgreedOn b l settled
         → result ≡ compared_of
         (compare_other edition b.s l.xs k.xs (length (chosen_of edition b.s b.t settled.chosen))
         (answer_to edition (trees_in b) k.xs)) }
 {
-    let claimed = mark_list(edition, first, tree1, order, other, others, Body::C)?;
+    let claimed = mark_list(
+        edition,
+        first,
+        pair.tree1,
+        pair.order,
+        other,
+        others,
+        Body::C,
+    )?;
     let number = settled.number;
     Ok(Compared {
         size: settled.size,
         count: others.count,
-        missing: lacked_label(&number, &claimed, order.count, places),
-        clash: clash_in(tree1, tree2, order, &claimed, others),
+        missing: lacked_label(&number, &claimed, pair.order.count, places),
+        clash: clash_in(pair, &claimed, others),
     })
 }
 
@@ -97,22 +103,18 @@ fn beside(
 pub(crate) fn compare_lists(
     edition: Edition,
     first: &[u8],
-    tree1: TreeArrays,
-    tree2: TreeArrays,
-    order: CommonOrder,
+    pair: &Pair,
     list: &[u8],
     places: LabelPlaces,
     other: &[u8],
     others: LabelPlaces,
 ) -> Result<Compared, Denied>
-    requires { OwnTrees edition first.now tree1 tree2 order × OwnLabels edition list.now places
+    requires { OwnPair edition first.now pair.now × OwnLabels edition list.now places
         × OwnLabels edition other.now others }
-    ensures { (b : OwnTrees edition first.now tree1 tree2 order)
+    ensures { (b : OwnPair edition first.now pair.now)
         (l : OwnLabels edition list.now places) (k : OwnLabels edition other.now others)
         → result ≡ compared_of (compare_lists edition (trees_in b) l.xs k.xs) }
 {
-    let settled = settle(edition, first, tree1, tree2, order, list, places)?;
-    beside(
-        edition, first, tree1, tree2, order, settled, places, other, others,
-    )
+    let settled = settle(edition, first, pair, list, places)?;
+    beside(edition, first, pair, settled, places, other, others)
 }

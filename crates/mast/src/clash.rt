@@ -12,7 +12,7 @@ ghost use Rattle.mast.specs.RankedQuery.{SomeAsked, RanksGathered, ClashIs};
 
 use crate::{Named, NamedLabel};
 use lists::LabelPlaces;
-use pairs::{CommonOrder, entries_at};
+use pairs::{CommonOrder, Pair, entries_at};
 use table::RANKS;
 use trees::{Edition, LEAF_LIMIT, NODE_LIMIT, TreeArrays};
 use triples::{Indices, RankedLeaves};
@@ -85,77 +85,67 @@ fn named_three(
     places: LabelPlaces,
     number: &[u8; RANKS],
     ranks: &[usize; LEAF_LIMIT],
-    tree1: TreeArrays,
+    tree1: &TreeArrays,
     leaf1: &[usize; LEAF_LIMIT],
     three: Indices,
 ) -> Named
     requires { Nameable number.now ranks.now leaf1.now three.first
         × Nameable number.now ranks.now leaf1.now three.second × Nameable number.now ranks.now leaf1.now three.third }
     ensures { result ≡ record {
-      first = named_at places.start number.now ranks.now tree1.start tree1.size
+      first = named_at places.start number.now ranks.now tree1.now.start tree1.now.size
           leaf1.now three.first;
-      second = named_at places.start number.now ranks.now tree1.start tree1.size
+      second = named_at places.start number.now ranks.now tree1.now.start tree1.now.size
           leaf1.now three.second;
-      third = named_at places.start number.now ranks.now tree1.start tree1.size
+      third = named_at places.start number.now ranks.now tree1.now.start tree1.now.size
           leaf1.now three.third;
     } }
 {
     let starts = places.start;
-    let start1 = tree1.start;
-    let size1 = tree1.size;
+    let start1 = &tree1.start;
+    let size1 = &tree1.size;
     Named {
-        first: named_label(&starts, number, ranks, &start1, &size1, leaf1, three.first),
-        second: named_label(&starts, number, ranks, &start1, &size1, leaf1, three.second),
-        third: named_label(&starts, number, ranks, &start1, &size1, leaf1, three.third),
+        first: named_label(&starts, number, ranks, start1, size1, leaf1, three.first),
+        second: named_label(&starts, number, ranks, start1, size1, leaf1, three.second),
+        third: named_label(&starts, number, ranks, start1, size1, leaf1, three.third),
     }
 }
 
 // The ranks of the marked labels, of which there are `count`, in label order; their leaves in both trees go into the arrays.
 fn gather(
     number: &[u8; RANKS],
-    order: CommonOrder,
+    order: &CommonOrder,
     count: usize,
     leaf1: &mut [usize; LEAF_LIMIT],
     leaf2: &mut [usize; LEAF_LIMIT],
 ) -> [usize; LEAF_LIMIT]
-    requires { order.count ≤ 80 }
-    ensures { RanksGathered number.now order count result leaf1.new leaf2.new }
+    requires { order.now.count ≤ 80 }
+    ensures { RanksGathered number.now order.now count result leaf1.new leaf2.new }
 {
-    let order1 = order.first;
-    let order2 = order.second;
     let ranks = marked_ranks(number, order.count);
-    *leaf1 = entries_at(&ranks, &order1, count);
-    *leaf2 = entries_at(&ranks, &order2, count);
+    *leaf1 = entries_at(&ranks, &order.first, count);
+    *leaf2 = entries_at(&ranks, &order.second, count);
     ranks
 }
 
 // The first three labels of a list with different closer pairs, if there are any.
-pub(crate) fn clash_in(
-    tree1: TreeArrays,
-    tree2: TreeArrays,
-    order: CommonOrder,
-    number: &[u8; RANKS],
-    places: LabelPlaces,
-) -> Option<Named>
-    requires { SomeAsked tree1 tree2 order number.now places }
+pub(crate) fn clash_in(pair: &Pair, number: &[u8; RANKS], places: LabelPlaces) -> Option<Named>
+    requires { SomeAsked pair.now number.now places }
     ensures { (e : Edition) (s t : Tree) (xs : List Token)
-        → AskedOf (folded e s) (folded e t) (folded_list e xs) tree1 tree2 order number.now places → ClashIs e s t xs result }
+        → AskedOf (folded e s) (folded e t) (folded_list e xs) pair.now.tree1 pair.now.tree2 pair.now.order number.now places → ClashIs e s t xs result }
 {
     let count = places.count;
-    let left1 = tree1.left;
-    let left2 = tree2.left;
     let leaf = [0usize; LEAF_LIMIT];
     let mut one = RankedLeaves {
-        left: left1,
-        nodes: tree1.nodes,
+        left: pair.tree1.left,
+        nodes: pair.tree1.nodes,
         leaf,
     };
     let mut two = RankedLeaves {
-        left: left2,
-        nodes: tree2.nodes,
+        left: pair.tree2.left,
+        nodes: pair.tree2.nodes,
         leaf,
     };
-    let ranks = gather(number, order, count, &mut one.leaf, &mut two.leaf);
+    let ranks = gather(number, &pair.order, count, &mut one.leaf, &mut two.leaf);
     let three = triples::first_clash(&one, &two, count)?;
-    Some(named_three(places, number, &ranks, tree1, &one.leaf, three))
+    Some(named_three(places, number, &ranks, &pair.tree1, &one.leaf, three))
 }

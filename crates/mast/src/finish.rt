@@ -13,19 +13,20 @@ ghost use Rattle.table.specs.Choice.{chosen_from};
 ghost use Rattle.lists.specs.ReadList.{folded_list};
 ghost use Rattle.mast.specs.Largest.{solution, fitted, solve_list, set_places, largest_of, output_of};
 ghost use Rattle.pairs.specs.Outcome.{found};
-ghost use Rattle.pairs.specs.PairRead.{OwnTrees, trees_in};
+ghost use Rattle.pairs.specs.PairRead.{trees_in};
 ghost use Rattle.queries.specs.ListRead.{OwnLabels};
 ghost use Rattle.queries.specs.Query.{required_set};
 ghost use Rattle.queries.specs.RankedList.{AskedOf};
 ghost use Rattle.division.specs.PiecesAt.{PiecesAt};
 ghost use Rattle.mast.specs.PiecesWith.{PiecesWith, without_pieces};
+ghost use Rattle.mast.specs.Settled.{OwnPair};
 ghost use Rattle.mast.specs.SetByRank.{InRange, places_from, Stored, Flagged, ByRank};
 
 use crate::settle::settle;
 use crate::{Denied, Divided, Found};
 use division::{PiecePlaces, divide, no_pieces};
 use lists::LabelPlaces;
-use pairs::CommonOrder;
+use pairs::Pair;
 use table::RANKS;
 use trees::{Body, Edition, LEAF_LIMIT, NODE_LIMIT, Reason, Refusal, TreeArrays};
 
@@ -137,57 +138,55 @@ fn solution(
 }
 
 // The pieces, if they are asked for.
-fn pieces_if(
-    asked: bool,
-    tree1: TreeArrays,
-    tree2: TreeArrays,
-    order: CommonOrder,
-    number: &[u8; RANKS],
-    places: LabelPlaces,
-) -> PiecePlaces
+fn pieces_if(asked: bool, pair: &Pair, number: &[u8; RANKS], places: LabelPlaces) -> PiecePlaces
     ensures { asked ≡ true → (e : Edition) (s t : Tree) (xs : List Token) (X : List Label)
-        → AskedOf (folded e s) (folded e t) (folded_list e xs) tree1 tree2 order number.now places
+        → AskedOf (folded e s) (folded e t) (folded_list e xs) pair.now.tree1 pair.now.tree2 pair.now.order number.now places
         → required_set e (record { first = s; second = t }) xs ≡ found X → PiecesAt e s t xs result }
 {
     if !asked {
         return no_pieces();
     }
-    divide(tree1, tree2, order, number, places)
+    divide(pair.tree1, pair.tree2, pair.order, number, places)
 }
 
 // The answer to two trees and a required list that were read, with the pieces if they are asked for.
 pub(crate) fn answer_list(
     edition: Edition,
     first: &[u8],
-    tree1: TreeArrays,
-    tree2: TreeArrays,
-    order: CommonOrder,
+    pair: &Pair,
     list: &[u8],
     places: LabelPlaces,
     asked: bool,
     out: &mut [u8],
 ) -> Result<Divided, Denied>
-    requires { OwnTrees edition first.now tree1 tree2 order × OwnLabels edition list.now places }
-    ensures answer { (b : OwnTrees edition first.now tree1 tree2 order)
+    requires { OwnPair edition first.now pair.now × OwnLabels edition list.now places }
+    ensures answer { (b : OwnPair edition first.now pair.now)
         (l : OwnLabels edition list.now places)
         → without_pieces result ≡ largest_of (solve_list edition (length out.old) (trees_in b) l.xs) }
-    ensures output { (b : OwnTrees edition first.now tree1 tree2 order)
+    ensures output { (b : OwnPair edition first.now pair.now)
         (l : OwnLabels edition list.now places)
         → out.new ≡ output_of (solve_list edition (length out.old) (trees_in b) l.xs) out.old }
-    ensures pieces { asked ≡ true → (b : OwnTrees edition first.now tree1 tree2 order)
+    ensures pieces { asked ≡ true → (b : OwnPair edition first.now pair.now)
         (l : OwnLabels edition list.now places)
         → PiecesWith (solve_list edition (length out.old) (trees_in b) l.xs) result }
 {
-    let settled = settle(edition, first, tree1, tree2, order, list, places)?;
-    let order1 = order.first;
-    let chosen = settled.chosen;
-    let found = solution(edition, tree1, first, &order1, order.count, &chosen, out)?;
+    let settled = settle(edition, first, pair, list, places)?;
+    let order = &pair.order;
+    let chosen = &settled.chosen;
+    let found = solution(
+        edition,
+        pair.tree1,
+        first,
+        &order.first,
+        order.count,
+        chosen,
+        out,
+    )?;
     let set = found.set;
-    let number = settled.number;
     Ok(Divided {
         size: found.size,
         length: found.length,
         set,
-        pieces: pieces_if(asked, tree1, tree2, order, &number, places),
+        pieces: pieces_if(asked, pair, &settled.number, places),
     })
 }

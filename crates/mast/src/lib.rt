@@ -104,12 +104,7 @@ pub fn largest_in_pieces(
     let edition = options.edition;
     let pair = read_pair(options, first, second)?;
     let places = read_labels(edition, required, Body::K)?;
-    let tree1 = pair.tree1;
-    let tree2 = pair.tree2;
-    let order = pair.order;
-    answer_list(
-        edition, first, tree1, tree2, order, required, places, asked, out,
-    )
+    answer_list(edition, first, &pair, required, places, asked, out)
 }
 
 // The largest set of common leaves that contains the required ones and on which the trees agree, the first in label order among equals.
@@ -155,10 +150,5 @@ pub fn compare(
     let pair = read_pair(options, first, second)?;
     let listed = read_labels(edition, required, Body::K)?;
     let further = read_labels(edition, other, Body::C)?;
-    let tree1 = pair.tree1;
-    let tree2 = pair.tree2;
-    let order = pair.order;
-    compare_lists(
-        edition, first, tree1, tree2, order, required, listed, other, further,
-    )
+    compare_lists(edition, first, &pair, required, listed, other, further)
 }

@@ -7,19 +7,18 @@ ghost use Rattle.trees.specs.Token.{Token};
 ghost use Rattle.trees.specs.Tree.{Tree};
 ghost use Rattle.lists.specs.ReadList.{folded_list};
 ghost use Rattle.queries.specs.Query.{disagreement};
-ghost use Rattle.pairs.specs.PairRead.{OwnTrees};
 ghost use Rattle.queries.specs.ListRead.{OwnLabels};
 ghost use Rattle.queries.specs.RankedList.{AskedOf};
 ghost use Rattle.mast.specs.RankedQuery.{SomeAsked};
-ghost use Rattle.mast.specs.Settled.{ChosenIs, SettledIs};
+ghost use Rattle.mast.specs.Settled.{OwnPair, ChosenIs, SettledIs};
 
 use crate::Denied;
 use crate::clash::clash_in;
 use lists::LabelPlaces;
-use pairs::{CommonOrder, rank_leaves};
+use pairs::{Pair, rank_leaves};
 use queries::mark_list;
 use table::{RANKS, largest_set};
-use trees::{Body, Edition, LEAF_LIMIT, NODE_LIMIT, Reason, Refusal, TreeArrays};
+use trees::{Body, Edition, LEAF_LIMIT, NODE_LIMIT, Reason, Refusal};
 
 // Number 8.
 fn disagreement() -> Refusal
@@ -34,28 +33,24 @@ fn disagreement() -> Refusal
 
 // How many labels are chosen: they are the largest set, if the trees agree on the list.
 fn choose(
-    tree1: TreeArrays,
-    tree2: TreeArrays,
-    order: CommonOrder,
+    pair: &Pair,
     number: &[u8; RANKS],
     places: LabelPlaces,
     chosen: &mut [bool; LEAF_LIMIT],
 ) -> Result<usize, Denied>
-    requires { SomeAsked tree1 tree2 order number.now places }
+    requires { SomeAsked pair.now number.now places }
     ensures { (e : Edition) (s t : Tree) (xs : List Token)
-        → AskedOf (folded e s) (folded e t) (folded_list e xs) tree1 tree2 order number.now places
+        → AskedOf (folded e s) (folded e t) (folded_list e xs) pair.now.tree1 pair.now.tree2 pair.now.order number.now places
         → ChosenIs e s t xs chosen.new result }
 {
-    let m = order.count;
-    let order1 = order.first;
-    let order2 = order.second;
+    let m = pair.order.count;
     let mut rank1 = [0u8; NODE_LIMIT];
     let mut rank2 = [0u8; NODE_LIMIT];
-    rank_leaves(&order1, m, &mut rank1);
-    rank_leaves(&order2, m, &mut rank2);
+    rank_leaves(&pair.order.first, m, &mut rank1);
+    rank_leaves(&pair.order.second, m, &mut rank2);
     let answer = largest_set(
-        tree1,
-        tree2,
+        pair.tree1,
+        pair.tree2,
         &rank1,
         &rank2,
         m,
@@ -66,7 +61,7 @@ fn choose(
     if let Some(size) = answer {
         return Ok(size);
     }
-    let named = clash_in(tree1, tree2, order, number, places).unwrap();
+    let named = clash_in(pair, number, places).unwrap();
     Err(Denied::Naming(disagreement(), named))
 }
 
@@ -82,19 +77,25 @@ pub(crate) struct Settled {
 pub(crate) fn settle(
     edition: Edition,
     first: &[u8],
-    tree1: TreeArrays,
-    tree2: TreeArrays,
-    order: CommonOrder,
+    pair: &Pair,
     list: &[u8],
     places: LabelPlaces,
 ) -> Result<Settled, Denied>
-    requires { OwnTrees edition first.now tree1 tree2 order × OwnLabels edition list.now places }
-    ensures { (b : OwnTrees edition first.now tree1 tree2 order) (l : OwnLabels edition list.now places)
+    requires { OwnPair edition first.now pair.now × OwnLabels edition list.now places }
+    ensures { (b : OwnPair edition first.now pair.now) (l : OwnLabels edition list.now places)
         → SettledIs b l result }
 {
-    let number = mark_list(edition, first, tree1, order, list, places, Body::K)?;
+    let number = mark_list(
+        edition,
+        first,
+        pair.tree1,
+        pair.order,
+        list,
+        places,
+        Body::K,
+    )?;
     let mut chosen = [false; LEAF_LIMIT];
-    let size = choose(tree1, tree2, order, &number, places, &mut chosen)?;
+    let size = choose(pair, &number, places, &mut chosen)?;
     Ok(Settled {
         size,
         number,
