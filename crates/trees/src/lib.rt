@@ -209,20 +209,6 @@ impl From<Body> for u8 {
     }
 }
 
-// The number of a reason.
-pub fn number(r: Reason) -> u8
-    ensures { result ≡ number_of r }
-{
-    u8::from(r)
-}
-
-// The letter of a body.
-pub fn letter(b: Body) -> u8
-    ensures { result ≡ letter_of b }
-{
-    u8::from(b)
-}
-
 // A byte as an edition reads it: under the second a capital is the small letter.
 fn fold(edition: Edition, b: u8) -> u8
     ensures { result ≡ fold_byte edition b }

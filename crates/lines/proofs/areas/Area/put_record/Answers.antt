@@ -1,11 +1,12 @@
 -- `Area::put_record` meets its contract: the parts of the three lines, one after another. Assumes nothing.
 use borrow.Author.Rules.{rules}
-use mathlib.Core.Path.{sym, ap}
+use Prim.Native.Nat.{ℕ}
+use mathlib.Core.Path.{sym, ◌∙◌, ap}
 use native.Mathlib.Omega.{arith}
-use lib.ListN.{length, length-take}
+use lib.ListN.{length, take, length-take}
 use Rattle.trees.specs.Text.{tree_room}
 use Rattle.trees.specs.Words.{bytes_of}
-use Rattle.lines.specs.Lines.{labels_in}
+use Rattle.lines.specs.Lines.{labels_in, record_lines}
 use Rattle.lines.proofs.AreaLaws.{put_then, put_as, length_labels}
 use Rattle.lines.proofs.LineLaws.{record_parts, size_short}
 use Rattle.lines.proofs.areas.Area.put_record.Goals as goal
@@ -99,7 +100,7 @@ pub returns : goal.returns
 unfolding bytes_of
 returns g c =
     let a = c.args in let s = a.set.now in let n = c.min-count.result in
-    rw (← c.min-count.ensures)
-    (put_as _ _ (record_parts (labels_in a.first.now s.start s.size n) _ n (sym (length_labels a.first.now s.start s.size n)))
+    let e = ap (λ (k : ℕ). record_lines (labels_in a.first.now s.start s.size k) (take tree_room a.tree.now)) c.min-count.ensures in
+    put_as _ _ (record_parts (labels_in a.first.now s.start s.size n) _ n (sym (length_labels a.first.now s.start s.size n)) ∙ e)
     (put_then (put_then (put_then (put_then (put_then (put_then c.put_bytes.ensures c.put_number.ensures) c.put_bytes-2.ensures)
-    c.put_labels.ensures.put) c.put_bytes-3.ensures) (put_as _ _ c.front.ensures c.put_bytes-4.ensures)) c.put_byte.ensures))
+    c.put_labels.ensures.put) c.put_bytes-3.ensures) (put_as _ _ c.front.ensures c.put_bytes-4.ensures)) c.put_byte.ensures)
