@@ -314,10 +314,9 @@ module _ (e : Edition) (a : TreeArrays) (text : List ℕ) (n : ℕ) (before : Li
   unfolding stack_text stack_steps thing_text thing_steps
   one_thing u stack q few = (rw q (append-nil (node_text e a text u)), rw q (omega arith))
 
-  -- v is node u as the code stores it
-  pub writing_start : (u : ℕ) → u < n → length (leaves (below a text u)) ≤ 80 → (v : ℕ) → v ≡ u
+  first_thing : (u : ℕ) → u < n → length (leaves (below a text u)) ≤ 80 → (v : ℕ) → v ≡ u
       → Writing e a text n (node_text e a text u) before before (set (replicate 320 Comma) 0 (Node v)) 1 0
-  writing_start u h few v ev =
+  first_thing u h few v ev =
       let z : length {A = Thing} (replicate 320 Comma) ≡ 320 = length-replicate {A = Thing} 320 Comma in
       let q = get_or-set_same (replicate 320 Comma) 0 (Node v) (Node 0) (omega (arith, z)) ∙ ap Node ev in
       let t = one_thing u (set (replicate 320 Comma) 0 (Node v)) q few in
@@ -329,6 +328,12 @@ module _ (e : Edition) (a : TreeArrays) (text : List ℕ) (n : ℕ) (before : Li
         stores = rw t.0 refl;
         kept = refl;
       }
+
+  -- v is node u as the code stores it, and st and d are the stack with it
+  pub writing_start : (u : ℕ) → u < n → length (leaves (below a text u)) ≤ 80 → (v : ℕ) → v ≡ u
+      → (st : List Thing) (d : ℕ) → st ≡ set (replicate 320 Comma) 0 (Node v) → d ≡ 1
+      → Writing e a text n (node_text e a text u) before before st d 0
+  writing_start u h few v ev st d es ed = rw (es, ed) (first_thing u h few v ev)
 
   module _ (first : List ℕ) (children : ChildNodes e a text first n) (whole out : List ℕ) (stack : List Thing) (depth at d : ℕ) (ed : depth ≡ suc d)
       (w : Writing e a text n whole before out stack depth at) where
@@ -350,8 +355,8 @@ module _ (e : Edition) (a : TreeArrays) (text : List ℕ) (n : ℕ) (before : Li
     unfolding stack_steps
     falls = ap (stack_steps a text stack) ed ∙ last_step.counts
 
-    pub has_room : d + 4 ≤ length stack
-    has_room = room
+    pub has_room : d + 4 ≤ 320
+    has_room = omega (arith, room, w.long)
 
     top_fits : length whole ≤ length before
         → at + length (own_text text a.start a.size first (get_or stack d (Node 0))) ≤ length out
@@ -392,9 +397,10 @@ module _ (e : Edition) (a : TreeArrays) (text : List ℕ) (n : ℕ) (before : Li
       pub own_fits : length whole ≤ length before → at + length (own_text text a.start a.size first x) ≤ length out
       own_fits h = omega (arith, ap length own_is, top_fits h)
 
-      module _ (o : List ℕ) (st : List Thing) (dd i : ℕ) (est : st ≡ stack_after a.left a.right first x stack d) (edd : dd ≡ depth_after first x d) where
+      module _ (now : List Thing) (en : now ≡ stack) (o : List ℕ) (st : List Thing) (dd i : ℕ)
+          (est : st ≡ stack_after a.left a.right first x now d) (edd : dd ≡ depth_after first x d) where
         stack_is : st ≡ stack_after a.left a.right first (get_or stack d (Node 0)) stack d
-        stack_is = est ∙ ap (λ (q : Thing). stack_after a.left a.right first q stack d) ek
+        stack_is = est ∙ ap₂ (λ (q : Thing) (s : List Thing). stack_after a.left a.right first q s d) ek en
 
         depth_is : dd ≡ depth_after first (get_or stack d (Node 0)) d
         depth_is = edd ∙ ap (λ (q : Thing). depth_after first q d) ek
@@ -411,7 +417,9 @@ module _ (e : Edition) (a : TreeArrays) (text : List ℕ) (n : ℕ) (before : Li
         pub fewer_steps : stack_steps a text st dd < stack_steps a text stack depth
         fewer_steps = rw (stack_is, depth_is) (omega (arith, falls))
 
-  pub writing_end : (whole out : List ℕ) (stack : List Thing) (at : ℕ) → Writing e a text n whole before out stack 0 at
+  pub writing_end : (whole out : List ℕ) (stack : List Thing) (depth at : ℕ) → depth ≡ 0 → Writing e a text n whole before out stack depth at
       → (at ≡ 0 + length whole) × (out ≡ sets before 0 whole)
   unfolding stack_text
-  writing_end whole out stack at w = (omega (arith, w.rest), w.stores)
+  writing_end whole out stack depth at z w =
+      let q : stack_text e a text stack depth ≡ [] = ap (stack_text e a text stack) z in
+      (omega (arith, w.rest, ap length q), ap (sets out at) (sym q) ∙ w.stores)

@@ -1,5 +1,5 @@
 -- The passes over tree arrays as the code makes them; intermediate: nothing public rests on this text.
-use Rattle.std.specs.Prelude.{ℕ, zero, suc, ◌+◌, ◌*◌, ◌-◌, ◌<◌, ◌≤◌, min, ◌≡◌, Bool, true, false, cond, not, List, [], ◌∷◌, ◌++◌, eqb, length, get_or, set, replicate}
+use Rattle.std.specs.Prelude.{ℕ, zero, suc, ◌+◌, ◌*◌, ◌-◌, ◌<◌, ◌≤◌, min, ◌≡◌, Bool, true, false, cond, not, List, [], ◌∷◌, ◌++◌, eqb, length, get_or, set, replicate, Option, Some, None}
 use Rattle.trees.specs.declared.Edition.{Edition}
 use Rattle.trees.specs.declared.TreeArrays.{TreeArrays}
 use Rattle.trees.specs.Label.{Label, label_less}
@@ -141,6 +141,11 @@ stack_after l r first (Node k) stack d =
     stack
 stack_after l r first Comma stack d = stack
 stack_after l r first Close stack d = stack
+
+-- a stack of d things after the last of them was taken off, if there is one
+abbrev pub Popped : List Thing → ℕ → List Thing → ℕ → Option Thing → Type 0
+Popped old d now m None = d ≡ 0
+Popped old d now m (Some x) = (d ≡ m + 1) × ((x ≡ get_or old m (Node 0)) × (now ≡ old))
 
 -- what the stack's first d things write, the last of them first, and in how many steps
 unfoldable pub stack_text : Edition → TreeArrays → List ℕ → List Thing → ℕ → List ℕ

@@ -3,7 +3,7 @@
 // No public function has a `requires`: arrays that stand for no tree are answered too, and no entry of them is trusted.
 #![tactic(auto)]
 
-ghost use Rattle.std.specs.Prelude.{ℕ, ◌+◌, ◌-◌, ◌<◌, ◌≤◌, min, ◌≡◌, true, cond, length, get_or};
+ghost use Rattle.std.specs.Prelude.{ℕ, ◌+◌, ◌-◌, ◌<◌, ◌≤◌, min, ◌≡◌, true, cond, length, get_or, set};
 ghost use Rattle.std.proofs.lemmas.List.Edits.{sets};
 ghost use Rattle.trees.specs.Tree.{leaves};
 ghost use Rattle.trees.specs.Edition.{in_edition, normal_text_in};
@@ -12,7 +12,7 @@ ghost use Rattle.writer.specs.Write.{write_answer, output_after};
 ghost use Rattle.trees.specs.Stored.{shown_bytes};
 ghost use Rattle.trees.specs.Token.{token_limit};
 ghost use Rattle.writer.specs.Passes.{pass, leaf_token, weight_at, sum_at, root_sum, goes_first, least_at, first_at, ChildNodes, Good, root_tree, root_text};
-ghost use Rattle.writer.specs.Passes.{own_text, depth_after, stack_after};
+ghost use Rattle.writer.specs.Passes.{own_text, depth_after, stack_after, Popped};
 
 use trees::{
     Body, Edition, LABEL_LIMIT, LEAF_LIMIT, NODE_LIMIT, Reason, Refusal, ShownLabel, TOKEN_LIMIT,
@@ -270,6 +270,35 @@ enum Thing {
     Close,
 }
 
+// The things that are left to write, the next one last: the first `depth` entries.
+#[derive(Drop)]
+struct Stack {
+    things: [Thing; 320],
+    depth: usize,
+}
+
+impl Stack {
+    fn push(&mut self, thing: Thing)
+        requires { self.old.depth < 320 }
+        ensures depth { self.new.depth ≡ self.old.depth + 1 }
+        ensures stored { self.new.things ≡ set self.old.things self.old.depth thing }
+    {
+        self.things[self.depth] = thing;
+        self.depth += 1;
+    }
+
+    fn pop(&mut self) -> Option<Thing>
+        requires { self.old.depth ≤ 320 }
+        ensures { Popped self.old.things self.old.depth self.new.things self.new.depth result }
+    {
+        if self.depth == 0 {
+            return None;
+        }
+        self.depth -= 1;
+        Some(self.things[self.depth])
+    }
+}
+
 // Stores what a thing writes itself: its byte, a leaf's label, an inner node's `(`. Says where the next byte goes.
 #[tactic(auto, unfolding(crate::specs::Passes::own_text, trees::specs::Stored::shown_bytes))]
 fn put_own(
@@ -301,29 +330,28 @@ fn put_own(
     at + 1
 }
 
-// Puts what is to be written after an inner node's `(` onto the stack, the first last, and says how much is there then.
+// Puts what is to be written after an inner node's `(` onto the stack, the first last.
 #[tactic(auto, unfolding(crate::specs::Passes::depth_after, crate::specs::Passes::goes_on, crate::specs::Passes::stack_after))]
-fn push(tree: &TreeArrays, first: &[u8], thing: Thing, stack: &mut [Thing], depth: usize) -> usize
-    requires { depth + 4 ≤ length stack.old }
-    ensures depth { result ≡ depth_after first.now thing depth }
-    ensures stored { stack.new ≡ stack_after tree.now.left tree.now.right first.now thing stack.old depth }
+fn push_rest(tree: &TreeArrays, first: &[u8], thing: Thing, stack: &mut Stack)
+    requires { stack.old.depth + 4 ≤ 320 }
+    ensures depth { stack.new.depth ≡ depth_after first.now thing stack.old.depth }
+    ensures stored { stack.new.things
+        ≡ stack_after tree.now.left tree.now.right first.now thing stack.old.things stack.old.depth }
 {
     let Thing::Node(u) = thing else {
-        return depth;
+        return;
     };
     let k = usize::from(u);
     let f = byte_at(first, k);
     if f == u {
-        return depth;
+        return;
     }
     let l = byte_at(&tree.left, k);
     let r = byte_at(&tree.right, k);
-    let other = pick(f == l, r, l);
-    stack[depth] = Thing::Close;
-    stack[depth + 1] = Thing::Node(other);
-    stack[depth + 2] = Thing::Comma;
-    stack[depth + 3] = Thing::Node(f);
-    depth + 4
+    stack.push(Thing::Close);
+    stack.push(Thing::Node(pick(f == l, r, l)));
+    stack.push(Thing::Comma);
+    stack.push(Thing::Node(f));
 }
 
 // Writes the tree of the last node, and says where the next byte goes. The edition stands in the contract alone: `first` tells its order.
@@ -337,15 +365,15 @@ fn put_tree(edition: Edition, tree: &TreeArrays, text: &[u8], first: &[u8], out:
     ensures next { result ≡ 0 + length (root_text edition tree.now text.now) }
     ensures stored { out.new ≡ sets out.old 0 (root_text edition tree.now text.now) }
 {
-    let mut stack = [Thing::Comma; 320];
-    stack[0] = Thing::Node(narrow(tree.nodes - 1));
-    let mut depth: usize = 1;
+    let mut stack = Stack {
+        things: [Thing::Comma; 320],
+        depth: 0,
+    };
+    stack.push(Thing::Node(narrow(tree.nodes - 1)));
     let mut at: usize = 0;
-    while 0 < depth {
-        depth -= 1;
-        let thing = stack[depth];
+    while let Some(thing) = stack.pop() {
         at = put_own(tree, text, first, thing, out, at);
-        depth = push(tree, first, thing, &mut stack, depth);
+        push_rest(tree, first, thing, &mut stack);
     }
     at
 }

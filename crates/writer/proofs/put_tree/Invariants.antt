@@ -7,10 +7,10 @@ use Rattle.writer.specs.Passes.{node_text, stack_steps, ChildNodes}
 use Rattle.writer.proofs.StackLaws.{Writing}
 use Rattle.writer.proofs.put_tree.Given as goal
 
-abbrev pub invariant-loop-depth : goal.invariant-loop-depth
-invariant-loop-depth l = (e : Edition) → ChildNodes e l.tree l.text l.first l.tree.nodes
+abbrev pub invariant-loop-thing : goal.invariant-loop-thing
+invariant-loop-thing l = (e : Edition) → ChildNodes e l.tree l.text l.first l.tree.nodes
     → Writing e l.tree l.text l.tree.nodes (node_text e l.tree l.text (l.tree.nodes - 1)) l.initial.out
-    l.out l.stack l.depth l.at
+    l.out l.stack.things l.stack.depth l.at
 
-abbrev pub decreases-loop-depth : goal.decreases-loop-depth
-decreases-loop-depth l = stack_steps l.tree l.text l.stack l.depth
+abbrev pub decreases-loop-thing : goal.decreases-loop-thing
+decreases-loop-thing l = stack_steps l.tree l.text l.stack.things l.stack.depth
