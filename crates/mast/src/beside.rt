@@ -1,7 +1,7 @@
 // A further list beside the largest set, over two trees and two lists that were read.
 //
 // Names that end in 1 are of the first tree, in 2 of the second; `list` is the required one, `other` the further one.
-ghost use Rattle.std.specs.Prelude.{◌≡◌, List, ℕ, ◌≤◌, length};
+ghost use Rattle.std.specs.Prelude.{◌≡◌, ◌≤◌, length};
 ghost use Rattle.queries.specs.Query.{answer_to};
 ghost use Rattle.mast.specs.Compare.{compare_lists, compare_other, compared_of};
 ghost use Rattle.pairs.specs.PairRead.{trees_in};
@@ -10,13 +10,12 @@ ghost use Rattle.mast.specs.ListMarks.{nearer_of, least_missing, below};
 ghost use Rattle.mast.specs.Settled.{OwnPair, lacked_at, chosen_of, AgreedOn};
 
 use crate::clash::clash_in;
-use crate::settle::{Settled, settle};
+use crate::query::{Listed, Query};
+use crate::settle::Settled;
 use crate::{Compared, Denied};
 use lists::LabelPlaces;
-use pairs::Pair;
-use queries::mark_list;
 use table::RANKS;
-use trees::{Body, Edition};
+use trees::Body;
 
 // Smallest index so far of a required label that the other list lacks. `number` and `other` are the label's position in each list, counted
 // from 1; 0 means the list does not contain it.
@@ -64,57 +63,39 @@ fn lacked_label(
     Some(trees::entry(&starts, k))
 }
 
-// The further list beside the largest set, which the settled list has.
-fn beside(
-    edition: Edition,
-    first: &[u8],
-    pair: &Pair,
-    settled: Settled,
-    places: LabelPlaces,
-    other: &[u8],
-    others: LabelPlaces,
-) -> Result<Compared, Denied>
-    requires { OwnPair edition first.now pair.now × OwnLabels edition other.now others }
-    ensures { (list : List ℕ) (b : OwnPair edition first.now pair.now) (l : OwnLabels edition list places)
-        (k : OwnLabels edition other.now others) → AgreedOn b l settled
-        → result ≡ compared_of
-        (compare_other edition b.s l.xs k.xs (length (chosen_of edition b.s b.t settled.chosen))
-        (answer_to edition (trees_in b) k.xs)) }
-{
-    let claimed = mark_list(
-        edition,
-        first,
-        pair.tree1,
-        pair.order,
-        other,
-        others,
-        Body::C,
-    )?;
-    let number = settled.number;
-    Ok(Compared {
-        size: settled.size,
-        count: others.count,
-        missing: lacked_label(&number, &claimed, pair.order.count, places),
-        clash: clash_in(pair, &claimed, others),
-    })
-}
+impl<'a> Query<'a> {
+    // The further list beside the largest set, which the settled list has.
+    fn beside(&self, settled: &Settled, list: &Listed, other: &Listed) -> Result<Compared, Denied>
+        requires { OwnPair self.now.edition self.now.first.now self.now.pair.now
+            × OwnLabels self.now.edition other.now.text.now other.now.places }
+        ensures { (b : OwnPair self.now.edition self.now.first.now self.now.pair.now)
+            (l : OwnLabels self.now.edition list.now.text.now list.now.places)
+            (k : OwnLabels self.now.edition other.now.text.now other.now.places) → AgreedOn b l settled.now
+            → result ≡ compared_of
+            (compare_other self.now.edition b.s l.xs k.xs (length (chosen_of self.now.edition b.s b.t settled.now.chosen))
+            (answer_to self.now.edition (trees_in b) k.xs)) }
+    {
+        let claimed = self.marks(other, Body::C)?;
+        let count = self.pair.order.count;
+        Ok(Compared {
+            size: settled.size,
+            count: other.places.count,
+            missing: lacked_label(&settled.number, &claimed, count, list.places),
+            clash: clash_in(self.pair, &claimed, other.places),
+        })
+    }
 
-// The comparison over two trees and two lists that were read.
-pub(crate) fn compare_lists(
-    edition: Edition,
-    first: &[u8],
-    pair: &Pair,
-    list: &[u8],
-    places: LabelPlaces,
-    other: &[u8],
-    others: LabelPlaces,
-) -> Result<Compared, Denied>
-    requires { OwnPair edition first.now pair.now × OwnLabels edition list.now places
-        × OwnLabels edition other.now others }
-    ensures { (b : OwnPair edition first.now pair.now)
-        (l : OwnLabels edition list.now places) (k : OwnLabels edition other.now others)
-        → result ≡ compared_of (compare_lists edition (trees_in b) l.xs k.xs) }
-{
-    let settled = settle(edition, first, pair, list, places)?;
-    beside(edition, first, pair, settled, places, other, others)
+    // The comparison of two lists.
+    pub(crate) fn compare(&self, list: &Listed, other: &Listed) -> Result<Compared, Denied>
+        requires { OwnPair self.now.edition self.now.first.now self.now.pair.now
+            × OwnLabels self.now.edition list.now.text.now list.now.places
+            × OwnLabels self.now.edition other.now.text.now other.now.places }
+        ensures { (b : OwnPair self.now.edition self.now.first.now self.now.pair.now)
+            (l : OwnLabels self.now.edition list.now.text.now list.now.places)
+            (k : OwnLabels self.now.edition other.now.text.now other.now.places)
+            → result ≡ compared_of (compare_lists self.now.edition (trees_in b) l.xs k.xs) }
+    {
+        let settled = self.settle(list)?;
+        self.beside(&settled, list, other)
+    }
 }

@@ -22,7 +22,7 @@ ghost use Rattle.mast.specs.PiecesWith.{PiecesWith, without_pieces};
 ghost use Rattle.mast.specs.Settled.{OwnPair};
 ghost use Rattle.mast.specs.SetByRank.{InRange, places_from, Stored, Flagged, ByRank};
 
-use crate::settle::settle;
+use crate::query::{Listed, Query};
 use crate::{Denied, Divided, Found};
 use division::{PiecePlaces, divide, no_pieces};
 use lists::LabelPlaces;
@@ -149,44 +149,45 @@ fn pieces_if(asked: bool, pair: &Pair, number: &[u8; RANKS], places: LabelPlaces
     divide(pair.tree1, pair.tree2, pair.order, number, places)
 }
 
-// The answer to two trees and a required list that were read, with the pieces if they are asked for.
-pub(crate) fn answer_list(
-    edition: Edition,
-    first: &[u8],
-    pair: &Pair,
-    list: &[u8],
-    places: LabelPlaces,
-    asked: bool,
-    out: &mut [u8],
-) -> Result<Divided, Denied>
-    requires { OwnPair edition first.now pair.now × OwnLabels edition list.now places }
-    ensures answer { (b : OwnPair edition first.now pair.now)
-        (l : OwnLabels edition list.now places)
-        → without_pieces result ≡ largest_of (solve_list edition (length out.old) (trees_in b) l.xs) }
-    ensures output { (b : OwnPair edition first.now pair.now)
-        (l : OwnLabels edition list.now places)
-        → out.new ≡ output_of (solve_list edition (length out.old) (trees_in b) l.xs) out.old }
-    ensures pieces { asked ≡ true → (b : OwnPair edition first.now pair.now)
-        (l : OwnLabels edition list.now places)
-        → PiecesWith (solve_list edition (length out.old) (trees_in b) l.xs) result }
-{
-    let settled = settle(edition, first, pair, list, places)?;
-    let order = &pair.order;
-    let chosen = &settled.chosen;
-    let found = solution(
-        edition,
-        pair.tree1,
-        first,
-        &order.first,
-        order.count,
-        chosen,
-        out,
-    )?;
-    let set = found.set;
-    Ok(Divided {
-        size: found.size,
-        length: found.length,
-        set,
-        pieces: pieces_if(asked, pair, &settled.number, places),
-    })
+impl<'a> Query<'a> {
+    // The answer to a required list, with the pieces if they are asked for.
+    pub(crate) fn answer(
+        &self,
+        list: &Listed,
+        asked: bool,
+        out: &mut [u8],
+    ) -> Result<Divided, Denied>
+        requires { OwnPair self.now.edition self.now.first.now self.now.pair.now
+            × OwnLabels self.now.edition list.now.text.now list.now.places }
+        ensures answer { (b : OwnPair self.now.edition self.now.first.now self.now.pair.now)
+            (l : OwnLabels self.now.edition list.now.text.now list.now.places)
+            → without_pieces result ≡ largest_of (solve_list self.now.edition (length out.old) (trees_in b) l.xs) }
+        ensures output { (b : OwnPair self.now.edition self.now.first.now self.now.pair.now)
+            (l : OwnLabels self.now.edition list.now.text.now list.now.places)
+            → out.new ≡ output_of (solve_list self.now.edition (length out.old) (trees_in b) l.xs) out.old }
+        ensures pieces { asked ≡ true → (b : OwnPair self.now.edition self.now.first.now self.now.pair.now)
+            (l : OwnLabels self.now.edition list.now.text.now list.now.places)
+            → PiecesWith (solve_list self.now.edition (length out.old) (trees_in b) l.xs) result }
+    {
+        let settled = self.settle(list)?;
+        let pair = self.pair;
+        let order = &pair.order;
+        let chosen = &settled.chosen;
+        let found = solution(
+            self.edition,
+            pair.tree1,
+            self.first,
+            &order.first,
+            order.count,
+            chosen,
+            out,
+        )?;
+        let set = found.set;
+        Ok(Divided {
+            size: found.size,
+            length: found.length,
+            set,
+            pieces: pieces_if(asked, pair, &settled.number, list.places),
+        })
+    }
 }

@@ -10,8 +10,7 @@ ghost use Rattle.mast.specs.Largest.{solve, largest_of, output_of};
 ghost use Rattle.mast.specs.PiecesWith.{PiecesWith, without_pieces};
 ghost use Rattle.mast.specs.Compare.{compare, compared_of};
 
-use crate::beside::compare_lists;
-use crate::finish::answer_list;
+use crate::query::{Listed, Query};
 use division::PiecePlaces;
 use lists::LabelPlaces;
 use pairs::{Options, read_pair};
@@ -21,6 +20,7 @@ use trees::{Body, Refusal};
 mod beside;
 mod clash;
 mod finish;
+mod query;
 mod settle;
 
 // A label that a refusal names: its place in its list, and its place and size in the first tree's text.
@@ -104,7 +104,16 @@ pub fn largest_in_pieces(
     let edition = options.edition;
     let pair = read_pair(options, first, second)?;
     let places = read_labels(edition, required, Body::K)?;
-    answer_list(edition, first, &pair, required, places, asked, out)
+    let query = Query {
+        edition,
+        first,
+        pair: &pair,
+    };
+    let list = Listed {
+        text: required,
+        places,
+    };
+    query.answer(&list, asked, out)
 }
 
 // The largest set of common leaves that contains the required ones and on which the trees agree, the first in label order among equals.
@@ -150,5 +159,18 @@ pub fn compare(
     let pair = read_pair(options, first, second)?;
     let listed = read_labels(edition, required, Body::K)?;
     let further = read_labels(edition, other, Body::C)?;
-    compare_lists(edition, first, &pair, required, listed, other, further)
+    let query = Query {
+        edition,
+        first,
+        pair: &pair,
+    };
+    let list = Listed {
+        text: required,
+        places: listed,
+    };
+    let claim = Listed {
+        text: other,
+        places: further,
+    };
+    query.compare(&list, &claim)
 }

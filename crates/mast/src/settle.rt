@@ -8,12 +8,13 @@ ghost use Rattle.trees.specs.Tree.{Tree};
 ghost use Rattle.lists.specs.ReadList.{folded_list};
 ghost use Rattle.queries.specs.Query.{disagreement};
 ghost use Rattle.queries.specs.ListRead.{OwnLabels};
-ghost use Rattle.queries.specs.RankedList.{AskedOf};
+ghost use Rattle.queries.specs.RankedList.{AskedOf, MarksAre};
 ghost use Rattle.mast.specs.RankedQuery.{SomeAsked};
 ghost use Rattle.mast.specs.Settled.{OwnPair, ChosenIs, SettledIs};
 
 use crate::Denied;
 use crate::clash::clash_in;
+use crate::query::{Listed, Query};
 use lists::LabelPlaces;
 use pairs::{Pair, rank_leaves};
 use queries::mark_list;
@@ -73,32 +74,40 @@ pub(crate) struct Settled {
     pub chosen: [bool; LEAF_LIMIT],
 }
 
-// Settles the required list.
-pub(crate) fn settle(
-    edition: Edition,
-    first: &[u8],
-    pair: &Pair,
-    list: &[u8],
-    places: LabelPlaces,
-) -> Result<Settled, Denied>
-    requires { OwnPair edition first.now pair.now × OwnLabels edition list.now places }
-    ensures { (b : OwnPair edition first.now pair.now) (l : OwnLabels edition list.now places)
-        → SettledIs b l result }
-{
-    let number = mark_list(
-        edition,
-        first,
-        pair.tree1,
-        pair.order,
-        list,
-        places,
-        Body::K,
-    )?;
-    let mut chosen = [false; LEAF_LIMIT];
-    let size = choose(pair, &number, places, &mut chosen)?;
-    Ok(Settled {
-        size,
-        number,
-        chosen,
-    })
+impl<'a> Query<'a> {
+    // The marks of a list by rank; or number 6 or 7 for the first label that is not common.
+    pub(crate) fn marks(&self, list: &Listed, body: Body) -> Result<[u8; RANKS], Refusal>
+        ensures { (b : OwnPair self.now.edition self.now.first.now self.now.pair.now)
+            (l : OwnLabels self.now.edition list.now.text.now list.now.places)
+            → MarksAre self.now.edition b.s b.t l.xs body self.now.pair.now.tree1 self.now.pair.now.tree2 self.now.pair.now.order
+            list.now.places result }
+    {
+        let pair = self.pair;
+        mark_list(
+            self.edition,
+            self.first,
+            pair.tree1,
+            pair.order,
+            list.text,
+            list.places,
+            body,
+        )
+    }
+
+    // Settles the required list.
+    pub(crate) fn settle(&self, list: &Listed) -> Result<Settled, Denied>
+        requires { OwnPair self.now.edition self.now.first.now self.now.pair.now
+            × OwnLabels self.now.edition list.now.text.now list.now.places }
+        ensures { (b : OwnPair self.now.edition self.now.first.now self.now.pair.now)
+            (l : OwnLabels self.now.edition list.now.text.now list.now.places) → SettledIs b l result }
+    {
+        let number = self.marks(list, Body::K)?;
+        let mut chosen = [false; LEAF_LIMIT];
+        let size = choose(self.pair, &number, list.places, &mut chosen)?;
+        Ok(Settled {
+            size,
+            number,
+            chosen,
+        })
+    }
 }

@@ -34,5 +34,5 @@ returns c =
     let p = c.in_ok-pair.ensures in
     let list = c.in_ok-listed.ensures in
     let further = c.in_ok-further.ensures in
-    c.compare_lists.ensures p.0 list.0 further.0
+    c.compare.ensures p.0 list.0 further.0
     ∙ ap compared_of (sym (compare_listed q a.other.now _ p.1 _ list.1 _ further.1))

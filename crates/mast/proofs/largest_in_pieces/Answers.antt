@@ -41,8 +41,8 @@ returns c =
     let list = c.in_ok-places.ensures in
     let w = solve_listed q (length a.out.now) _ p.1 _ list.1 in
     record {
-      answer = c.answer_list.ensures.answer p.0 list.0 ∙ ap largest_of (sym w);
-      output = c.answer_list.ensures.output p.0 list.0 ∙ ap (λ (x : Outcome Solution). output_of x a.out.now) (sym w);
+      answer = c.answer.ensures.answer p.0 list.0 ∙ ap largest_of (sym w);
+      output = c.answer.ensures.output p.0 list.0 ∙ ap (λ (x : Outcome Solution). output_of x a.out.now) (sym w);
       pieces = λ on.
-          subst (λ (x : Outcome Solution). PiecesWith x c.answer_list.result) (sym w) (c.answer_list.ensures.pieces on p.0 list.0);
+          subst (λ (x : Outcome Solution). PiecesWith x c.answer.result) (sym w) (c.answer.ensures.pieces on p.0 list.0);
     }
