@@ -28,7 +28,7 @@ use division::{PiecePlaces, divide, no_pieces};
 use lists::LabelPlaces;
 use pairs::Pair;
 use table::RANKS;
-use trees::{Body, Edition, LEAF_LIMIT, NODE_LIMIT, Reason, Refusal, TreeArrays};
+use trees::{Body, Edition, LEAF_LIMIT, NODE_LIMIT, Reason, Refusal};
 
 // Stores a label's place behind n others if the label is chosen, and says how many there are then.
 fn add_place(
@@ -101,42 +101,6 @@ fn kept_leaves(
     kept
 }
 
-// The answer with the set of the chosen labels, whose tree's text goes into `out`; or number 9, and `out` keeps every byte.
-fn solution(
-    edition: Edition,
-    tree: TreeArrays,
-    text: &[u8],
-    order1: &[u8; LEAF_LIMIT],
-    m: usize,
-    chosen: &[bool; LEAF_LIMIT],
-    out: &mut [u8],
-) -> Result<Found, Denied>
-    requires { (m ≤ 80) × InRange order1.now m }
-    ensures answer { (s t : Tree) (xs : List Token) (C : List Label) → ByRank edition s C tree text.now order1.now m
-        → result ≡ largest_of (fitted (length out.old) (solution edition s t xs (chosen_from chosen.now 0 C))) }
-    ensures output { (s t : Tree) (xs : List Token) (C : List Label) → ByRank edition s C tree text.now order1.now m
-        → out.new
-        ≡ output_of (fitted (length out.old) (solution edition s t xs (chosen_from chosen.now 0 C))) out.old }
-{
-    let kept = kept_leaves(order1, m, chosen);
-    let written = writer::write_tree(edition, restriction::restrict_tree(tree, kept), text, out);
-    let Ok(length) = written else {
-        return Err(Denied::Refused(Refusal {
-            reason: Reason::TooShort,
-            body: Body::O,
-            place: 0,
-        }));
-    };
-    let start1 = tree.start;
-    let size1 = tree.size;
-    let set = set_places(order1, m, chosen, &start1, &size1);
-    Ok(Found {
-        size: set.count,
-        length,
-        set,
-    })
-}
-
 // The pieces, if they are asked for.
 fn pieces_if(asked: bool, pair: &Pair, number: &[u8; RANKS], places: LabelPlaces) -> PiecePlaces
     ensures { asked ≡ true → (e : Edition) (s t : Tree) (xs : List Token) (X : List Label)
@@ -150,6 +114,41 @@ fn pieces_if(asked: bool, pair: &Pair, number: &[u8; RANKS], places: LabelPlaces
 }
 
 impl<'a> Query<'a> {
+    // The answer with the set of the chosen labels, whose tree's text goes into `out`; or number 9, and `out` keeps every byte.
+    fn solution(&self, chosen: &[bool; LEAF_LIMIT], out: &mut [u8]) -> Result<Found, Denied>
+        requires { (self.now.pair.now.order.count ≤ 80) × InRange self.now.pair.now.order.first self.now.pair.now.order.count }
+        ensures answer { (s t : Tree) (xs : List Token) (C : List Label)
+            → ByRank self.now.edition s C self.now.pair.now.tree1 self.now.first.now self.now.pair.now.order.first
+            self.now.pair.now.order.count
+            → result
+            ≡ largest_of (fitted (length out.old) (solution self.now.edition s t xs (chosen_from chosen.now 0 C))) }
+        ensures output { (s t : Tree) (xs : List Token) (C : List Label)
+            → ByRank self.now.edition s C self.now.pair.now.tree1 self.now.first.now self.now.pair.now.order.first
+            self.now.pair.now.order.count
+            → out.new
+            ≡ output_of (fitted (length out.old) (solution self.now.edition s t xs (chosen_from chosen.now 0 C))) out.old }
+    {
+        let tree = &self.pair.tree1;
+        let order1 = &self.pair.order.first;
+        let m = self.pair.order.count;
+        let kept = kept_leaves(order1, m, chosen);
+        let restricted = restriction::restrict_tree(self.pair.tree1, kept);
+        let written = writer::write_tree(self.edition, restricted, self.first, out);
+        let Ok(length) = written else {
+            return Err(Denied::Refused(Refusal {
+                reason: Reason::TooShort,
+                body: Body::O,
+                place: 0,
+            }));
+        };
+        let set = set_places(order1, m, chosen, &tree.start, &tree.size);
+        Ok(Found {
+            size: set.count,
+            length,
+            set,
+        })
+    }
+
     // The answer to a required list, with the pieces if they are asked for.
     pub(crate) fn answer(
         &self,
@@ -170,24 +169,13 @@ impl<'a> Query<'a> {
             → PiecesWith (solve_list self.now.edition (length out.old) (trees_in b) l.xs) result }
     {
         let settled = self.settle(list)?;
-        let pair = self.pair;
-        let order = &pair.order;
-        let chosen = &settled.chosen;
-        let found = solution(
-            self.edition,
-            pair.tree1,
-            self.first,
-            &order.first,
-            order.count,
-            chosen,
-            out,
-        )?;
+        let found = self.solution(&settled.chosen, out)?;
         let set = found.set;
         Ok(Divided {
             size: found.size,
             length: found.length,
             set,
-            pieces: pieces_if(asked, pair, &settled.number, list.places),
+            pieces: pieces_if(asked, self.pair, &settled.number, list.places),
         })
     }
 }
