@@ -61,8 +61,8 @@ fn row(refusal: Refusal, first: usize, second: usize, third: usize) -> AgreeResu
 {
     let reason = refusal.reason;
     let body = refusal.body;
-    let number = trees::number(reason) as usize;
-    let letter = trees::letter(body) as usize;
+    let number = usize::from(u8::from(reason));
+    let letter = usize::from(u8::from(body));
     AgreeResult {
         number,
         letter,

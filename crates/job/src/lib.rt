@@ -54,13 +54,14 @@ fn job_refusal(reason: Reason) -> Denied
 }
 
 // Where the list of a refusal that names labels begins: that of the claim for the letter C, otherwise the required one.
+#[tactic(auto, unfolding(crate::specs::Answered::base_of))]
 fn base_of(at: Begin, body: Body) -> usize
     ensures { result ≡ base_of at body }
 {
-    if trees::letter(body) == b'C' {
-        return at.claim;
+    match body {
+        Body::C => at.claim,
+        Body::S | Body::T | Body::K | Body::J | Body::O => at.list,
     }
-    at.list
 }
 
 // A label by places in a job: its list begins at `base`, the first tree at `origin`.
@@ -229,8 +230,9 @@ pub fn print_job(job: &[u8], out: &mut [u8]) -> Result<usize, Refusal>
         Ok(n) => Ok(n),
         Err(Denied::Naming(refusal, named)) => lines::naming_line(job, refusal, named, out),
         Err(Denied::Refused(refusal)) => {
+            // by its number, as the definition `printed` tells it from the rest
             let reason = refusal.reason;
-            if trees::number(reason) == 9 {
+            if u8::from(reason) == 9 {
                 return Err(refusal);
             }
             lines::refusal_line(refusal, out)

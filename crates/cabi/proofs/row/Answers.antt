@@ -6,4 +6,4 @@ use Rattle.cabi.proofs.row.Goals as goal
 pub returns : goal.returns
 unfolding naming_with
 returns c =
-    rw (c.number-number.ensures, c.letter-letter.ensures) refl
+    rw (c.from-number.ensures, c.from.ensures, c.from-letter.ensures, c.from-2.ensures) refl

@@ -7,16 +7,16 @@ use Rattle.job.proofs.ClashLaws.{naming_line_lem}
 use Rattle.job.proofs.PrintLaws.{printed_lines, output_named, printed_nine, printed_refusal}
 use Rattle.job.proofs.print_job.Goals as goal
 
-pub returns-then-number-eq9-clause-answer : goal.returns-then-number-eq9-clause-answer
-returns-then-number-eq9-clause-answer c =
+pub returns-then-from-eq9-clause-answer : goal.returns-then-from-eq9-clause-answer
+returns-then-from-eq9-clause-answer c =
     let a = c.answer_job in let e = sym c.in-Err-Refused.ensures.answer ∙ ap Err c.in-Err-Refused.field-0-is in
-    let p = printed_nine c.args.job.now c.args.out.now _ e (sym c.number.ensures ∙ c.if-number-eq9.true) in
+    let p = printed_nine c.args.job.now c.args.out.now _ e (sym c.from.ensures ∙ c.if-from-eq9.true) in
     p.0
 
-pub returns-then-number-eq9-clause-output : goal.returns-then-number-eq9-clause-output
-returns-then-number-eq9-clause-output c =
+pub returns-then-from-eq9-clause-output : goal.returns-then-from-eq9-clause-output
+returns-then-from-eq9-clause-output c =
     let a = c.answer_job in let e = sym c.in-Err-Refused.ensures.answer ∙ ap Err c.in-Err-Refused.field-0-is in
-    let p = printed_nine c.args.job.now c.args.out.now _ e (sym c.number.ensures ∙ c.if-number-eq9.true) in
+    let p = printed_nine c.args.job.now c.args.out.now _ e (sym c.from.ensures ∙ c.if-from-eq9.true) in
     a.ensures.output ∙ p.1
 
 pub returns-in-Ok-clause-answer : goal.returns-in-Ok-clause-answer
@@ -43,18 +43,18 @@ returns-in-Err-Naming-clause-output c =
     let same = a.ensures.output ∙ output_named c.args.job.now c.args.out.now _ e tt in
     line.ensures.output ∙ ap₂ line_output text same
 
-pub returns-else-number-eq9-clause-answer : goal.returns-else-number-eq9-clause-answer
-returns-else-number-eq9-clause-answer c =
+pub returns-else-from-eq9-clause-answer : goal.returns-else-from-eq9-clause-answer
+returns-else-from-eq9-clause-answer c =
     let a = c.answer_job in let line = c.refusal_line in let e = sym c.in-Err-Refused.ensures.answer ∙ ap Err c.in-Err-Refused.field-0-is in
-    let p = printed_refusal c.args.job.now c.args.out.now _ e (λ k. c.if-number-eq9.false
-    (c.number.ensures ∙ k)) in
+    let p = printed_refusal c.args.job.now c.args.out.now _ e (λ k. c.if-from-eq9.false
+    (c.from.ensures ∙ k)) in
     let same = a.ensures.output ∙ p.1 in
     line.ensures.answer ∙ ap₂ line_answer p.0 (ap length same)
 
-pub returns-else-number-eq9-clause-output : goal.returns-else-number-eq9-clause-output
-returns-else-number-eq9-clause-output c =
+pub returns-else-from-eq9-clause-output : goal.returns-else-from-eq9-clause-output
+returns-else-from-eq9-clause-output c =
     let a = c.answer_job in let line = c.refusal_line in let e = sym c.in-Err-Refused.ensures.answer ∙ ap Err c.in-Err-Refused.field-0-is in
-    let p = printed_refusal c.args.job.now c.args.out.now _ e (λ k. c.if-number-eq9.false
-    (c.number.ensures ∙ k)) in
+    let p = printed_refusal c.args.job.now c.args.out.now _ e (λ k. c.if-from-eq9.false
+    (c.from.ensures ∙ k)) in
     let same = a.ensures.output ∙ p.1 in
     line.ensures.output ∙ ap₂ line_output p.0 same
