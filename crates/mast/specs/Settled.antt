@@ -15,8 +15,9 @@ use Rattle.mast.specs.declared.Named.{Named}
 use Rattle.mast.specs.declared.Denied.{Denied}
 use Rattle.mast.specs.declared.Denied.TheVariants.{Naming, Refused}
 use Rattle.mast.specs.declared.settle.Settled.{Settled}
+use Rattle.mast.specs.declared.query.Listed.{Listed}
+use Rattle.mast.specs.declared.query.Query.{Query}
 use Rattle.pairs.specs.declared.CommonOrder.{CommonOrder}
-use Rattle.pairs.specs.declared.Pair.{Pair}
 use Rattle.pairs.specs.Outcome.{Outcome, Trio, refused, naming, found}
 use Rattle.pairs.specs.PairRead.{OwnTrees, trees_in}
 use Rattle.mast.specs.NamedLabels.{named_of}
@@ -24,9 +25,13 @@ use Rattle.queries.specs.Query.{required_set}
 use Rattle.queries.specs.ListRead.{OwnLabels}
 use Rattle.queries.specs.RankedList.{AskedOf}
 
--- two trees that were read, by their pair; `first` is the first tree's text
-abbrev pub OwnPair : Edition → (first : List ℕ) → Pair → Type 0
-OwnPair e first p = OwnTrees e first p.tree1 p.tree2 p.order
+-- two trees that were read, by their pair
+abbrev pub OwnPair : Query → Type 0
+OwnPair q = OwnTrees q.edition q.first.now q.pair.now.tree1 q.pair.now.tree2 q.pair.now.order
+
+-- a list that was read, as the query's edition reads it
+abbrev pub OwnListed : Query → Listed → Type 0
+OwnListed q list = OwnLabels q.edition list.text.now list.places
 
 -- the labels chosen among the common ones
 abbrev pub chosen_of : Edition → Tree → Tree → List Bool → List Label

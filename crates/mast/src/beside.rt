@@ -5,9 +5,8 @@ ghost use Rattle.std.specs.Prelude.{◌≡◌, ◌≤◌, length};
 ghost use Rattle.queries.specs.Query.{answer_to};
 ghost use Rattle.mast.specs.Compare.{compare_lists, compare_other, compared_of};
 ghost use Rattle.pairs.specs.PairRead.{trees_in};
-ghost use Rattle.queries.specs.ListRead.{OwnLabels};
 ghost use Rattle.mast.specs.ListMarks.{nearer_of, least_missing, below};
-ghost use Rattle.mast.specs.Settled.{OwnPair, lacked_at, chosen_of, AgreedOn};
+ghost use Rattle.mast.specs.Settled.{OwnPair, OwnListed, lacked_at, chosen_of, AgreedOn};
 
 use crate::clash::clash_in;
 use crate::query::{Listed, Query};
@@ -66,11 +65,11 @@ fn lacked_label(
 impl<'a> Query<'a> {
     // The further list beside the largest set, which the settled list has.
     fn beside(&self, settled: &Settled, list: &Listed, other: &Listed) -> Result<Compared, Denied>
-        requires { OwnPair self.now.edition self.now.first.now self.now.pair.now
-            × OwnLabels self.now.edition other.now.text.now other.now.places }
-        ensures { (b : OwnPair self.now.edition self.now.first.now self.now.pair.now)
-            (l : OwnLabels self.now.edition list.now.text.now list.now.places)
-            (k : OwnLabels self.now.edition other.now.text.now other.now.places) → AgreedOn b l settled.now
+        requires { OwnPair self.now
+            × OwnListed self.now other.now }
+        ensures { (b : OwnPair self.now)
+            (l : OwnListed self.now list.now)
+            (k : OwnListed self.now other.now) → AgreedOn b l settled.now
             → result ≡ compared_of
             (compare_other self.now.edition b.s l.xs k.xs (length (chosen_of self.now.edition b.s b.t settled.now.chosen))
             (answer_to self.now.edition (trees_in b) k.xs)) }
@@ -87,12 +86,12 @@ impl<'a> Query<'a> {
 
     // The comparison of two lists.
     pub(crate) fn compare(&self, list: &Listed, other: &Listed) -> Result<Compared, Denied>
-        requires { OwnPair self.now.edition self.now.first.now self.now.pair.now
-            × OwnLabels self.now.edition list.now.text.now list.now.places
-            × OwnLabels self.now.edition other.now.text.now other.now.places }
-        ensures { (b : OwnPair self.now.edition self.now.first.now self.now.pair.now)
-            (l : OwnLabels self.now.edition list.now.text.now list.now.places)
-            (k : OwnLabels self.now.edition other.now.text.now other.now.places)
+        requires { OwnPair self.now
+            × OwnListed self.now list.now
+            × OwnListed self.now other.now }
+        ensures { (b : OwnPair self.now)
+            (l : OwnListed self.now list.now)
+            (k : OwnListed self.now other.now)
             → result ≡ compared_of (compare_lists self.now.edition (trees_in b) l.xs k.xs) }
     {
         let settled = self.settle(list)?;

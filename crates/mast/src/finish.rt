@@ -14,12 +14,11 @@ ghost use Rattle.lists.specs.ReadList.{folded_list};
 ghost use Rattle.mast.specs.Largest.{solution, fitted, solve_list, set_places, largest_of, output_of};
 ghost use Rattle.pairs.specs.Outcome.{found};
 ghost use Rattle.pairs.specs.PairRead.{trees_in};
-ghost use Rattle.queries.specs.ListRead.{OwnLabels};
 ghost use Rattle.queries.specs.Query.{required_set};
 ghost use Rattle.queries.specs.RankedList.{AskedOf};
 ghost use Rattle.division.specs.PiecesAt.{PiecesAt};
 ghost use Rattle.mast.specs.PiecesWith.{PiecesWith, without_pieces};
-ghost use Rattle.mast.specs.Settled.{OwnPair};
+ghost use Rattle.mast.specs.Settled.{OwnPair, OwnListed};
 ghost use Rattle.mast.specs.SetByRank.{InRange, places_from, Stored, Flagged, ByRank};
 
 use crate::query::{Listed, Query};
@@ -156,16 +155,16 @@ impl<'a> Query<'a> {
         asked: bool,
         out: &mut [u8],
     ) -> Result<Divided, Denied>
-        requires { OwnPair self.now.edition self.now.first.now self.now.pair.now
-            × OwnLabels self.now.edition list.now.text.now list.now.places }
-        ensures answer { (b : OwnPair self.now.edition self.now.first.now self.now.pair.now)
-            (l : OwnLabels self.now.edition list.now.text.now list.now.places)
+        requires { OwnPair self.now
+            × OwnListed self.now list.now }
+        ensures answer { (b : OwnPair self.now)
+            (l : OwnListed self.now list.now)
             → without_pieces result ≡ largest_of (solve_list self.now.edition (length out.old) (trees_in b) l.xs) }
-        ensures output { (b : OwnPair self.now.edition self.now.first.now self.now.pair.now)
-            (l : OwnLabels self.now.edition list.now.text.now list.now.places)
+        ensures output { (b : OwnPair self.now)
+            (l : OwnListed self.now list.now)
             → out.new ≡ output_of (solve_list self.now.edition (length out.old) (trees_in b) l.xs) out.old }
-        ensures pieces { asked ≡ true → (b : OwnPair self.now.edition self.now.first.now self.now.pair.now)
-            (l : OwnLabels self.now.edition list.now.text.now list.now.places)
+        ensures pieces { asked ≡ true → (b : OwnPair self.now)
+            (l : OwnListed self.now list.now)
             → PiecesWith (solve_list self.now.edition (length out.old) (trees_in b) l.xs) result }
     {
         let settled = self.settle(list)?;

@@ -7,10 +7,9 @@ ghost use Rattle.trees.specs.Token.{Token};
 ghost use Rattle.trees.specs.Tree.{Tree};
 ghost use Rattle.lists.specs.ReadList.{folded_list};
 ghost use Rattle.queries.specs.Query.{disagreement};
-ghost use Rattle.queries.specs.ListRead.{OwnLabels};
 ghost use Rattle.queries.specs.RankedList.{AskedOf, MarksAre};
 ghost use Rattle.mast.specs.RankedQuery.{SomeAsked};
-ghost use Rattle.mast.specs.Settled.{OwnPair, ChosenIs, SettledIs};
+ghost use Rattle.mast.specs.Settled.{OwnPair, OwnListed, ChosenIs, SettledIs};
 
 use crate::Denied;
 use crate::clash::clash_in;
@@ -77,8 +76,8 @@ pub(crate) struct Settled {
 impl<'a> Query<'a> {
     // The marks of a list by rank; or number 6 or 7 for the first label that is not common.
     pub(crate) fn marks(&self, list: &Listed, body: Body) -> Result<[u8; RANKS], Refusal>
-        ensures { (b : OwnPair self.now.edition self.now.first.now self.now.pair.now)
-            (l : OwnLabels self.now.edition list.now.text.now list.now.places)
+        ensures { (b : OwnPair self.now)
+            (l : OwnListed self.now list.now)
             → MarksAre self.now.edition b.s b.t l.xs body self.now.pair.now.tree1 self.now.pair.now.tree2 self.now.pair.now.order
             list.now.places result }
     {
@@ -96,10 +95,10 @@ impl<'a> Query<'a> {
 
     // Settles the required list.
     pub(crate) fn settle(&self, list: &Listed) -> Result<Settled, Denied>
-        requires { OwnPair self.now.edition self.now.first.now self.now.pair.now
-            × OwnLabels self.now.edition list.now.text.now list.now.places }
-        ensures { (b : OwnPair self.now.edition self.now.first.now self.now.pair.now)
-            (l : OwnLabels self.now.edition list.now.text.now list.now.places) → SettledIs b l result }
+        requires { OwnPair self.now
+            × OwnListed self.now list.now }
+        ensures { (b : OwnPair self.now)
+            (l : OwnListed self.now list.now) → SettledIs b l result }
     {
         let number = self.marks(list, Body::K)?;
         let mut chosen = [false; LEAF_LIMIT];
