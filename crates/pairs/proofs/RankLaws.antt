@@ -8,11 +8,15 @@ use mathlib.Core.List.{List, [], ◌∷◌}
 use Rattle.std.proofs.Common.{Option, Some, None, is_none, is_some, not}
 use Rattle.std.proofs.lemmas.Option.{none-some}
 use Rattle.std.specs.List.{CopiedTo, SameBelow}
+use Rattle.std.specs.List.Sorted.{IsPartitionedBy, IsPartitionPoint}
+use Rattle.std.proofs.lemmas.Bool.{not-true, not-false}
+use Rattle.std.proofs.lemmas.Grind.{get_or_default_zero}
+use Rattle.std.proofs.lemmas.List.{get_or-take, length-take}
 use native.Mathlib.Omega.{arith}
 use native.Mathlib.Numerals.{add-one}
 use native.Mathlib.Decide.{dec_lt}
 use lib.Dec.{eqb}
-use lib.ListN.{length, get_or, set, drop, replicate, length-set, length-replicate, get_or-replicate, drop_of_length-le}
+use lib.ListN.{length, get_or, set, take, drop, replicate, length-set, length-replicate, get_or-replicate, drop_of_length-le}
 use lib.Seq.{drop-cons, get_or-set_same, get_or-set_other}
 use borrow.Author.Tests.{eq-eqb, ne_eqb, eqb-true, eqb-false}
 use Rattle.trees.specs.Label.{Label, label_limit, label_less, is_in, distinct}
@@ -131,36 +135,38 @@ inc_less (x ∷ xs) h i zero l k = absurd (omega arith)
 inc_less (x ∷ xs) h zero (suc j) l k = inc_head x xs h (get_or xs j []) (at_in xs j (omega arith))
 inc_less (x ∷ xs) h (suc i) (suc j) l k = inc_less xs (inc_tail x xs h) i j (omega arith) (omega arith)
 
--- the search for the place by halves: labels before `low` are not greater, those from `high` on are
-pub record Halved (x : Label) (C : List Label) (low high : ℕ) : Type 0 where
-  pub before : (r : ℕ) → r < low → label_less x (get_or C r []) ≡ false
-  pub after : (r : ℕ) → high ≤ r → r < length C → label_less x (get_or C r []) ≡ true
+-- the search for the place of label x among m leaves that stand for the labels in C, each leaf shown as its label
+module _ (x : Label) (C : List Label) (shown : ℕ → Label) (order : List ℕ) (m : ℕ) (count : m ≡ length C) (room : m ≤ length order)
+    (is : (r : ℕ) → r < length C → shown (get_or order r 0) ≡ get_or C r []) where
+  abbrev not_greater : ℕ → Bool
+  not_greater u = not (label_less x (shown u))
 
-pub halved_all : (x : Label) (C : List Label) (m : ℕ) → m ≡ length C → Halved x C 0 m
-halved_all x C m e = record { before = λ r h. absurd (omega arith); after = λ r h l. absurd (omega arith) }
+  shown_at : (r d : ℕ) → r < m → shown (get_or (take m order) r d) ≡ get_or C r []
+  shown_at r d h =
+      ap shown (get_or-take m order r d h ∙ get_or_default_zero order r d (omega arith)) ∙ is r (omega arith)
 
-pub halved_low : (x : Label) (C : List Label) (low high mid : ℕ) → increasing C ≡ true → mid < length C
-    → label_less x (get_or C mid []) ≡ true → Halved x C low high → Halved x C low mid
-halved_low x C low high mid inc h e k = record { before = k.before; after = λ r l b. go r l b (bool_cases (eqb r mid)) }
-  where
-    go : (r : ℕ) → mid ≤ r → r < length C → (eqb r mid ≡ true) ⊎ (eqb r mid ≡ false) → label_less x (get_or C r []) ≡ true
-    go r l b (inl d) = rw (eqb-true r mid d) e
-    go r l b (inr d) = less_trans x (get_or C mid []) (get_or C r []) e (inc_less C inc mid r (omega (arith, eqb-false r mid d)) b)
+  -- what the search asks: no label that is greater comes before one that isn't
+  pub order_parted : increasing C ≡ true → IsPartitionedBy not_greater (take m order)
+  order_parted inc i j d low within passes = go (omega (arith, length-take m order)) (dec_lt i j)
+    where
+      go : j < m → Dec (i < j) → not_greater (get_or (take m order) i d) ≡ true
+      go h (yes l) =
+          let less : label_less x (get_or C j []) ≡ false = ap (label_less x) (sym (shown_at j d h)) ∙ not-true _ passes in
+          rw (shown_at i d (omega arith)) (ap not
+          (refute (label_less x (get_or C i [])) (λ f. clash (less_trans x (get_or C i []) (get_or C j []) f (inc_less C inc i j l (omega arith))) less)))
+      go h (no n) =
+          let same : i ≡ j = omega arith in
+          rw same passes
 
-pub halved_high : (x : Label) (C : List Label) (low high mid : ℕ) → increasing C ≡ true → mid < length C
-    → label_less x (get_or C mid []) ≡ false → Halved x C low high → Halved x C (mid + 1) high
-halved_high x C low high mid inc h e k = record {
-  before =
-      below_next (λ r. label_less x (get_or C r []) ≡ false) mid
-      (λ r less.
-      refute (label_less x (get_or C r []))
-      (λ f. clash (less_trans x (get_or C r []) (get_or C mid []) f (inc_less C inc r mid less h)) e))
-      e;
-  after = k.after;
-}
-
-pub halved_place : (x : Label) (C : List Label) (low high : ℕ) → high ≤ low → low ≤ length C → Halved x C low high → Place x C low
-halved_place x C low high h l k = record { low = l; before = k.before; at = λ b. k.after low h b }
+  -- what it finds
+  pub point_place : (p : ℕ) → p ≤ m → IsPartitionPoint (λ y. not_greater y ≡ true) (λ y. not_greater y ≡ false) (take m order) p → Place x C p
+  point_place p low k = record {
+    low = omega arith;
+    before = λ r l. ap (label_less x) (sym (shown_at r 0 (omega arith))) ∙ not-true _ (k.0 r 0 (omega arith) l);
+    at = λ l.
+        ap (label_less x) (sym (shown_at p 0 (omega arith)))
+        ∙ not-false _ (k.1 p 0 (omega arith) (omega (arith, length-take m order)));
+  }
 
 good_in : (x : Label) (xs : List Label) → is_in x xs ≡ true → good_labels xs ≡ true → good_label x ≡ true
 good_in x [] m g = in_nil x m

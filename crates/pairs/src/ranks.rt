@@ -54,7 +54,7 @@ fn comes_first(a: StoredLabel, b: StoredLabel) -> bool
     trees::compare_stored(a, b).is_lt()
 }
 
-// Where a new label goes among the labels of the first m leaves in `order`, by halves: before the first that is greater.
+// Where a new label goes among the labels of the first m leaves in `order`: before the first that is greater.
 fn place_of(
     edition: Edition,
     text: &[u8],
@@ -69,21 +69,10 @@ fn place_of(
         → OwnTree t edition text.now tree.now
         → increasing C ≡ true → m ≡ length C → Numbered (decoded t) C order.now → Place (stored_bytes label) C result }
 {
-    let mut low: usize = 0;
-    let mut high = m;
-    while low < high {
-        let mid = low + (high - low) / 2;
-        let u = usize::from(order[mid]);
-        if comes_first(
-            label,
-            trees::stored_leaf(edition, text, &tree.start, &tree.size, u),
-        ) {
-            high = mid;
-        } else {
-            low = mid + 1;
-        }
-    }
-    low
+    order[..m].partition_point(|&u| {
+        let other = trees::stored_leaf(edition, text, &tree.start, &tree.size, usize::from(u));
+        !comes_first(label, other)
+    })
 }
 
 // Puts u at place p, the entries from p on one place further.
