@@ -65,10 +65,8 @@ fn lacked_label(
 impl<'a> Query<'a> {
     // The further list beside the largest set, which the settled list has.
     fn beside(&self, settled: &Settled, list: &Listed, other: &Listed) -> Result<Compared, Denied>
-        requires { OwnPair self.now
-            × OwnListed self.now other.now }
-        ensures { (b : OwnPair self.now)
-            (l : OwnListed self.now list.now)
+        requires { OwnPair self.now × OwnListed self.now other.now }
+        ensures { (b : OwnPair self.now) (l : OwnListed self.now list.now)
             (k : OwnListed self.now other.now) → AgreedOn b l settled.now
             → result ≡ compared_of
             (compare_other self.now.edition b.s l.xs k.xs (length (chosen_of self.now.edition b.s b.t settled.now.chosen))
@@ -86,11 +84,9 @@ impl<'a> Query<'a> {
 
     // The comparison of two lists.
     pub(crate) fn compare(&self, list: &Listed, other: &Listed) -> Result<Compared, Denied>
-        requires { OwnPair self.now
-            × OwnListed self.now list.now
+        requires { OwnPair self.now × OwnListed self.now list.now
             × OwnListed self.now other.now }
-        ensures { (b : OwnPair self.now)
-            (l : OwnListed self.now list.now)
+        ensures { (b : OwnPair self.now) (l : OwnListed self.now list.now)
             (k : OwnListed self.now other.now)
             → result ≡ compared_of (compare_lists self.now.edition (trees_in b) l.xs k.xs) }
     {

@@ -155,16 +155,12 @@ impl<'a> Query<'a> {
         asked: bool,
         out: &mut [u8],
     ) -> Result<Divided, Denied>
-        requires { OwnPair self.now
-            × OwnListed self.now list.now }
-        ensures answer { (b : OwnPair self.now)
-            (l : OwnListed self.now list.now)
+        requires { OwnPair self.now × OwnListed self.now list.now }
+        ensures answer { (b : OwnPair self.now) (l : OwnListed self.now list.now)
             → without_pieces result ≡ largest_of (solve_list self.now.edition (length out.old) (trees_in b) l.xs) }
-        ensures output { (b : OwnPair self.now)
-            (l : OwnListed self.now list.now)
+        ensures output { (b : OwnPair self.now) (l : OwnListed self.now list.now)
             → out.new ≡ output_of (solve_list self.now.edition (length out.old) (trees_in b) l.xs) out.old }
-        ensures pieces { asked ≡ true → (b : OwnPair self.now)
-            (l : OwnListed self.now list.now)
+        ensures pieces { asked ≡ true → (b : OwnPair self.now) (l : OwnListed self.now list.now)
             → PiecesWith (solve_list self.now.edition (length out.old) (trees_in b) l.xs) result }
     {
         let settled = self.settle(list)?;

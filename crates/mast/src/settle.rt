@@ -76,8 +76,7 @@ pub(crate) struct Settled {
 impl<'a> Query<'a> {
     // The marks of a list by rank; or number 6 or 7 for the first label that is not common.
     pub(crate) fn marks(&self, list: &Listed, body: Body) -> Result<[u8; RANKS], Refusal>
-        ensures { (b : OwnPair self.now)
-            (l : OwnListed self.now list.now)
+        ensures { (b : OwnPair self.now) (l : OwnListed self.now list.now)
             → MarksAre self.now.edition b.s b.t l.xs body self.now.pair.now.tree1 self.now.pair.now.tree2 self.now.pair.now.order
             list.now.places result }
     {
@@ -95,10 +94,8 @@ impl<'a> Query<'a> {
 
     // Settles the required list.
     pub(crate) fn settle(&self, list: &Listed) -> Result<Settled, Denied>
-        requires { OwnPair self.now
-            × OwnListed self.now list.now }
-        ensures { (b : OwnPair self.now)
-            (l : OwnListed self.now list.now) → SettledIs b l result }
+        requires { OwnPair self.now × OwnListed self.now list.now }
+        ensures { (b : OwnPair self.now) (l : OwnListed self.now list.now) → SettledIs b l result }
     {
         let number = self.marks(list, Body::K)?;
         let mut chosen = [false; LEAF_LIMIT];
