@@ -29,7 +29,7 @@ use Rattle.places.specs.PieceRanks.{PieceRanks, rank_at}
 use Rattle.queries.specs.Query.{answer_to, held_by, required_of, required_set}
 use Rattle.queries.specs.RankedList.{RankedArrays}
 use Rattle.division.specs.declared.PiecePlaces.{PiecePlaces}
-use Rattle.division.specs.PiecesAt.{pieces_for, label_at, PiecesAt}
+use Rattle.division.specs.PiecesAt.{pieces_for, label_at, start_at, size_at, PiecesAt}
 use Rattle.division.specs.PiecesByRank.{leaf_of_rank, AtRanks}
 
 -- the trees agree on a required list for which a set is found
@@ -83,18 +83,18 @@ module _ (e : Edition) (s t : Tree) (xs : List Token) (tree : TreeArrays) (order
         record {
           count_is = there.count_is ∙ ranks.count_is;
           start_is = λ i h.
-              there.starts.each i (at i h)
+              there.entries.starts i (at i h)
               ∙ ap (λ (q : TreeArrays). get_or q.start (leaf_of_rank order (rank_at list i)) 0) one.arrays_is
               ∙ own_start (folded e s) one.valid _ _ (leaf_at i (at i h));
           size_is = λ i h.
-              there.sizes.each i (at i h)
+              there.entries.sizes i (at i h)
               ∙ ap (λ (q : TreeArrays). get_or q.size (leaf_of_rank order (rank_at list i)) 0) one.arrays_is
               ∙ own_size (folded e s) one.valid _ _ (leaf_at i (at i h));
-          head_is = λ i h. there.heads.each i (at i h) ∙ ranks.head_is i (at i h);
+          head_is = λ i h. there.entries.heads i (at i h) ∙ ranks.head_is i (at i h);
         }
 
 -- such a place is that of the label as the first tree spells it
 pub label_spelled : (e : Edition) (s t : Tree) (xs : List Token) (p : PiecePlaces) → PiecesAt e s t xs p → (i : ℕ) → i < p.count
-    → part_of (get_or p.start i 0) (get_or p.size i 0) (text_of s) ≡ spelled_in e s (label_at e s t xs i)
+    → part_of (start_at p i) (size_at p i) (text_of s) ≡ spelled_in e s (label_at e s t xs i)
 unfolding spelled_in
 label_spelled e s t xs p there i h = ap₂ (λ (n k : ℕ). part_of n k (text_of s)) (there.start_is i h) (there.size_is i h)

@@ -1,7 +1,6 @@
 -- What the places of `divide` are, which its contract states by `PiecesAt`, in the order of C-17. Assumes nothing.
 use Prim.Native.Nat.{ℕ, ◌<◌}
 use mathlib.Core.Path.{◌≡◌}
-use mathlib.Core.Bool.{false}
 use mathlib.Core.List.{List}
 use lib.ListN.{get_or}
 use Rattle.trees.specs.declared.Edition.{Edition}
@@ -15,7 +14,7 @@ use Rattle.agreement.specs.Places.{spelled_in}
 use Rattle.pieces.specs.Pieces.{pieces, total}
 use Rattle.pieces.specs.Items.{items_of, no_item}
 use Rattle.division.specs.declared.PiecePlaces.{PiecePlaces}
-use Rattle.division.specs.PiecesAt.{pieces_for, PiecesAt}
+use Rattle.division.specs.PiecesAt.{pieces_for, start_at, size_at, mark_at, PiecesAt}
 use Rattle.division.proofs.PieceLaws
 
 module _ (e : Edition) (s t : Tree) (xs : List Token) (p : PiecePlaces) (there : PiecesAt e s t xs p) where
@@ -26,13 +25,13 @@ module _ (e : Edition) (s t : Tree) (xs : List Token) (p : PiecePlaces) (there :
 
   -- "Labels are printed as the first tree spells them": an entry is the part of the first tree's text that spells the label with that number.
   pub spelling_promise : (i : ℕ) → i < p.count
-      → part_of (get_or p.start i 0) (get_or p.size i 0) (text_of s)
+      → part_of (start_at p i) (size_at p i) (text_of s)
       ≡ spelled_in e s (get_or (items_of (pieces (keyed e s) (keyed e t) (keys_of e xs))) i no_item).label
   unfolding pieces_for
   spelling_promise = PieceLaws.label_spelled e s t xs p there
 
   -- The mark tells where a line with a required label begins.
   pub head_promise : (i : ℕ) → i < p.count
-      → get_or p.head i false ≡ (get_or (items_of (pieces (keyed e s) (keyed e t) (keys_of e xs))) i no_item).head
+      → mark_at p i ≡ (get_or (items_of (pieces (keyed e s) (keyed e t) (keys_of e xs))) i no_item).head
   unfolding pieces_for
   head_promise = there.head_is

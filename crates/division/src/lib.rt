@@ -21,15 +21,27 @@ use places::{ITEMS, PieceList, pieces_of};
 use table::RANKS;
 use trees::{Edition, LEAF_LIMIT, NODE_LIMIT, TreeArrays};
 
-// Where the labels of all `at` lines are in the first tree's text, one after the other: on each line the required label, if there is one, which
-// `head` marks, then the leaves that hang there. The first `count` entries count.
+// Where a label of the `at` lines is in the first tree's text, and whether it is the required label of its line.
+#[derive(Clone, Copy)]
+pub struct PiecePlace {
+    pub start: u16,
+    pub size: u8,
+    pub head: bool,
+}
+
+// The labels of all `at` lines, one after the other: on each line the required label, if there is one, then the leaves that hang there. The
+// first `count` entries count.
 #[derive(Clone, Copy)]
 pub struct PiecePlaces {
     pub count: usize,
-    pub start: [u16; ITEMS],
-    pub size: [u8; ITEMS],
-    pub head: [bool; ITEMS],
+    pub items: [PiecePlace; ITEMS],
 }
+
+const NO_PIECE: PiecePlace = PiecePlace {
+    start: 0,
+    size: 0,
+    head: false,
+};
 
 // The leaf of a rank, in range for any rank.
 fn leaf_of(order1: &[u8; LEAF_LIMIT], rank: u8) -> usize
@@ -49,21 +61,19 @@ fn places_at(
     requires { list.count ≤ 159 }
     ensures { AtRanks list order1.now start1.now size1.now result }
 {
-    let mut start = [0u16; ITEMS];
-    let mut size = [0u8; ITEMS];
-    let mut head = [false; ITEMS];
+    let mut items = [NO_PIECE; ITEMS];
     for i in 0..list.count {
         let item = list.items[i];
         let u = leaf_of(order1, item.rank);
-        start[i] = start1[u];
-        size[i] = size1[u];
-        head[i] = item.head;
+        items[i] = PiecePlace {
+            start: start1[u],
+            size: size1[u],
+            head: item.head,
+        };
     }
     PiecePlaces {
         count: list.count,
-        start,
-        size,
-        head,
+        items,
     }
 }
 
@@ -99,8 +109,6 @@ pub fn no_pieces() -> PiecePlaces
 {
     PiecePlaces {
         count: 0,
-        start: [0u16; ITEMS],
-        size: [0u8; ITEMS],
-        head: [false; ITEMS],
+        items: [NO_PIECE; ITEMS],
     }
 }

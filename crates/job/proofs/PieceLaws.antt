@@ -22,7 +22,7 @@ use Rattle.agreement.proofs.EditionText.{spelled_size}
 use Rattle.agreement.proofs.SetLaws.{in_head}
 use Rattle.agreement.proofs.Tells.{common_few}
 use Rattle.division.specs.declared.PiecePlaces.{PiecePlaces}
-use Rattle.division.specs.PiecesAt.{pieces_for, label_at, PiecesAt}
+use Rattle.division.specs.PiecesAt.{pieces_for, label_at, start_at, size_at, PiecesAt}
 use Rattle.pieces.specs.Pieces.{Piece, listed, pieces}
 use Rattle.pieces.specs.Items.{Item, no_item, items_with, items_of}
 use Rattle.pieces.proofs.ItemLaws.{AllMarked, pieces_marked, items_held, items_count}
@@ -99,12 +99,12 @@ module _ (e : Edition) (s t : Tree) (xs : List Token) (first : List ℕ) (read :
   I = items_of (pieces_for e s t xs)
 
   abbrev shown : ℕ → List LineItem
-  shown n = items_in first p.start p.size p.head n
+  shown n = items_in first p.items n
 
   count_is : p.count ≡ length I
   count_is = at.count_is ∙ sym (items_count (pieces_for e s t xs))
 
-  label_is : (i : ℕ) → i < p.count → label_in first (get_or p.start i 0) (get_or p.size i 0) ≡ name_in e s (label_at e s t xs i)
+  label_is : (i : ℕ) → i < p.count → label_in first (start_at p i) (size_at p i) ≡ name_in e s (label_at e s t xs i)
   unfolding pieces_for
   label_is i h =
       let x : Label = label_at e s t xs i in

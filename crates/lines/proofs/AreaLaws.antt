@@ -6,11 +6,11 @@ use mathlib.Core.List.{List, [], ◌∷◌, ◌++◌, map, append_assoc, append-
 use native.Mathlib.Nat.{add-zero, zero-add}
 use native.Mathlib.Numerals.{add-one}
 use native.Mathlib.Omega.{arith}
-use lib.ListN.{length, get_or, set, take, drop, replicate, length-append, length-take, length-map, length-set, take-append-drop}
+use lib.ListN.{length, get_or, set, take, drop, replicate, length-append, length-take, length-map, length-set}
 use borrow.Rule.Slice.PartMut.{put_mid}
 use Rattle.std.proofs.lemmas.Slice.{put_mid-paste, take-put_mid, drop-put_mid}
 use Rattle.std.proofs.lemmas.List.Edits.{length-paste}
-use lib.Seq.{take_at, take-suc, take-suc-set, drop-set-lt, drop-drop, take-length}
+use lib.Seq.{take_at, take-suc-set, drop-set-lt, drop-drop}
 use borrow.Author.Tests.{le-leb, lt-leb}
 use Rattle.trees.specs.Label.{Label, label_limit}
 use Rattle.trees.specs.Stored.{part_of, stored_of, stored_bytes, shown_of, shown_bytes}

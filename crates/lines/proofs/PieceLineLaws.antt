@@ -8,15 +8,16 @@ use native.Mathlib.Numerals.{add-one}
 use lib.Dec.{eqb}
 use lib.ListN.{length, get_or, length-append}
 use borrow.Author.Tests.{ne_eqb}
-use Rattle.trees.specs.Token.{Token, token_of}
+use Rattle.trees.specs.Token.{Token}
 use Rattle.trees.specs.Words.{bytes_of}
 use Rattle.lists.specs.ReadList.{joined}
 use Rattle.decimals.specs.Decimal.{decimal_of}
 use Rattle.contents.specs.Contents.{line}
 use Rattle.pieces.specs.Pieces.{Piece, total}
 use Rattle.lines.specs.Areas.{Put}
-use Rattle.lines.specs.Lines.{label_in}
-use Rattle.lines.specs.PieceLines.{items_in, pieces_lines, at_line, at_lines, LineItem, Grouped, with_item, grouped, unmarked, pieces_from}
+use Rattle.division.specs.declared.PiecePlace.{PiecePlace}
+use Rattle.division.specs.PiecesAt.{no_piece}
+use Rattle.lines.specs.PieceLines.{item_in, items_in, pieces_lines, at_line, at_lines, LineItem, Grouped, with_item, grouped, unmarked, pieces_from}
 use Rattle.lines.specs.ItemText.{head_text, leaf_text, item_text, run_text, last_head, is_none}
 use Rattle.lines.proofs.AreaLaws.{put_same, put_then, put_as}
 
@@ -175,12 +176,12 @@ item_long first after x = go x.head
 
 -- ---- one item more, by places
 
-module _ (text starts sizes : List ℕ) (heads : List Bool) where
+module _ (text : List ℕ) (items : List PiecePlace) where
   abbrev pub item_at : ℕ → LineItem
-  item_at n = record { token = token_of (label_in text (get_or starts n 0) (get_or sizes n 0)); head = get_or heads n false }
+  item_at n = item_in text (get_or items n no_piece)
 
   abbrev pub items_to : ℕ → List LineItem
-  items_to n = items_in text starts sizes heads n
+  items_to n = items_in text items n
 
   snoc_some : (xs : List LineItem) (x : LineItem) → is_none (xs ++ (x ∷ [])) ≡ false
   snoc_some [] x = refl
@@ -200,7 +201,7 @@ module _ (text starts sizes : List ℕ) (heads : List Bool) where
       ∙ sym (run_snoc true false (items_to n) (item_at n)) ∙ ap (λ (k : ℕ). run_text true false (items_to k)) (sym (add-one n)))
       (put_then p q)
 
-  pub last_next : (n : ℕ) → last_head false (items_to (n + 1)) ≡ get_or heads n false
+  pub last_next : (n : ℕ) → last_head false (items_to (n + 1)) ≡ (get_or items n no_piece).head
   unfolding items_in
   last_next n = ap (λ (k : ℕ). last_head false (items_to k)) (add-one n) ∙ last_snoc false (items_to n) (item_at n)
 

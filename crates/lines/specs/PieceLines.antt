@@ -8,7 +8,9 @@ use Rattle.trees.specs.Words.{bytes_of}
 use Rattle.lists.specs.ReadList.{joined}
 use Rattle.lists.specs.declared.LabelPlaces.{LabelPlaces}
 use Rattle.pieces.specs.Pieces.{Piece, total}
+use Rattle.division.specs.declared.PiecePlace.{PiecePlace}
 use Rattle.division.specs.declared.PiecePlaces.{PiecePlaces}
+use Rattle.division.specs.PiecesAt.{no_piece}
 use Rattle.decimals.specs.Decimal.{decimal_of, digit_room}
 use Rattle.contents.specs.Contents.{line}
 use Rattle.lines.specs.Lines.{label_in, labels_in, record_lines, always_line, item_room, record_room}
@@ -58,13 +60,15 @@ unfoldable pub pieces_from : List LineItem → List Piece
 unfolding unmarked grouped
 pieces_from xs = unmarked (grouped xs).leaves (grouped xs).pieces
 
--- the first items that places, sizes and marks name in a text
-unfoldable pub items_in : List ℕ → List ℕ → List ℕ → List Bool → ℕ → List LineItem
+-- what an entry names in a text, by its place, size and mark
+abbrev pub item_in : List ℕ → PiecePlace → LineItem
+item_in text x = record { token = token_of (label_in text x.start x.size); head = x.head }
+
+-- the items that the first entries name
+unfoldable pub items_in : List ℕ → List PiecePlace → ℕ → List LineItem
 unfolding label_in
-items_in text starts sizes heads zero = []
-items_in text starts sizes heads (suc n) =
-    items_in text starts sizes heads n
-    ++ (record { token = token_of (label_in text (get_or starts n 0) (get_or sizes n 0)); head = get_or heads n false } ∷ [])
+items_in text items zero = []
+items_in text items (suc n) = items_in text items n ++ (item_in text (get_or items n no_piece) ∷ [])
 
 -- ---- how long these lines get
 
@@ -90,7 +94,7 @@ abbrev pub placed_always : List ℕ → LabelPlaces → List ℕ
 placed_always first always = always_line (map token_of (placed_labels first always))
 
 abbrev pub placed_pieces : List ℕ → PiecePlaces → List ℕ
-placed_pieces first p = pieces_lines (pieces_from (items_in first p.start p.size p.head (min p.count 159)))
+placed_pieces first p = pieces_lines (pieces_from (items_in first p.items (min p.count 159)))
 
 -- the lines of a set, after those of its pieces if they are asked for
 unfoldable pub lines_at : Bool → List ℕ → PiecePlaces → LabelPlaces → List ℕ → List ℕ

@@ -163,19 +163,15 @@ impl<const N: usize> Area<N> {
         requires few { count ≤ 159 }
         requires room { self.old.at + 39 * count ≤ length self.old.bytes }
         ensures put { Put self.old.bytes self.old.at
-            (run_text true false (items_in text.now pieces.now.start pieces.now.size pieces.now.head count)) self.new.at self.new.bytes }
+            (run_text true false (items_in text.now pieces.now.items count)) self.new.at self.new.bytes }
         ensures short { self.new.at ≤ self.old.at + 39 * count }
     {
         let mut after = false;
         for i in 0..count {
-            let x = label_in(
-                text,
-                usize::from(pieces.start[i]),
-                usize::from(pieces.size[i]),
-            );
-            let head = pieces.head[i];
-            self.put_piece(i == 0, after, head, x);
-            after = head;
+            let item = pieces.items[i];
+            let x = label_in(text, usize::from(item.start), usize::from(item.size));
+            self.put_piece(i == 0, after, item.head, x);
+            after = item.head;
         }
     }
 

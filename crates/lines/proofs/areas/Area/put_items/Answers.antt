@@ -7,6 +7,7 @@ use native.Mathlib.Omega.{arith}
 use lib.Dec.{eqb}
 use lib.ListN.{length, get_or}
 use Rattle.trees.specs.Token.{Token}
+use Rattle.division.specs.PiecesAt.{no_piece}
 use Rattle.lines.specs.PieceLines.{items_in}
 use Rattle.lines.specs.ItemText.{item_text, last_head}
 use Rattle.lines.proofs.AreaLaws.{put_as, form_short}
@@ -17,8 +18,8 @@ pub loop-i-init : goal.loop-i-init
 loop-i-init g c =
     let a = c.args in let p = a.pieces.now in (
       omega arith,
-      sym (last_none a.text.now p.start p.size p.head),
-      items_none a.text.now p.start p.size p.head _ _,
+      sym (last_none a.text.now p.items),
+      items_none a.text.now p.items _ _,
     )
 
 pub put_piece-requires : goal.put_piece-requires
@@ -28,7 +29,7 @@ put_piece-requires g c =
       omega (
         arith,
         ap (length {A = ℕ}) (rw (c.from.ensures, c.from-in-loop-i.ensures) at c.label_in-x.ensures),
-        form_short a.text.now (get_or a.pieces.now.start i 0) (get_or a.pieces.now.size i 0),
+        form_short a.text.now (get_or a.pieces.now.items i no_piece).start (get_or a.pieces.now.items i no_piece).size,
         c.loop-i.invariant.2.whole,
         c.loop-i.invariant.0,
         c.requires,
@@ -39,17 +40,17 @@ pub loop-i-preserved : goal.loop-i-preserved
 loop-i-preserved g c =
     let a = c.args in let w = a.pieces.now in let i = c.loop-i.i in
     let shown = rw (c.from.ensures, c.from-in-loop-i.ensures) at c.label_in-x.ensures in
-    let it = item_at a.text.now w.start w.size w.head i in
-    let q = put_as _ (item_text (eqb i 0) (last_head false (items_in a.text.now w.start w.size w.head i)) it)
-    (ap₂ (λ (b : Bool) (y : Token). item_text (eqb i 0) b (record { token = y; head = get_or w.head i false })) c.loop-i.invariant.1 shown)
+    let it = item_at a.text.now w.items i in
+    let q = put_as _ (item_text (eqb i 0) (last_head false (items_in a.text.now w.items i)) it)
+    (ap₂ (λ (b : Bool) (y : Token). item_text (eqb i 0) b (record { token = y; head = (get_or w.items i no_piece).head })) c.loop-i.invariant.1 shown)
     c.put_piece.ensures in (
       omega (
         arith,
         q.ends,
-        item_long (eqb i 0) (last_head false (items_in a.text.now w.start w.size w.head i)) it,
-        form_short a.text.now (get_or w.start i 0) (get_or w.size i 0),
+        item_long (eqb i 0) (last_head false (items_in a.text.now w.items i)) it,
+        form_short a.text.now (get_or w.items i no_piece).start (get_or w.items i no_piece).size,
         c.loop-i.invariant.0,
       ),
-      sym (last_next a.text.now w.start w.size w.head i),
-      items_next a.text.now w.start w.size w.head i c.loop-i.invariant.2 q,
+      sym (last_next a.text.now w.items i),
+      items_next a.text.now w.items i c.loop-i.invariant.2 q,
     )

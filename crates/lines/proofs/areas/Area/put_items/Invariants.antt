@@ -9,6 +9,6 @@ use Rattle.lines.proofs.areas.Area.put_items.Given as goal
 
 abbrev pub invariant-loop-i : goal.invariant-loop-i
 invariant-loop-i g l = (l.self.at ≤ l.initial.self.at + 39 * l.i)
-    × (l.after ≡ last_head false (items_in l.text l.pieces.start l.pieces.size l.pieces.head l.i))
-    × Put l.initial.self.bytes l.initial.self.at (run_text true false (items_in l.text l.pieces.start l.pieces.size l.pieces.head l.i)) l.self.at
+    × (l.after ≡ last_head false (items_in l.text l.pieces.items l.i))
+    × Put l.initial.self.bytes l.initial.self.at (run_text true false (items_in l.text l.pieces.items l.i)) l.self.at
     l.self.bytes

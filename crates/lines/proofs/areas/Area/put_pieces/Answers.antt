@@ -49,7 +49,7 @@ unfolding bytes_of
 returns-clause-put g c =
     let a = c.args in let p = a.pieces.now in
     rw (← c.min-labels.ensures)
-    (put_as _ _ (pieces_parts a.text.now p.start p.size p.head c.min-labels.result)
+    (put_as _ _ (pieces_parts a.text.now p.items c.min-labels.result)
     (put_then (put_then (put_then (put_then c.put_bytes.ensures c.put_number.ensures) c.put_byte.ensures) c.put_items.ensures.put)
     c.put_end.ensures))
 
