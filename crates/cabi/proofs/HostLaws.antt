@@ -59,7 +59,7 @@ module _ (q : Task) (room : ℕ) where
         ap numbers_of (mast.outcome_promise q room s t xs reads (disagree a b c) (held, d))
 
 module _ (flags : ℕ) where
-  unknown : 3 < flags → options_of flags ≡ refused unknown_flags
+  pub unknown : 3 < flags → options_of flags ≡ refused unknown_flags
   unfolding options_of
   unknown h = rw (lt-leb flags 3 h) refl
 
@@ -67,6 +67,10 @@ module _ (flags : ℕ) where
     pub flags_refused : (room : ℕ) → 3 < flags → solve_with flags first second required room ≡ refused unknown_flags
     unfolding solve_with
     flags_refused room h = then_refused (options_of flags) _ unknown_flags (unknown h)
+
+    pub flags_denied : (room : ℕ) (p : Refusal) → refused p ≡ options_of flags → solve_with flags first second required room ≡ refused p
+    unfolding solve_with
+    flags_denied room p e = then_refused (options_of flags) _ p (sym e)
 
     pub flags_known : (room : ℕ) (o : Options) → found o ≡ options_of flags
         → solve_with flags first second required room ≡ solve (task o first second required) room
@@ -76,6 +80,10 @@ module _ (flags : ℕ) where
     pub claim_flags_refused : (claim : List ℕ) → 3 < flags → judge_with flags first second required claim ≡ refused unknown_flags
     unfolding judge_with
     claim_flags_refused claim h = then_refused (options_of flags) _ unknown_flags (unknown h)
+
+    pub claim_flags_denied : (claim : List ℕ) (p : Refusal) → refused p ≡ options_of flags → judge_with flags first second required claim ≡ refused p
+    unfolding judge_with
+    claim_flags_denied claim p e = then_refused (options_of flags) _ p (sym e)
 
     pub claim_flags_known : (claim : List ℕ) (o : Options) → found o ≡ options_of flags
         → judge_with flags first second required claim ≡ judge (task o first second required) claim

@@ -75,6 +75,11 @@ job_numbers (Err d) = denied_with d
 abbrev pub unknown_flags : Refusal
 unknown_flags = record { reason = Contents; body = J; place = 0 }
 
+-- an outcome as the code returns it: options, or a refusal that names no label
+abbrev pub outcome_of : Result Options Refusal → Outcome Options
+outcome_of (Ok o) = found o
+outcome_of (Err q) = refused q
+
 -- the options of the flags: 1 is `strict` (C-11), 2 edition 2 (C-15), 3 both; a greater number is unknown
 unfoldable pub options_of : ℕ → Outcome Options
 options_of flags =

@@ -4,14 +4,13 @@
 // packed number would have to be taken apart.
 #![tactic(auto)]
 
-ghost use Rattle.std.specs.Prelude.{◌≡◌, ◌≤◌, leb, length};
-ghost use Rattle.pairs.specs.Outcome.{found};
+ghost use Rattle.std.specs.Prelude.{◌≡◌, length};
 ghost use Rattle.queries.specs.Query.{task, plain};
 ghost use Rattle.mast.specs.Largest.{solve, output_of};
 ghost use Rattle.job.specs.Printed.{solve_job};
 ghost use Rattle.job.specs.Answered.{answer_to, job_output};
 ghost use Rattle.cabi.specs.Numbers.{succeeded, naming_with, named_with, refused_with, denied_with, numbers_of, claim_numbers, job_numbers};
-ghost use Rattle.cabi.specs.Numbers.{unknown_flags, options_of, solve_with, judge_with};
+ghost use Rattle.cabi.specs.Numbers.{outcome_of, options_of, solve_with, judge_with};
 
 use mast::{Denied, Named};
 use pairs::Options;
@@ -143,39 +142,27 @@ pub extern "C" fn agree_largest(
     answered(options, first, second, required, out)
 }
 
-// The options of flags of at most 3.
-fn options_of(flags: usize) -> Options
-    requires { flags ≤ 3 }
-    ensures { found result ≡ options_of flags }
+// The options of the flags, or the refusal of unknown ones.
+fn options_of(flags: usize) -> Result<Options, Refusal>
+    ensures { outcome_of result ≡ options_of flags }
 {
+    if flags > STRICT + EDITION_2 {
+        return Err(Refusal {
+            reason: Reason::Contents,
+            body: Body::J,
+            place: 0,
+        });
+    }
     if flags < EDITION_2 {
-        return Options {
+        return Ok(Options {
             strict: flags == STRICT,
             edition: Edition::One,
-        };
+        });
     }
-    Options {
+    Ok(Options {
         strict: flags == STRICT + EDITION_2,
         edition: Edition::Two,
-    }
-}
-
-// Whether the flags are known.
-fn is_known(flags: usize) -> bool
-    ensures { result ≡ leb flags 3 }
-{
-    flags <= STRICT + EDITION_2
-}
-
-// The refusal of unknown flags.
-fn unknown_flags() -> Refusal
-    ensures { result ≡ unknown_flags }
-{
-    Refusal {
-        reason: Reason::Contents,
-        body: Body::J,
-        place: 0,
-    }
+    })
 }
 
 // The same with flags: 1 for `strict`, 2 for edition 2, 3 for both. Unknown flags are refused with 10, J, 0, before anything is read.
@@ -193,10 +180,10 @@ pub extern "C" fn agree_largest_with(
         (solve_with flags first.now second.now required.now (length out.old))
         out.old }
 {
-    if !is_known(flags) {
-        return refused_with(unknown_flags());
-    }
-    let options = options_of(flags);
+    let options = match options_of(flags) {
+        Ok(options) => options,
+        Err(refusal) => return refused_with(refusal),
+    };
     answered(options, first, second, required, out)
 }
 
@@ -213,10 +200,10 @@ pub extern "C" fn agree_claim(
     ensures { result ≡ claim_numbers
         (judge_with flags first.now second.now required.now claim.now) }
 {
-    if !is_known(flags) {
-        return refused_with(unknown_flags());
-    }
-    let options = options_of(flags);
+    let options = match options_of(flags) {
+        Ok(options) => options,
+        Err(refusal) => return refused_with(refusal),
+    };
     match claims::judge(options, first, second, required, claim) {
         Ok(size) => succeeded(size, 0),
         Err(denied) => denied_with(denied),
