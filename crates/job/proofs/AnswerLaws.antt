@@ -7,7 +7,7 @@ use mathlib.Core.Option.{Option, some, none}
 use native.Mathlib.Omega.{arith}
 use lib.ListN.{length, take, drop, replicate, length-append, length-replicate}
 use lib.Seq.{take_at}
-use borrow.Author.Tests.{le-leb, lt-leb, eq-eqb, ne_eqb}
+use borrow.Author.Tests.{le-leb, lt-leb}
 use Rattle.std.specs.Prelude.{Some, None}
 use Rattle.trees.specs.declared.Reason.TheVariants.{Contents, JobTooLong}
 use Rattle.trees.specs.declared.Body.{Body}
@@ -259,15 +259,6 @@ module _ (q : Task) (claim : List ℕ) where
 
   pub said_as : (y : Result ℕ Denied) → y ≡ claim_of (judge q claim) → ClaimTold y
   said_as y e = subst ClaimTold (sym e) claim_told
-
--- by the letter
-pub claim_base : (at : Begin) (body : Body) (l : ℕ) → l ≡ letter_of body → l ≡ 67 → at.claim ≡ base_of at body
-unfolding base_of
-claim_base at body l e h = rw (eq-eqb (letter_of body) 67 (sym e ∙ h)) refl
-
-pub other_base : (at : Begin) (body : Body) (l : ℕ) → l ≡ letter_of body → (l ≡ 67 → ⊥) → at.list ≡ base_of at body
-unfolding base_of
-other_base at body l e h = rw (ne_eqb (letter_of body) 67 (λ k. h (e ∙ k))) refl
 
 pub list_base : (at : Begin) (body : Body) → of_claim body ≡ false → base_of at body ≡ at.list
 unfolding base_of

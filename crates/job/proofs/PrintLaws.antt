@@ -4,6 +4,7 @@ use mathlib.Core.Path.{◌≡◌, refl, sym, ◌∙◌, ap, subst}
 use mathlib.Core.List.{List}
 use native.Mathlib.Omega.{arith}
 use lib.ListN.{length}
+use Rattle.trees.specs.declared.Reason.TheVariants.{TooShort}
 use Rattle.trees.specs.declared.Refusal.{Refusal}
 use Rattle.trees.specs.Refusals.{number_of}
 use Rattle.pairs.specs.Outcome.{Outcome, refused, naming, found}
@@ -46,10 +47,10 @@ module _ (job out : List ℕ) where
       go (refused q) h = refl
 
   module _ (q : Refusal) (e : answer_to job room ≡ Err (Refused q)) where
-    -- number 9 is the output's
-    pub printed_nine : number_of q.reason ≡ 9
+    -- the output was too short for the lines
+    pub printed_nine : q.reason ≡ TooShort
         → (Err q ≡ line_answer (printed job) room) × (job_output (solve_job job) out ≡ line_output (printed job) out)
-    unfolding answer_to answered printed printed_of job_output
+    unfolding answer_to answered printed printed_of job_output number_of
     printed_nine n = go (solve_job job) refl e
       where
         go : (x : Outcome Reply) → solve_job job ≡ x → told x ≡ Err (Refused q)
@@ -58,10 +59,10 @@ module _ (job out : List ℕ) where
         go (naming p m) k h = let z : ◌≡◌ {A = ℕ} 0 1 = cc in absurd (omega arith)
         go (refused p) k h =
             let g : p ≡ q = cc in
-            absurd (job_fits job p k (ap (λ (r : Refusal). number_of r.reason) g ∙ n))
+            absurd (job_fits job p k (ap (λ (r : Refusal). number_of r.reason) g ∙ ap number_of n))
 
     -- any other is printed
-    pub printed_refusal : (number_of q.reason ≡ 9 → ⊥) → (refused_line q ≡ printed job) × (job_output (solve_job job) out ≡ out)
+    pub printed_refusal : (q.reason ≡ TooShort → ⊥) → (refused_line q ≡ printed job) × (job_output (solve_job job) out ≡ out)
     unfolding answer_to answered printed printed_of job_output
     printed_refusal n = go (solve_job job) e
       where

@@ -8,8 +8,8 @@ use native.Mathlib.Omega.{arith}
 use lib.Dec.{leb}
 use lib.ListN.{length}
 use borrow.Author.Tests.{leb-false}
+use Rattle.trees.specs.declared.Reason.TheVariants.{TooShort}
 use Rattle.trees.specs.declared.Refusal.{Refusal}
-use Rattle.trees.specs.Refusals.{number_of}
 use Rattle.trees.proofs.Bools.{bool_cases}
 use Rattle.mast.specs.Largest.{too_short}
 use Rattle.mast.specs.declared.Denied.{Denied}
@@ -46,18 +46,18 @@ line_nine lines room q e = go (bool_cases (leb (length lines) room))
         (k, leb-false (length lines) room f)
 
 pub record_refused : (lines : List ℕ) (room : ℕ) (q : Refusal) → record_answer lines room ≡ Err (Refused q)
-    → (Err q ≡ line_answer lines room) × (number_of q.reason ≡ 9) × (room < length lines)
-unfolding record_answer lines_answer number_of
+    → (Err q ≡ line_answer lines room) × (q.reason ≡ TooShort) × (room < length lines)
+unfolding record_answer lines_answer
 record_refused lines room q e = go (line_answer lines room) refl e
   where
     go : (l : Result ℕ Refusal) → line_answer lines room ≡ l → lines_answer l ≡ Err (Refused q)
-        → (Err q ≡ line_answer lines room) × (number_of q.reason ≡ 9) × (room < length lines)
+        → (Err q ≡ line_answer lines room) × (q.reason ≡ TooShort) × (room < length lines)
     go (Ok n) f h = let z : ◌≡◌ {A = ℕ} 0 1 = cc in absurd (omega arith)
     go (Err p) f h =
         let k : p ≡ q = cc in
         let g : line_answer lines room ≡ Err q = f ∙ ap Err k in
         let w = line_nine lines room q g in
-        (sym g, ap (λ (r : Refusal). number_of r.reason) w.0, w.1)
+        (sym g, ap (λ (r : Refusal). r.reason) w.0, w.1)
 
 -- answers that name labels
 abbrev pub Names : Result ℕ Denied → Type 0

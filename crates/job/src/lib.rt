@@ -230,9 +230,7 @@ pub fn print_job(job: &[u8], out: &mut [u8]) -> Result<usize, Refusal>
         Ok(n) => Ok(n),
         Err(Denied::Naming(refusal, named)) => lines::naming_line(job, refusal, named, out),
         Err(Denied::Refused(refusal)) => {
-            // by its number, as the definition `printed` tells it from the rest
-            let reason = refusal.reason;
-            if u8::from(reason) == 9 {
+            if refusal.reason == Reason::TooShort {
                 return Err(refusal);
             }
             lines::refusal_line(refusal, out)
