@@ -1,6 +1,6 @@
 -- Labels of a list looked up among the common ones, over trees and lists that were read: the first one that is not common, or all of them
 -- marked. Assumes nothing.
-use Prim.Native.Nat.{ℕ, ◌<◌, ◌≤◌}
+use Prim.Native.Nat.{ℕ, ◌<◌}
 use mathlib.Core.Path.{◌≡◌, refl, sym, ◌∙◌, ap}
 use mathlib.Core.Bool.{Bool, true, false, cond}
 use mathlib.Core.List.{List, []}
@@ -10,6 +10,7 @@ use Rattle.trees.specs.declared.TreeArrays.{TreeArrays}
 use Rattle.trees.specs.declared.Reason.{Reason}
 use Rattle.trees.specs.declared.Reason.TheVariants.{FirstLacks, SecondLacks}
 use Rattle.trees.specs.declared.Body.{Body}
+use Rattle.trees.specs.declared.Refusal.{Refusal}
 use Rattle.trees.specs.declared.Edition.{Edition}
 use Rattle.trees.specs.Edition.{in_edition, folded, keyed}
 use Rattle.trees.specs.Label.{Label}
@@ -18,7 +19,7 @@ use Rattle.trees.specs.Tree.{Tree, Proper}
 use Rattle.trees.proofs.Bools.{clash, refute}
 use Rattle.trees.proofs.TokenLaws.{valid_decoded}
 use Rattle.lists.specs.declared.LabelPlaces.{LabelPlaces}
-use Rattle.lists.specs.ReadList.{list_limit, folded_list, keys_of}
+use Rattle.lists.specs.ReadList.{folded_list, keys_of}
 use Rattle.agreement.specs.Closer.{holds}
 use Rattle.agreement.specs.Sets.{common, increasing}
 use Rattle.agreement.specs.Demand.{FirstLacking}
@@ -32,9 +33,11 @@ use Rattle.pairs.specs.Outcome.{refused}
 use Rattle.queries.specs.Query.{answer_to, held_by}
 use Rattle.pairs.specs.PairRead.{OwnTrees}
 use Rattle.queries.specs.ListRead.{OwnLabels}
-use Rattle.queries.specs.FirstMarks.{FirstMarked, NotIn}
+use Rattle.queries.specs.FirstMarks.{FirstMarked, MarkedTo, NotIn}
 use Rattle.queries.specs.Missing.{FirstMissing}
-use Rattle.queries.specs.RankedList.{AskedOf}
+use Rattle.queries.specs.RankedList.{AskedOf, MarksAre}
+use Rattle.std.specs.Prelude.{Result, Ok, Err, IfErr}
+use Rattle.std.specs.Result.{MatchResult, IsErrAnd}
 use Rattle.pairs.specs.declared.CommonOrder.{CommonOrder}
 use Rattle.pairs.proofs.RankLaws.{own_proper}
 use Rattle.queries.proofs.LookupLaws.{marked_all, marked_common}
@@ -138,5 +141,15 @@ module _ {e : Edition} {first : List ℕ} {tree1 tree2 : TreeArrays} {order : Co
             let d : places.count ≡ length (keys_of e l.xs) = omega (arith, l.own_list.count_is, length-map (folded_list e l.xs) spelling) in
             rw d at marked
 
-pub list_few : {e : Edition} {list : List ℕ} {places : LabelPlaces} → OwnLabels e list places → places.count ≤ list_limit
-list_few l = omega (arith, l.own_list.count_is, l.own_list.few)
+    -- the marks as they are, or what is told of the first label that is not common
+    pub marks_told : (body : Body) {Told : ℕ → Refusal → Type 0} (marks : Result (List ℕ) ℕ) (r : Result (List ℕ) Refusal)
+        → ((n : ℕ) (q : Refusal) → Told n q
+        → FirstMissing (folded e b.s) (folded e b.t) (folded_list e l.xs) (in_edition e first) (in_edition e list) tree1 places n
+        → held_by body l.xs (answer_to e (record { first = b.s; second = b.t }) l.xs) ≡ refused q)
+        → MarkedTo places.count (common (keyed e b.s) (keyed e b.t)) (keys_of e l.xs) marks
+        → IfErr marks (λ n. n < places.count)
+        → MatchResult marks (λ number. r ≡ Ok number) (λ n. IsErrAnd r (Told n))
+        → MarksAre e b.s b.t l.xs body tree1 tree2 order places r
+    marks_told body (Ok number) r f marked low is = rw is (all_asked marked)
+    marks_told body (Err n) (Ok number) f missing low told = absurd told
+    marks_told body (Err n) (Err q) f missing low told = f n q told (first_missing missing low)

@@ -149,7 +149,7 @@ fn mark_few(
         (l : OwnLabels edition list.now places.now)
         → MarksAre edition b.s b.t l.xs body tree1.now tree2 order places.now result }
 {
-    match mark(
+    mark(
         edition,
         first,
         tree1,
@@ -157,10 +157,8 @@ fn mark_few(
         order.count,
         list,
         places,
-    ) {
-        Ok(number) => Ok(number),
-        Err(n) => Err(lack(edition, first, tree1, list, places, body, n)),
-    }
+    )
+    .map_err(|n| lack(edition, first, tree1, list, places, body, n))
 }
 
 // Looks up the labels of a list among those that two trees share: each common label's number in the list, counted from 1, by rank; or number
