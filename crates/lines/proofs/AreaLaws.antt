@@ -1,16 +1,15 @@
 -- Texts put into an area one after another, and a text handed over. Assumes nothing.
 use Prim.Native.Nat.{ℕ, zero, suc, ◌+◌, ◌-◌, ◌*◌, ◌≤◌, ◌<◌, min}
 use mathlib.Core.Path.{◌≡◌, refl, sym, ◌∙◌, ap, ap₂, subst}
-use mathlib.Core.Bool.{Bool, true, false, cond}
 use mathlib.Core.List.{List, [], ◌∷◌, ◌++◌, map, append_assoc, append-nil, map-append}
 use native.Mathlib.Nat.{add-zero, zero-add}
 use native.Mathlib.Numerals.{add-one}
 use native.Mathlib.Omega.{arith}
-use lib.ListN.{length, get_or, set, take, drop, replicate, length-append, length-take, length-map, length-set}
+use lib.ListN.{length, get_or, take, drop, replicate, length-append, length-take, length-map}
 use borrow.Rule.Slice.PartMut.{put_mid}
 use Rattle.std.proofs.lemmas.Slice.{put_mid-paste, take-put_mid, drop-put_mid}
 use Rattle.std.proofs.lemmas.List.Edits.{length-paste}
-use lib.Seq.{take_at, take-suc-set, drop-set-lt, drop-drop}
+use lib.Seq.{take_at, drop-drop}
 use borrow.Author.Tests.{le-leb, lt-leb}
 use Rattle.trees.specs.Label.{Label, label_limit}
 use Rattle.trees.specs.Stored.{part_of, stored_of, stored_bytes, shown_of, shown_bytes}
@@ -33,16 +32,6 @@ put_none a at =
       front = ap (λ (k : ℕ). take k a) (add-zero at) ∙ sym (append-nil (take at a));
       back = refl;
       whole = refl;
-    }
-
-pub put_one : (a : List ℕ) (at next b : ℕ) → next ≡ at + 1 → at < length a → Put a at (b ∷ []) next (set a at b)
-put_one a at next b e h =
-    let e' : next ≡ suc at = e ∙ add-one at in
-    record {
-      ends = e;
-      front = ap (λ (k : ℕ). take k (set a at b)) e' ∙ take-suc-set a at b h;
-      back = drop-set-lt next a at b (omega arith);
-      whole = length-set a at b;
     }
 
 pub put_then : {a b d x y : List ℕ} {at i j : ℕ} → Put a at x i b → Put b i y j d → Put a at (x ++ y) j d
@@ -193,10 +182,3 @@ put_label text starts sizes n p q =
 pub first_none : (a : List ℕ) (at : ℕ) (text starts sizes : List ℕ) → Put a at (joined (map token_of (labels_in text starts sizes 0))) at a
 unfolding labels_in joined
 first_none a at text starts sizes = put_to (at + 0) at (add-zero at) (put_none a at)
-
--- a text if it is asked for
-pub put_unasked : (asked : Bool) (text a : List ℕ) → asked ≡ false → Put a 0 (cond asked text []) 0 a
-put_unasked asked text a e = rw e (put_same a 0)
-
-pub put_if_asked : (asked : Bool) {text a b : List ℕ} {n : ℕ} → asked ≡ true → Put a 0 text n b → Put a 0 (cond asked text []) n b
-put_if_asked asked e p = rw e p
