@@ -1,5 +1,6 @@
 -- C-17's lines before those of a set: `pieces` with the total, then an `at` line for each piece. The labels of a piece are tokens here.
-use Rattle.std.specs.Prelude.{ℕ, zero, suc, ◌+◌, ◌*◌, min, Bool, true, false, cond, List, [], ◌∷◌, ◌++◌, map, get_or, take}
+use Rattle.std.specs.Prelude.{ℕ, zero, suc, ◌+◌, ◌*◌, min, Bool, true, false, cond, List, [], ◌∷◌, ◌++◌, map, get_or, take, Option, Some, None}
+use Rattle.std.specs.Borrow.{Bor}
 use Rattle.trees.specs.Label.{Label}
 use Rattle.trees.specs.Token.{Token, token_of}
 use Rattle.trees.specs.Text.{tree_room}
@@ -95,6 +96,11 @@ placed_always first always = always_line (map token_of (placed_labels first alwa
 
 abbrev pub placed_pieces : List ℕ → PiecePlaces → List ℕ
 placed_pieces first p = pieces_lines (pieces_from (items_in first p.items (min p.count 159)))
+
+-- the lines of the pieces if they are asked for
+abbrev pub asked_pieces : List ℕ → Option (Bor PiecePlaces) → List ℕ
+asked_pieces first (Some p) = placed_pieces first p.now
+asked_pieces first None = []
 
 -- the lines of a set, after those of its pieces if they are asked for
 unfoldable pub lines_at : Bool → List ℕ → PiecePlaces → LabelPlaces → List ℕ → List ℕ

@@ -10,7 +10,7 @@ ghost use Rattle.lists.specs.ReadList.{joined};
 ghost use Rattle.lines.specs.Lines.{refused_words, claim_line, item_room, words_room, claim_room, line_room, record_room, label_in, named_line, labels_in, always_room};
 ghost use Rattle.lines.specs.Output.{line_answer, line_output};
 ghost use Rattle.lines.specs.ItemText.{head_text, item_text, run_text};
-ghost use Rattle.lines.specs.PieceLines.{items_in, pieces_room, placed_record, placed_always, placed_pieces};
+ghost use Rattle.lines.specs.PieceLines.{items_in, pieces_room, placed_record, placed_always, placed_pieces, asked_pieces};
 ghost use Rattle.lines.specs.Areas.{Put, item};
 
 use crate::ITEMS;
@@ -201,13 +201,13 @@ impl<const N: usize> Area<N> {
     }
 
     // Puts the lines of the pieces if they are asked for.
-    pub(crate) fn put_asked(&mut self, asked: bool, text: &[u8], pieces: &PiecePlaces)
+    pub(crate) fn put_asked(&mut self, text: &[u8], pieces: Option<&PiecePlaces>)
         requires room { self.old.at + pieces_room ≤ length self.old.bytes }
-        ensures put { Put self.old.bytes self.old.at (cond asked (placed_pieces text.now pieces.now) []) self.new.at self.new.bytes }
+        ensures put { Put self.old.bytes self.old.at (asked_pieces text.now pieces.entry) self.new.at self.new.bytes }
         ensures short { self.new.at ≤ self.old.at + pieces_room }
     {
-        if asked {
-            return self.put_pieces(text, pieces);
+        if let Some(pieces) = pieces {
+            self.put_pieces(text, pieces);
         }
     }
 

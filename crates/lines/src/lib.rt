@@ -6,7 +6,7 @@
 
 ghost use Rattle.std.specs.Prelude.{◌≡◌, ◌++◌, length};
 ghost use Rattle.lines.specs.Lines.{refused_line, named_line, claim_line};
-ghost use Rattle.lines.specs.PieceLines.{placed_record, placed_pieces, lines_at};
+ghost use Rattle.lines.specs.PieceLines.{placed_record, placed_pieces, asked_pieces};
 ghost use Rattle.lines.specs.Output.{line_answer, line_output, written_part};
 
 use areas::Area;
@@ -99,21 +99,20 @@ pub fn claim_line(size: usize, out: &mut [u8]) -> Result<usize, Refusal>
 // Writes the lines of a set, after those of its pieces if they are asked for. It has two callers, so the compiler leaves it a function of its
 // own: in a frame above the engine's, the area would add to the stack of a job.
 fn write_lines(
-    asked: bool,
     first: &[u8],
-    pieces: &PiecePlaces,
+    pieces: Option<&PiecePlaces>,
     set: &LabelPlaces,
     tree: &[u8],
     out: &mut [u8],
 ) -> Result<usize, Refusal>
-    ensures answer { result ≡ line_answer (lines_at asked first.now pieces.now set.now tree.now) (length out.old) }
-    ensures output { out.new ≡ line_output (lines_at asked first.now pieces.now set.now tree.now) out.old }
+    ensures answer { result ≡ line_answer (asked_pieces first.now pieces.entry ++ placed_record first.now set.now tree.now) (length out.old) }
+    ensures output { out.new ≡ line_output (asked_pieces first.now pieces.entry ++ placed_record first.now set.now tree.now) out.old }
 {
     let mut area = Area {
         bytes: [0u8; DIVIDED_ROOM],
         at: 0,
     };
-    area.put_asked(asked, first, pieces);
+    area.put_asked(first, pieces);
     area.put_record(first, set, tree);
     area.hand_over(out)
 }
@@ -129,7 +128,7 @@ pub fn set_lines(
     ensures answer { result ≡ line_answer (placed_record first.now set tree.now) (length out.old) }
     ensures output { out.new ≡ line_output (placed_record first.now set tree.now) out.old }
 {
-    write_lines(false, first, &division::no_pieces(), &set, tree, out)
+    write_lines(first, None, &set, tree, out)
 }
 
 // Writes the lines of the pieces and the three lines of a set into `out`. Places and sizes name parts of the first tree's text. No job has
@@ -146,5 +145,5 @@ pub fn divided_lines(
     ensures output { out.new ≡ line_output (placed_pieces first.now pieces ++ placed_record first.now set tree.now)
         out.old }
 {
-    write_lines(true, first, &pieces, &set, tree, out)
+    write_lines(first, Some(&pieces), &set, tree, out)
 }
