@@ -1,4 +1,5 @@
-// Lines put together in an area, part by part, and copied to a lent output.
+// Lines put together in an area, part by part, and copied to a lent output: a whole text, or nothing, and that is number 9. A `Display` would
+// need a formatter.
 ghost use Rattle.std.specs.Prelude.{◌≡◌, true, false, cond, [], ◌∷◌, map, ◌+◌, ◌-◌, ◌*◌, ◌≤◌, length, take, eqb};
 ghost use Rattle.decimals.specs.Decimal.{decimal_of, digit_room};
 ghost use Rattle.trees.specs.Stored.{shown_bytes};
@@ -19,7 +20,7 @@ use lists::LabelPlaces;
 use mast::Named;
 use trees::{Body, Edition, LEAF_LIMIT, Reason, Refusal, ShownLabel, TREE_ROOM};
 
-// An area of N bytes for a text; `at` is where its next byte goes.
+// An area of N bytes for a text; `at` is where its next byte goes. Fixed memory and no heap, so an array and a place, not a `Vec`.
 #[derive(Drop)]
 pub(crate) struct Area<const N: usize> {
     pub(crate) bytes: [u8; N],
@@ -51,7 +52,7 @@ impl<const N: usize> Area<N> {
         self.at += 1;
     }
 
-    // Puts the bytes of x.
+    // Puts the bytes of x. The writer's `put_bytes` stores into a lent slice; this one moves the area's end.
     fn put_bytes(&mut self, x: &[u8])
         requires room { self.old.at + length x.now ≤ length self.old.bytes }
         ensures { Put self.old.bytes self.old.at x.now self.new.at self.new.bytes }
