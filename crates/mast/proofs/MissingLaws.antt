@@ -29,7 +29,8 @@ use Rattle.table.specs.Choice.{Marked}
 use Rattle.triples.proofs.Ranks.{place_number}
 use Rattle.pairs.specs.declared.CommonOrder.{CommonOrder}
 use Rattle.std.proofs.lemmas.Option.{none-some, same_Some}
-use Rattle.mast.specs.ListMarks.{nearer_of, least_missing, below}
+use Rattle.mast.specs.ListMarks.{nearer_of, least_missing}
+use Rattle.triples.specs.Loops.{below}
 use Rattle.queries.specs.RankedList.{AskedOf}
 use Rattle.mast.specs.Compare.{missing, IsMissing, place_if}
 use Rattle.mast.specs.Settled.{lacked_at}

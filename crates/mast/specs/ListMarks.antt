@@ -1,5 +1,5 @@
 -- The marked labels of a list by rank: gathered, named, and compared with those of another list. Intermediate: nothing public rests on this text.
-use Rattle.std.specs.Prelude.{ℕ, zero, suc, ◌+◌, ◌-◌, ◌<◌, ◌≤◌, min, ◌≡◌, cond, List, [], ◌∷◌, eqb, ltb, length, get_or, set, Option, Some, None}
+use Rattle.std.specs.Prelude.{ℕ, zero, suc, ◌+◌, ◌-◌, ◌<◌, ◌≤◌, min, ◌≡◌, cond, List, [], ◌∷◌, eqb, length, get_or, set}
 use Rattle.mast.specs.declared.NamedLabel.{NamedLabel}
 
 -- of n ranks from r on those that are marked
@@ -43,7 +43,3 @@ unfoldable pub least_missing : List ℕ → List ℕ → ℕ → ℕ → ℕ
 unfolding nearer_of
 least_missing number other zero count = count
 least_missing number other (suc m) count = nearer_of (least_missing number other m count) (get_or number m 0) (get_or other m 0)
-
--- the index, if it is that of one of `count` labels
-abbrev pub below : ℕ → ℕ → Option ℕ
-below count k = cond (ltb k count) (Some k) None

@@ -5,7 +5,8 @@ ghost use Rattle.std.specs.Prelude.{◌≡◌, ◌≤◌, length};
 ghost use Rattle.queries.specs.Query.{answer_to};
 ghost use Rattle.mast.specs.Compare.{compare_lists, compare_other, compared_of};
 ghost use Rattle.pairs.specs.PairRead.{trees_in};
-ghost use Rattle.mast.specs.ListMarks.{nearer_of, least_missing, below};
+ghost use Rattle.mast.specs.ListMarks.{nearer_of, least_missing};
+ghost use Rattle.triples.specs.Loops.{below};
 ghost use Rattle.mast.specs.Settled.{OwnPair, OwnListed, lacked_at, chosen_of, AgreedOn};
 
 use crate::clash::clash_in;
@@ -17,7 +18,7 @@ use table::RANKS;
 use trees::Body;
 
 // Smallest index so far of a required label that the other list lacks. `number` and `other` are the label's position in each list, counted
-// from 1; 0 means the list does not contain it.
+// from 1; 0 means the list does not contain it: so says `Marked`, the definition in the table's contract.
 #[tactic(auto, unfolding(crate::specs::ListMarks::nearer_of))]
 fn nearer(best: usize, number: u8, other: u8) -> usize
     ensures { result ≡ nearer_of best number other }

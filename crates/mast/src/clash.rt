@@ -17,7 +17,8 @@ use table::RANKS;
 use trees::{Edition, LEAF_LIMIT, NODE_LIMIT, TreeArrays};
 use triples::{Indices, RankedLeaves};
 
-// Stores rank r behind n others if it is that of a marked label, and says how many there are then.
+// Stores rank r behind n others if it is that of a marked label, and says how many there are then. A number 0 means the label is not in the
+// list: so says `Marked`, the definition in the table's contract.
 fn add_rank(ranks: &mut [usize; LEAF_LIMIT], n: usize, number: u8, r: usize) -> usize
     requires { n < 80 }
     ensures { Added n number r ranks.old result ranks.new }

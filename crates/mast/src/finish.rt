@@ -133,6 +133,7 @@ impl<'a> Query<'a> {
         let kept = kept_leaves(order1, m, chosen);
         let restricted = restriction::restrict_tree(self.pair.tree1, kept);
         let written = writer::write_tree(self.edition, restricted, self.first, out);
+        // The restriction of a tree that was read is a tree, so the writer's only error here is number 9, an output too short.
         let Ok(length) = written else {
             return Err(Denied::Refused(Refusal {
                 reason: Reason::TooShort,
