@@ -192,7 +192,14 @@ module _ (q : Task) (room : ℕ) (r : Divided) (y : Solution) (f : SolvedBy q ro
       ap₂ (λ (k l : List ℕ). k ++ l) (pieces_part_lem (p refl)) (set_part t tree e short) ∙ reply_lines_lem true y _ _ _ refl refl refl
   result_is false t tree e short p = set_part t tree e short ∙ reply_lines_lem false y _ _ _ refl refl refl
 
-module _ (pieces : Bool) (q : Task) (blank area : List ℕ) (roomy : length blank ≡ tree_room) where
+-- the engine's area for the tree text
+abbrev pub blank : List ℕ
+blank = replicate tree_room 0
+
+pub blank_room : length blank ≡ tree_room
+blank_room = length-replicate {A = ℕ} tree_room 0
+
+module _ (pieces : Bool) (q : Task) (area : List ℕ) where
   -- what each answer comes from
   abbrev EngineTold : Result Divided Denied → Type 0
   EngineTold (Ok r) = SetFound pieces q area r
@@ -200,7 +207,7 @@ module _ (pieces : Bool) (q : Task) (blank area : List ℕ) (roomy : length blan
 
   in_room : (x : Outcome Solution) → solve q (length blank) ≡ x → solve_task pieces q none ≡ and_then x (set_reply pieces)
   unfolding solve_task
-  in_room x e = ap (λ (y : Outcome Solution). and_then y (set_reply pieces)) (ap (solve q) (sym roomy) ∙ e)
+  in_room x e = ap (λ (y : Outcome Solution). and_then y (set_reply pieces)) (ap (solve q) (sym blank_room) ∙ e)
 
   set_found : (y : Solution) → solve q (length blank) ≡ found y → From q (length blank) (found y) → (r : Divided)
       → ◌≡◌ {A = Found} (record { size = r.size; length = r.length; set = r.set }) (found_set y) → area ≡ output_of (found y) blank
@@ -331,13 +338,6 @@ answer_is job room d e = ap₂ (λ (b : Begin) (y : Outcome Reply). answered b r
 
 pub output_is : (job out : List ℕ) {x : Outcome Reply} → x ≡ solve_job job → job_output x out ≡ job_output (solve_job job) out
 output_is job out e = ap (λ (y : Outcome Reply). job_output y out) e
-
--- the engine's area for the tree text
-abbrev pub blank : List ℕ
-blank = replicate tree_room 0
-
-pub blank_room : length blank ≡ tree_room
-blank_room = length-replicate {A = ℕ} tree_room 0
 
 -- ---- the two sorts of lines
 

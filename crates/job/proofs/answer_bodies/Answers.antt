@@ -1,5 +1,5 @@
 -- `job::answer_bodies` meets its contract: the engine's answer is that of the job. Assumes nothing.
-use Rattle.job.proofs.AnswerLaws.{blank, blank_room, told_as, denied_near, denied_answered, denied_kept}
+use Rattle.job.proofs.AnswerLaws.{told_as, denied_near, denied_answered, denied_kept}
 use Rattle.job.proofs.AnswerLaws.{answered_found, output_found}
 use Rattle.lines.specs.Output.{line_output}
 use Rattle.job.proofs.RecordLaws.{record_told}
@@ -15,17 +15,17 @@ use Rattle.job.proofs.answer_bodies.Goals as goal
 
 pub slice_bounds-tree-end : goal.slice_bounds-tree-end
 slice_bounds-tree-end c =
-    let l = c.in-Ok.ensures in (told_as _ _ blank _ blank_room _ l.answer l.output l.pieces).inside
+    let l = c.in-Ok.ensures in (told_as _ _ _ _ l.answer l.output l.pieces).inside
 
 pub slice_bounds-text-end : goal.slice_bounds-text-end
 slice_bounds-text-end c =
-    let l = c.in-Ok.ensures in let f = told_as _ _ blank _ blank_room _ l.answer l.output l.pieces in
+    let l = c.in-Ok.ensures in let f = told_as _ _ _ _ l.answer l.output l.pieces in
     omega (arith, f.inside, length-take c.in-Ok.divided.length c.largest_in_pieces.new.out)
 
 pub returns-in_err-result_lines-in-Ok : goal.returns-in_err-result_lines-in-Ok
 unfolding lines_answer
 returns-in_err-result_lines-in-Ok c =
-    let l = c.in-Ok.ensures in let f = told_as _ _ blank _ blank_room _ l.answer l.output l.pieces in
+    let l = c.in-Ok.ensures in let f = told_as _ _ _ _ l.answer l.output l.pieces in
     let h = c.in_err-result_lines-in-Ok.ensures in let out = c.args.out.now in
     let r = err_from_is_err_and c.from_residual.result c.from_residual.ensures.1 in
     record {
@@ -37,7 +37,7 @@ returns-in_err-result_lines-in-Ok c =
 pub returns-in_ok-result_lines-in-Ok : goal.returns-in_ok-result_lines-in-Ok
 unfolding lines_answer
 returns-in_ok-result_lines-in-Ok c =
-    let l = c.in-Ok.ensures in let f = told_as _ _ blank _ blank_room _ l.answer l.output l.pieces in
+    let l = c.in-Ok.ensures in let f = told_as _ _ _ _ l.answer l.output l.pieces in
     let h = c.in_ok-result_lines-in-Ok.ensures in let out = c.args.out.now in
     record {
       answer = record_told _ _ h.answer ∙ ap (λ (t : List ℕ). record_answer t (length out)) f.lines
@@ -48,12 +48,11 @@ returns-in_ok-result_lines-in-Ok c =
 pub denied_in-requires : goal.denied_in-requires
 denied_in-requires c =
     let l = c.in-Err.ensures in
-    denied_near _ _ _ _ _ (told_as _ _ blank _ blank_room _ l.answer l.output l.pieces) _ _ c.requires
+    denied_near _ _ _ _ _ (told_as _ _ _ _ l.answer l.output l.pieces) _ _ c.requires
 
 pub returns-in-Err : goal.returns-in-Err
 returns-in-Err c =
-    let l = c.in-Err.ensures in
-    let f = told_as _ _ blank _ blank_room _ l.answer l.output l.pieces in
+    let l = c.in-Err.ensures in let f = told_as _ _ _ _ l.answer l.output l.pieces in
     record {
       answer = denied_answered _ _ _ _ _ f _ _ _ c.denied_in.ensures;
       output = denied_kept _ _ _ _ _ f _;

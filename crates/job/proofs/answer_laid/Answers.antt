@@ -62,40 +62,18 @@ answer_claim-requires c =
       );
     }
 
-pub returns-in-None-clause-answer : goal.returns-in-None-clause-answer
-returns-in-None-clause-answer c =
-    let found = c.answer_bodies.ensures in let a = c.args in let e = job_solved a.job.now a.table c.requires.table_value c.requires.job_len_bound _ c.edition_of.ensures _ _ _
-    c.bytes_of-s.ensures
-    c.bytes_of-t.ensures c.bytes_of-k.ensures c.in-None.is in
-    let at = begin_is c.place_of.ensures c.place_of-2.ensures c.place_of-3.ensures
-    ∙ bodies_base a.job.now a.table c.requires.table_value in
-    found.answer ∙ answer_is a.job.now (length a.out.now) at e
+pub returns-in-None : goal.returns-in-None
+returns-in-None c =
+    let found = c.answer_bodies.ensures in let a = c.args in let t = c.requires.table_value in
+    let e = job_solved a.job.now a.table t c.requires.job_len_bound _ c.edition_of.ensures _ _ _ c.bytes_of-s.ensures c.bytes_of-t.ensures
+    c.bytes_of-k.ensures c.in-None.is in
+    let at = begin_is c.place_of.ensures c.place_of-2.ensures c.place_of-3.ensures ∙ bodies_base a.job.now a.table t in
+    record { answer = found.answer ∙ answer_is a.job.now (length a.out.now) at e; output = found.output ∙ output_is a.job.now a.out.now e }
 
-pub returns-in-None-clause-output : goal.returns-in-None-clause-output
-returns-in-None-clause-output c =
-    let found = c.answer_bodies.ensures in let a = c.args in let e = job_solved a.job.now a.table c.requires.table_value c.requires.job_len_bound _ c.edition_of.ensures _ _ _
-    c.bytes_of-s.ensures
-    c.bytes_of-t.ensures c.bytes_of-k.ensures c.in-None.is in
-    let at = begin_is c.place_of.ensures c.place_of-2.ensures c.place_of-3.ensures
-    ∙ bodies_base a.job.now a.table c.requires.table_value in
-    found.output ∙ output_is a.job.now a.out.now e
-
-pub returns-in-Some-clause-answer : goal.returns-in-Some-clause-answer
-returns-in-Some-clause-answer c =
-    let found = c.answer_claim.ensures in let a = c.args in let e = job_judged a.job.now a.table c.requires.table_value c.requires.job_len_bound _ c.edition_of.ensures _ _ _
-    c.bytes_of-s.ensures
-    c.bytes_of-t.ensures c.bytes_of-k.ensures _ c.in-Some.is _
-    c.bytes_of.ensures in
-    let at = begin_is c.place_of.ensures c.place_of-2.ensures c.place_of-3.ensures
-    ∙ bodies_base a.job.now a.table c.requires.table_value in
-    found.answer ∙ answer_is a.job.now (length a.out.now) at e
-
-pub returns-in-Some-clause-output : goal.returns-in-Some-clause-output
-returns-in-Some-clause-output c =
-    let found = c.answer_claim.ensures in let a = c.args in let e = job_judged a.job.now a.table c.requires.table_value c.requires.job_len_bound _ c.edition_of.ensures _ _ _
-    c.bytes_of-s.ensures
-    c.bytes_of-t.ensures c.bytes_of-k.ensures _ c.in-Some.is _
-    c.bytes_of.ensures in
-    let at = begin_is c.place_of.ensures c.place_of-2.ensures c.place_of-3.ensures
-    ∙ bodies_base a.job.now a.table c.requires.table_value in
-    found.output ∙ output_is a.job.now a.out.now e
+pub returns-in-Some : goal.returns-in-Some
+returns-in-Some c =
+    let found = c.answer_claim.ensures in let a = c.args in let t = c.requires.table_value in
+    let e = job_judged a.job.now a.table t c.requires.job_len_bound _ c.edition_of.ensures _ _ _ c.bytes_of-s.ensures c.bytes_of-t.ensures
+    c.bytes_of-k.ensures _ c.in-Some.is _ c.bytes_of.ensures in
+    let at = begin_is c.place_of.ensures c.place_of-2.ensures c.place_of-3.ensures ∙ bodies_base a.job.now a.table t in
+    record { answer = found.answer ∙ answer_is a.job.now (length a.out.now) at e; output = found.output ∙ output_is a.job.now a.out.now e }
