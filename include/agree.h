@@ -30,7 +30,7 @@ extern "C" {
 /* Bytes of stack that a call takes at most, whatever it is given. The prover does not speak of it. It is held against two figures:
  *
  *     from the machine code, for every input (tools/frames): the sum of frames along the calls is about 51,400 bytes for two trees and a
- *     list, 44,600 with a claim, and 55,100 for a job;
+ *     list, 44,600 with a claim, and 54,400 for a job;
  *     measured, the worst of many inputs (tools/stack.c): the same.
  *
  * The first counts 256 bytes for memset and memcpy of the C library. A thread needs what it takes for itself besides, and so does a loader
