@@ -450,6 +450,11 @@ collected_all s t order1 order2 partner m ps c p at = record {
     first' : Numbered s (common s t) order1
     first' = subst (λ (C : List Label). Numbered s C order1) (from_start s t) c.first
 
+-- the same numbers in another array; nothing cites it, but it is what a numbering says
+pub numbered_same : (t : Tree) (C : List Label) (xs ys : List ℕ) → Numbered t C xs → ((r : ℕ) → r < length C → get_or ys r 0 ≡ get_or xs r 0)
+    → Numbered t C ys
+numbered_same t C xs ys n e r h = rw (e r h) (n r h)
+
 -- ranks
 
 -- labels at different ranks differ

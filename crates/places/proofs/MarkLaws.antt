@@ -17,7 +17,8 @@ use Rattle.pieces.specs.Items.{Item, no_item, items_with, items_of}
 use Rattle.places.specs.Nodes.{HeadOn, no_leaf, leaf_there}
 use Rattle.places.specs.declared.Mark.{Mark}
 use Rattle.places.specs.declared.PieceList.{PieceList}
-use Rattle.places.specs.Marks.{no_mark, leaf_marks, head_marks, line_marks, marks_to, ListHolds}
+use Rattle.places.specs.Marks.{leaf_marks, head_marks, line_marks, marks_to, ListHolds}
+use Rattle.places.specs.PieceRanks.{no_mark}
 
 -- the same list in another form
 pub hold_as : {list : PieceList} {L M : List Mark} → L ≡ M → ListHolds list L → ListHolds list M

@@ -32,10 +32,10 @@ use Rattle.pieces.proofs.JoinLaws.{unasked_pieces}
 use Rattle.pieces.proofs.TotalLaws.{total_few}
 use Rattle.pieces.proofs.ItemLaws.{items_count}
 use Rattle.places.specs.Nodes.{TreeRanks, RankNumbers, rank_among, line_at, HeadOn, no_leaf, leaf_there, LinesByRank}
-use Rattle.places.specs.Marks.{no_mark, line_marks, marks_to, ListHolds}
+use Rattle.places.specs.Marks.{line_marks, marks_to, ListHolds}
 use Rattle.places.specs.declared.Mark.{Mark}
 use Rattle.places.specs.declared.PieceList.{PieceList}
-use Rattle.places.specs.PieceRanks.{PieceRanks}
+use Rattle.places.specs.PieceRanks.{PieceRanks, no_mark}
 use Rattle.places.proofs.RankLaws.{marked_rank, rank_own}
 use Rattle.places.proofs.TopLaws.{top_head, top_none}
 use Rattle.places.proofs.LineLaws.{line_test, line_cases}

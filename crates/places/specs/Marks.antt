@@ -2,9 +2,7 @@
 use Rattle.std.specs.Prelude.{ℕ, zero, suc, ◌<◌, min, ◌≡◌, true, false, cond, List, [], ◌∷◌, ◌++◌, eqb, ltb, length, get_or, Option, Some, None}
 use Rattle.places.specs.declared.Mark.{Mark}
 use Rattle.places.specs.declared.PieceList.{PieceList}
-
-abbrev pub no_mark : Mark
-no_mark = record { rank = 0; head = false }
+use Rattle.places.specs.PieceRanks.{no_mark}
 
 -- the leaves of line j among the first ranks
 unfoldable pub leaf_marks : List ℕ → ℕ → ℕ → List Mark

@@ -1,12 +1,16 @@
 -- The pieces of a job by rank: C-17's `at` lines as one list, each label as its rank among the common ones.
-use Rattle.std.specs.Prelude.{ℕ, ◌<◌, ◌≡◌, Bool, List, [], length, get_or}
+use Rattle.std.specs.Prelude.{ℕ, ◌<◌, ◌≡◌, Bool, false, List, [], length, get_or}
 use Rattle.trees.specs.Label.{Label}
 use Rattle.trees.specs.Tree.{Tree}
 use Rattle.agreement.specs.Sets.{common}
 use Rattle.pieces.specs.Pieces.{pieces, total}
 use Rattle.pieces.specs.Items.{items_of, no_item}
+use Rattle.places.specs.declared.Mark.{Mark}
 use Rattle.places.specs.declared.PieceList.{PieceList}
-use Rattle.places.specs.Marks.{no_mark}
+
+-- what stands past the last entry
+abbrev pub no_mark : Mark
+no_mark = record { rank = 0; head = false }
 
 -- the rank of entry i, and whether it is a line's required label
 abbrev pub rank_at : PieceList → ℕ → ℕ

@@ -6,7 +6,7 @@ ghost use Rattle.trees.specs.Arrays.{nodes_of};
 ghost use Rattle.places.specs.Nodes.{is_inner, required_at, many_at, least_rank_at, TreeRanks, BelowIs, manys, leasts};
 
 use table::RANKS;
-use trees::{NODE_LIMIT, TreeArrays};
+use trees::{LEAF_LIMIT, NODE_LIMIT, TreeArrays};
 
 // Of the required leaves below a node: how many there are, and the least of their ranks, 80 for none (the neutral value of `min`).
 #[derive(Clone, Copy)]
@@ -61,7 +61,10 @@ fn below_at(
             least: rank,
         };
     }
-    Below { many: 0, least: 80 }
+    Below {
+        many: 0,
+        least: LEAF_LIMIT as u8,
+    }
 }
 
 // All nodes, children before parents.

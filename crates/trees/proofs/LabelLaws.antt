@@ -132,6 +132,31 @@ pub greater_order : (x y : Label) → label_less y x ≡ true → order_of x y �
 unfolding order_of
 greater_order x y h = rw (less_asym y x h, h) refl
 
+-- and back; nothing cites these three, but they are what an order says
+pub order_less : (x y : Label) → order_of x y ≡ Less → label_less x y ≡ true
+order_less x y h = go (less_total x y)
+  where
+    go : (label_less x y ≡ true) ⊎ ((x ≡ y) ⊎ (label_less y x ≡ true)) → label_less x y ≡ true
+    go (inl k) = k
+    go (inr (inl e)) = cc (h, equal_order x y e)
+    go (inr (inr k)) = cc (h, greater_order x y k)
+
+pub order_equal : (x y : Label) → order_of x y ≡ Equal → x ≡ y
+order_equal x y h = go (less_total x y)
+  where
+    go : (label_less x y ≡ true) ⊎ ((x ≡ y) ⊎ (label_less y x ≡ true)) → x ≡ y
+    go (inl k) = cc (h, less_order x y k)
+    go (inr (inl e)) = e
+    go (inr (inr k)) = cc (h, greater_order x y k)
+
+pub order_greater : (x y : Label) → order_of x y ≡ Greater → label_less y x ≡ true
+order_greater x y h = go (less_total x y)
+  where
+    go : (label_less x y ≡ true) ⊎ ((x ≡ y) ⊎ (label_less y x ≡ true)) → label_less y x ≡ true
+    go (inl k) = cc (h, less_order x y k)
+    go (inr (inl e)) = cc (h, equal_order x y e)
+    go (inr (inr k)) = k
+
 pub order_before : (x y : Label) → is_lt (order_of x y) ≡ label_less x y
 unfolding order_of
 order_before x y = go (label_less x y) (label_less y x)

@@ -3,7 +3,7 @@
 // No public function has a `requires`: each answers for all inputs.
 #![tactic(auto)]
 
-ghost use Rattle.std.specs.Prelude.{◌≡◌, true, ◌&&◌, ◌%◌, min, eqb, length, get_or, take};
+ghost use Rattle.std.specs.Prelude.{◌≡◌, true, ◌&&◌, ◌%◌, ◌<◌, ◌≤◌, min, eqb, length, get_or, take};
 ghost use Rattle.trees.specs.Bytes.{class_table, kind_of_code};
 ghost use Rattle.trees.specs.Edition.{fold_byte, in_edition, key};
 ghost use Rattle.trees.specs.Label.{order_of, label_less, same_label};
@@ -385,7 +385,9 @@ pub fn part<'a>(text: &'a [u8], start: usize, size: usize) -> &'a [u8]
 
 // An entry of an array as a number, 0 past its end: no index has to be trusted.
 pub fn entry<T: Copy + Into<usize>>(xs: &[T], i: usize) -> usize
-    ensures { (d : T) → T.Into.converts d 0 → T.Into.converts (get_or xs.now i d) result }
+    ensures within { (d : T) → i < length xs.now → T.Into.converts (get_or xs.now i d) result }
+    ensures past_end { length xs.now ≤ i → result ≡ 0 }
+    ensures value { (d : T) → T.Into.converts d 0 → T.Into.converts (get_or xs.now i d) result }
 {
     match xs.get(i) {
         Some(x) => (*x).into(),
@@ -445,7 +447,8 @@ pub fn first_marks() -> [u8; SLOTS]
 }
 
 // Whether the slot has a mark and one of the first `count` parts stands for the same label as the token. With the token's slot, and marks
-// for the slots of all parts, this is `is_among`: without a mark nothing is compared.
+// for the slots of all parts, this is `is_among`: without a mark nothing is compared. Inlined, since most often it is that one test.
+#[inline(always)]
 pub fn is_met(
     edition: Edition,
     text: &[u8],
@@ -542,7 +545,8 @@ fn form_size(label: &[u8], quoted: bool) -> usize
     label.len().min(TOKEN_LIMIT)
 }
 
-// A label as it is printed: its written form, 0 after its last byte.
+// A label as it is printed: its written form, 0 after its last byte. Inlined: a caller that asks for its length alone then makes no bytes.
+#[inline(always)]
 pub fn shown(label: StoredLabel) -> ShownLabel
     ensures { result ≡ shown_of (stored_bytes label) }
 {

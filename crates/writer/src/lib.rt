@@ -122,7 +122,8 @@ fn root_sum(tree: &TreeArrays, weights: &Weights) -> usize
     entry(&sums, tree.nodes - 1)
 }
 
-// What leaf u writes: its label as the text spells it, so by edition 1.
+// What leaf u writes: its label as the text spells it, so by edition 1. Inlined, as `shown` is.
+#[inline(always)]
 fn leaf_token(tree: &TreeArrays, text: &[u8], u: usize) -> ShownLabel
     ensures token { shown_bytes result ≡ leaf_token text.now tree.now.start tree.now.size u }
     ensures count { result.len ≡ length (leaf_token text.now tree.now.start tree.now.size u) }

@@ -9,6 +9,6 @@ use Rattle.writer.proofs.root_sum.Goals as goal
 pub returns : goal.returns
 unfolding root_sum
 returns c =
-    (c.entry.ensures 0 refl)
+    (c.entry.ensures.value 0 refl)
     ∙ ap (λ (s : List ℕ). get_or s (c.args.tree.now.nodes - 1) 0)
     c.sum_pass.ensures

@@ -12,9 +12,9 @@ returns-then-entry-u c =
     c.narrow.ensures
     ∙ fits_byte y.result.len (omega (arith, y.ensures.short))
     ∙ y.ensures.count
-    ∙ weight_leaf a.text.now a.tree.now.left a.tree.now.start a.tree.now.size a.u (sym (c.entry.ensures 0 refl) ∙ c.if-entry-u.true)
+    ∙ weight_leaf a.text.now a.tree.now.left a.tree.now.start a.tree.now.size a.u (sym (c.entry.ensures.value 0 refl) ∙ c.if-entry-u.true)
 
 pub returns : goal.returns
 returns c =
     let a = c.args in weight_node a.text.now a.tree.now.left a.tree.now.start a.tree.now.size a.u
-    (λ (e : get_or a.tree.now.left a.u 0 ≡ a.u). c.if-entry-u.false ((c.entry.ensures 0 refl) ∙ e))
+    (λ (e : get_or a.tree.now.left a.u 0 ≡ a.u). c.if-entry-u.false ((c.entry.ensures.value 0 refl) ∙ e))
