@@ -1,18 +1,17 @@
 // The leaves common to both trees in label order.
 //
-// Names that end in 1 are of the first tree, in 2 of the second. A label that is put in order is kept apart from its text.
+// Names that end in 1 are of the first tree, in 2 of the second. Labels are compared where they stand in the text; none is copied.
 ghost use Rattle.std.specs.Prelude.{◌≡◌, List, true, cond, ℕ, ◌+◌, ◌<◌, ◌≤◌, eqb, length, get_or};
 ghost use Rattle.trees.specs.Label.{Label, label_less};
 ghost use Rattle.trees.specs.Edition.{in_edition, key};
 ghost use Rattle.trees.specs.Tree.{Tree, decoded, Valid};
-ghost use Rattle.trees.specs.Stored.{stored_bytes};
 ghost use Rattle.agreement.specs.Sets.{increasing};
 ghost use Rattle.leaves.specs.Numbered.{Numbered};
 ghost use Rattle.pairs.specs.OwnLeaves.{OwnTree, Ordered};
-ghost use Rattle.pairs.specs.CommonRanks.{PartnerIs, Partners, Place, OpenedAt, most_common, Collected, NodePartner, stored_label, LeafPlaced};
+ghost use Rattle.pairs.specs.CommonRanks.{PartnerIs, Partners, Place, OpenedAt, most_common, Collected, NodePartner, own_label, LeafPlaced};
 
 use crate::CommonOrder;
-use trees::{Edition, LEAF_LIMIT, NODE_LIMIT, StoredLabel, TreeArrays};
+use trees::{Edition, LEAF_LIMIT, NODE_LIMIT, TreeArrays};
 
 // The number of the leaf with the label that a token stands for; an inner node's token has no bytes and is not looked for.
 fn look_up(edition: Edition, text: &[u8], tree: &TreeArrays, token: &[u8]) -> Option<u8>
@@ -48,31 +47,31 @@ pub(crate) fn partners(
     partner
 }
 
-fn comes_first(a: StoredLabel, b: StoredLabel) -> bool
-    ensures { result ≡ label_less (stored_bytes a) (stored_bytes b) }
+// A token's label comes before that of leaf u. To copy the two would take longer than to compare them.
+fn comes_first(edition: Edition, text: &[u8], tree: &TreeArrays, token: &[u8], u: usize) -> bool
+    ensures { result ≡ label_less (key edition token.now)
+        (own_label (in_edition edition text.now) tree.now.start tree.now.size u) }
 {
-    trees::compare_stored(a, b).is_lt()
+    let other = trees::leaf_label(text, &tree.start, &tree.size, u);
+    trees::comes_before(edition, token, other)
 }
 
-// Where a new label goes among the labels of the first m leaves in `order`: before the first that is greater.
+// Where a token's label goes among the labels of the first m leaves in `order`: before the first that is greater.
 fn place_of(
     edition: Edition,
     text: &[u8],
     tree: &TreeArrays,
     order: &[u8; LEAF_LIMIT],
     m: usize,
-    label: StoredLabel,
+    token: &[u8],
 ) -> usize
     requires { m ≤ 80 }
     ensures upper_bound { result ≤ m }
     ensures place { (t : Tree) (C : List Label)
         → OwnTree t edition text.now tree.now
-        → increasing C ≡ true → m ≡ length C → Numbered (decoded t) C order.now → Place (stored_bytes label) C result }
+        → increasing C ≡ true → m ≡ length C → Numbered (decoded t) C order.now → Place (key edition token.now) C result }
 {
-    order[..m].partition_point(|&u| {
-        let other = trees::stored_leaf(edition, text, &tree.start, &tree.size, usize::from(u));
-        !comes_first(label, other)
-    })
+    order[..m].partition_point(|&u| !comes_first(edition, text, tree, token, usize::from(u)))
 }
 
 // Puts u at place p, the entries from p on one place further.
@@ -85,6 +84,7 @@ fn open_at(order: &mut [u8; LEAF_LIMIT], m: usize, p: usize, u: u8)
 }
 
 // Puts leaf u into the order of m leaves at its label's place.
+#[tactic(auto, using(crate::proofs::RankLaws::own_key))]
 fn insert_leaf(
     edition: Edition,
     text: &[u8],
@@ -97,10 +97,10 @@ fn insert_leaf(
     ensures { (t : Tree) (C : List Label)
         → OwnTree t edition text.now tree.now
         → increasing C ≡ true → m ≡ length C → Numbered (decoded t) C order.old → length order.old ≡ 80
-        → LeafPlaced u m C (stored_label (in_edition edition text.now) tree.now.start tree.now.size u) order.old order.new }
+        → LeafPlaced u m C (own_label (in_edition edition text.now) tree.now.start tree.now.size u) order.old order.new }
 {
-    let label = trees::stored_leaf(edition, text, &tree.start, &tree.size, u);
-    let p = place_of(edition, text, tree, order, m, label);
+    let token = trees::leaf_label(text, &tree.start, &tree.size, u);
+    let p = place_of(edition, text, tree, order, m, token);
     open_at(order, m, p, u as u8);
 }
 

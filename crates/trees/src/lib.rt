@@ -253,7 +253,7 @@ impl<'a> Spelled<'a> {
     }
 
     // Where it stands against `other` in label order, each byte decoded: the first one that differs decides, else the length.
-    fn compare(self, edition: Edition, other: Spelled) -> Ordering
+    fn compare_by(self, edition: Edition, other: Spelled) -> Ordering
         ensures { result ≡ order_of (read_as edition self.entry.quoted self.entry.bytes.now) (read_as edition other.entry.quoted other.entry.bytes.now) }
     {
         let a = self.bytes;
@@ -266,6 +266,16 @@ impl<'a> Spelled<'a> {
             }
         }
         a.len().cmp(&b.len())
+    }
+
+    // The same. The edition is fixed in each call, so that the compiler need not ask it at each byte.
+    fn compare(self, edition: Edition, other: Spelled) -> Ordering
+        ensures { result ≡ order_of (read_as edition self.entry.quoted self.entry.bytes.now) (read_as edition other.entry.quoted other.entry.bytes.now) }
+    {
+        if edition == Edition::Two {
+            return self.compare_by(Edition::Two, other);
+        }
+        self.compare_by(Edition::One, other)
     }
 
     // Its byte `x` and the other's byte `y` stand for the same. Most often they are one byte, and then only an underscore has to be decoded.
@@ -294,7 +304,7 @@ impl<'a> Spelled<'a> {
     }
 
     // Bytes, each decoded, are the same. What differs most often is looked at first: the lengths, the last bytes, then all.
-    fn same(self, edition: Edition, other: Spelled) -> bool
+    fn same_by(self, edition: Edition, other: Spelled) -> bool
         ensures { result ≡ same_label (read_as edition self.entry.quoted self.entry.bytes.now) (read_as edition other.entry.quoted other.entry.bytes.now) }
     {
         let a = self.bytes;
@@ -310,6 +320,16 @@ impl<'a> Spelled<'a> {
             return false;
         }
         self.same_all(edition, other)
+    }
+
+    // The same. The edition is fixed in each call, so that the compiler need not ask it at each byte.
+    fn same(self, edition: Edition, other: Spelled) -> bool
+        ensures { result ≡ same_label (read_as edition self.entry.quoted self.entry.bytes.now) (read_as edition other.entry.quoted other.entry.bytes.now) }
+    {
+        if edition == Edition::Two {
+            return self.same_by(Edition::Two, other);
+        }
+        self.same_by(Edition::One, other)
     }
 }
 

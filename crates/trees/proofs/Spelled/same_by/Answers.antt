@@ -1,8 +1,8 @@
--- `Spelled::same` meets its contract: lengths, last bytes, then all. Assumes nothing.
+-- `Spelled::same_by` meets its contract: lengths, last bytes, then all. Assumes nothing.
 use mathlib.Core.Path.{refl, sym, ◌∙◌}
 use native.Mathlib.Omega.{arith}
 use Rattle.trees.proofs.DecodeLaws.{read_lengths, read_differ, read_same}
-use Rattle.trees.proofs.Spelled.same.Goals as goal
+use Rattle.trees.proofs.Spelled.same_by.Goals as goal
 
 pub returns-then-n-b : goal.returns-then-n-b
 returns-then-n-b c =

@@ -1,9 +1,9 @@
--- `Spelled::compare` meets its contract. Assumes nothing.
+-- `Spelled::compare_by` meets its contract. Assumes nothing.
 use mathlib.Core.Path.{sym, ◌∙◌, ap₂}
 use native.Mathlib.Omega.{arith}
 use Rattle.std.specs.Ordering.{nat_cmp}
 use Rattle.trees.proofs.DecodeLaws.{read_ends, read_decides, read_level}
-use Rattle.trees.proofs.Spelled.compare.Goals as goal
+use Rattle.trees.proofs.Spelled.compare_by.Goals as goal
 
 pub returns-then-x-y : goal.returns-then-x-y
 returns-then-x-y c =
