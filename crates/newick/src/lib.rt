@@ -186,7 +186,7 @@ impl<'a> Reader<'a> {
     }
 
     // The label of `len` bytes from `first` is complete: a repeat is told at its first byte, else the label is a leaf. Inlined: where
-    // labels are short, a call for each costs much.
+    // labels are short, a call for each shows in the time of `text_vectors`.
     #[inline(always)]
     fn on_leaf(&mut self, first: usize, len: usize) -> Result<Mode, Halt>
         requires { Fits self.old.depth self.old.opens self.old.tree.nodes first len }

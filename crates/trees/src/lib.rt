@@ -268,7 +268,7 @@ impl<'a> Spelled<'a> {
         a.len().cmp(&b.len())
     }
 
-    // The same. The edition is fixed in each call, so that the compiler need not ask it at each byte.
+    // As `compare_by`. Each call has a constant for the edition, so that it need not be tested at each byte.
     fn compare(self, edition: Edition, other: Spelled) -> Ordering
         ensures { result ≡ order_of (read_as edition self.entry.quoted self.entry.bytes.now) (read_as edition other.entry.quoted other.entry.bytes.now) }
     {
@@ -322,7 +322,7 @@ impl<'a> Spelled<'a> {
         self.same_all(edition, other)
     }
 
-    // The same. The edition is fixed in each call, so that the compiler need not ask it at each byte.
+    // As `same_by`. Each call has a constant for the edition, so that it need not be tested at each byte.
     fn same(self, edition: Edition, other: Spelled) -> bool
         ensures { result ≡ same_label (read_as edition self.entry.quoted self.entry.bytes.now) (read_as edition other.entry.quoted other.entry.bytes.now) }
     {
