@@ -82,7 +82,7 @@ pub(crate) fn rest(text: &[u8], at: usize) -> &[u8]
 }
 
 // The place after these bytes, if they stand in the job from a place on. Inlined: a job whose lengths do not
-// add up is refused in a sixth less time.
+// add up is refused sooner.
 #[inline(always)]
 fn word_after(job: &[u8], at: usize, word: &[u8]) -> Option<usize>
     ensures { result ≡ word_after job.now (Some at) word.now }

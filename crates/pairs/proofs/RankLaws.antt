@@ -19,13 +19,11 @@ use lib.Dec.{eqb}
 use lib.ListN.{length, get_or, set, take, drop, replicate, length-set, length-replicate, get_or-replicate, drop_of_length-le}
 use lib.Seq.{drop-cons, get_or-set_same, get_or-set_other}
 use borrow.Author.Tests.{eq-eqb, ne_eqb, eqb-true, eqb-false}
-use Rattle.trees.specs.declared.Edition.{Edition}
-use Rattle.trees.specs.Edition.{in_edition, key}
 use Rattle.trees.specs.Label.{Label, label_limit, label_less, is_in, distinct}
 use Rattle.trees.specs.Token.{spelling, good_label, good_labels}
 use Rattle.trees.specs.Tree.{Tree, leaf, node, leaves, decoded, Valid, Proper}
 use Rattle.trees.specs.Arrays.{nodes_of, node_limit, arrays_of}
-use Rattle.trees.specs.Stored.{part_of, leaf_label}
+use Rattle.trees.specs.Stored.{part_of}
 use Rattle.trees.specs.Postorder.{postorder, subtree, leaf_labels}
 use Rattle.trees.proofs.EntryLaws.{below_next, store_next}
 use Rattle.trees.proofs.Bools.{bool_cases, clash, refute}
@@ -34,7 +32,6 @@ use Rattle.trees.proofs.DecodedLaws.{decoded_nodes, decoded_left, token_of_leaf}
 use Rattle.trees.proofs.TokenLaws.{valid_decoded, good_spelling}
 use Rattle.trees.proofs.LabelLaws.{less_ne, less_trans}
 use Rattle.trees.proofs.ListLaws.{at_in, good_head, distinct_tail}
-use Rattle.trees.proofs.FoldLaws.{fold_part}
 use Rattle.trees.proofs.PostorderLaws.{length_postorder, leaf_labels_lem, leaf_at, leaf_once, leaf_label_lem, subtree_in, holds_leaf}
 use Rattle.agreement.specs.Closer.{holds}
 use Rattle.agreement.specs.Sets.{increasing, insert, sorted, keep, common}
@@ -46,7 +43,7 @@ use Rattle.leaves.proofs.OwnLaws.{own_leaf, own_inner, own_spelling, own_found, 
 use Rattle.leaves.specs.Numbered.{LeafIs, Numbered}
 use Rattle.pairs.specs.OwnLeaves.{OwnLeaves, Ordered}
 use Rattle.table.specs.Choice.{Ranked}
-use Rattle.pairs.specs.CommonRanks.{PartnerIs, Partners, NodePartner, own_label, LeafPlaced, Place, OpenedAt, common_from, most_common, Collected, ranks_of}
+use Rattle.pairs.specs.CommonRanks.{PartnerIs, Partners, NodePartner, LeafPlaced, Place, OpenedAt, common_from, most_common, Collected, ranks_of}
 
 -- what the arrays of a tree tell of a leaf
 
@@ -187,10 +184,6 @@ leaf_short t v u x l =
     let held = subtree_in t u below f.token (holds_leaf (subtree (postorder t) u) f.token f.is) in
     subst (λ (y : Label). (1 ≤ length y) × (length y ≤ label_limit)) f.label
     (good_spelling f.token (good_in f.token (leaves t) held v.labels))
-
--- the label that is compared with: a leaf's part of the text, read by an edition, is its part of the text that the edition reads
-pub own_key : (e : Edition) (text start size : List ℕ) (u : ℕ) → key e (leaf_label text start size u) ≡ own_label (in_edition e text) start size u
-own_key e text start size u = ap spelling (sym (fold_part e (get_or start u 0) (get_or size u 0) text))
 
 -- the leaf of the other tree
 

@@ -2,10 +2,8 @@
 -- Intermediate: nothing public rests on this text.
 use Rattle.std.specs.Prelude.{ℕ, zero, suc, ◌<◌, ◌≤◌, min, ◌≡◌, true, false, List, [], length, get_or, set, drop, replicate, Option, Some, None}
 use Rattle.trees.specs.Label.{Label, label_less}
-use Rattle.trees.specs.Token.{spelling}
 use Rattle.trees.specs.Tree.{Tree, leaf, node, leaves}
 use Rattle.trees.specs.Postorder.{postorder, subtree, leaf_labels}
-use Rattle.trees.specs.Stored.{leaf_label}
 use Rattle.agreement.specs.Closer.{holds}
 use Rattle.agreement.specs.Sets.{sorted, keep}
 use Rattle.leaves.specs.Numbered.{LeafIs, Numbered}
@@ -50,10 +48,6 @@ pub record Partners (n : ℕ) (s t : Tree) (partner : List (Option ℕ)) : Type 
 pub record NodePartner (s t : Tree) (u : ℕ) (v : Option ℕ) : Type 0 where
   pub at_leaf : (x : Label) → subtree (postorder s) u ≡ leaf x → PartnerIs t x v
   pub at_node : (a b : Tree) → subtree (postorder s) u ≡ node a b → v ≡ None
-
--- the label of leaf u
-abbrev pub own_label : List ℕ → List ℕ → List ℕ → ℕ → Label
-own_label text start size u = spelling (leaf_label text start size u)
 
 -- leaf u is put in at the place of its label x
 pub record LeafPlaced (u m : ℕ) (C : List Label) (x : Label) (old new : List ℕ) : Type 0 where

@@ -5,10 +5,11 @@ ghost use Rattle.std.specs.Prelude.{◌≡◌, List, true, cond, ℕ, ◌+◌, �
 ghost use Rattle.trees.specs.Label.{Label, label_less};
 ghost use Rattle.trees.specs.Edition.{in_edition, key};
 ghost use Rattle.trees.specs.Tree.{Tree, decoded, Valid};
+ghost use Rattle.trees.specs.Stored.{leaf_spelling};
 ghost use Rattle.agreement.specs.Sets.{increasing};
 ghost use Rattle.leaves.specs.Numbered.{Numbered};
 ghost use Rattle.pairs.specs.OwnLeaves.{OwnTree, Ordered};
-ghost use Rattle.pairs.specs.CommonRanks.{PartnerIs, Partners, Place, OpenedAt, most_common, Collected, NodePartner, own_label, LeafPlaced};
+ghost use Rattle.pairs.specs.CommonRanks.{PartnerIs, Partners, Place, OpenedAt, most_common, Collected, NodePartner, LeafPlaced};
 
 use crate::CommonOrder;
 use trees::{Edition, LEAF_LIMIT, NODE_LIMIT, TreeArrays};
@@ -50,7 +51,7 @@ pub(crate) fn partners(
 // A token's label comes before that of leaf u. To copy the two would take longer than to compare them.
 fn comes_first(edition: Edition, text: &[u8], tree: &TreeArrays, token: &[u8], u: usize) -> bool
     ensures { result ≡ label_less (key edition token.now)
-        (own_label (in_edition edition text.now) tree.now.start tree.now.size u) }
+        (leaf_spelling (in_edition edition text.now) tree.now.start tree.now.size u) }
 {
     let other = trees::leaf_label(text, &tree.start, &tree.size, u);
     trees::comes_before(edition, token, other)
@@ -84,7 +85,7 @@ fn open_at(order: &mut [u8; LEAF_LIMIT], m: usize, p: usize, u: u8)
 }
 
 // Puts leaf u into the order of m leaves at its label's place.
-#[tactic(auto, using(crate::proofs::RankLaws::own_key))]
+#[tactic(auto, using(trees::proofs::FoldLaws::leaf_key))]
 fn insert_leaf(
     edition: Edition,
     text: &[u8],
@@ -97,7 +98,7 @@ fn insert_leaf(
     ensures { (t : Tree) (C : List Label)
         → OwnTree t edition text.now tree.now
         → increasing C ≡ true → m ≡ length C → Numbered (decoded t) C order.old → length order.old ≡ 80
-        → LeafPlaced u m C (own_label (in_edition edition text.now) tree.now.start tree.now.size u) order.old order.new }
+        → LeafPlaced u m C (leaf_spelling (in_edition edition text.now) tree.now.start tree.now.size u) order.old order.new }
 {
     let token = trees::leaf_label(text, &tree.start, &tree.size, u);
     let p = place_of(edition, text, tree, order, m, token);

@@ -18,7 +18,7 @@ use Rattle.trees.specs.Token.{Token, bare_byte, spelling, all_of, closes, loose_
 use Rattle.trees.specs.Token.{holds_underscore, written_byte, quoted_token, token_of}
 use Rattle.trees.specs.Reading.{quote_first}
 use Rattle.trees.specs.Edition.{fold_byte, in_edition, key, rewritten}
-use Rattle.trees.specs.Stored.{part_of, inner_bytes}
+use Rattle.trees.specs.Stored.{part_of, inner_bytes, leaf_label, leaf_spelling}
 use Rattle.trees.proofs.Bools.{bool_cases, clash, refute, and_left, and_right, or_cases, or_inl, or_inr}
 use Rattle.trees.proofs.LabelLaws.{same_eq, eq_same}
 use Rattle.trees.proofs.ListLaws.{distinct_head, distinct_tail, distinct_cons, distinct_none}
@@ -199,6 +199,10 @@ module _ (e : Edition) where
       go : (q : Bool) → cond q (in_edition e (take size (drop start text))) [] ≡ in_edition e (cond q (take size (drop start text)) [])
       go true = refl
       go false = refl
+
+  -- the part of the text, as an edition reads it, is the part of the text that it reads
+  pub leaf_key : (text start size : List ℕ) (u : ℕ) → key e (leaf_label text start size u) ≡ leaf_spelling (in_edition e text) start size u
+  leaf_key text start size u = ap spelling (sym (fold_part (get_or start u 0) (get_or size u 0) text))
 
   -- a byte that stands for itself, and what follows it
   pub record Byte (c : ℕ) (rest text : List ℕ) : Type 0 where

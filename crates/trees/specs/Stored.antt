@@ -42,6 +42,10 @@ part_of start size text = cond (leb (start + size) (length text)) (take size (dr
 abbrev pub leaf_label : (text start size : List ℕ) → ℕ → Token
 leaf_label text start size u = part_of (get_or start u 0) (get_or size u 0) text
 
+-- the label that leaf u's part of the text decodes to
+abbrev pub leaf_spelling : (text start size : List ℕ) → ℕ → Label
+leaf_spelling text start size u = spelling (leaf_label text start size u)
+
 -- the part of `size` bytes from `start` decodes to the same label as x
 abbrev pub is_part : (text : List ℕ) → (start size : ℕ) → Token → Bool
 is_part text start size x = same_label (spelling x) (spelling (part_of start size text))

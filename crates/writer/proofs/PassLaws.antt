@@ -22,11 +22,12 @@ use Rattle.trees.specs.Edition.{in_edition, key, keyed, normal_in, rewritten}
 use Rattle.trees.proofs.Bools.{bool_cases}
 use Rattle.trees.proofs.ArrayLaws.{good_at, label_inside, children_below, shown_label}
 use Rattle.trees.proofs.EditionLaws.{keyed_leaf, keyed_node}
+use Rattle.trees.specs.Stored.{leaf_spelling}
+use Rattle.trees.proofs.FoldLaws.{leaf_key}
 use Rattle.trees.proofs.StoredLaws.{stored_back, shown_back}
 use Rattle.trees.proofs.TokenLaws.{token_short}
-use Rattle.writer.specs.Passes.{pass, leaf_spelling, leaf_token, weight_at, weight_cap, sum_at, goes_first, least_at, below, shown_text, node_text, Leasts}
+use Rattle.writer.specs.Passes.{pass, leaf_token, weight_at, weight_cap, sum_at, goes_first, least_at, below, shown_text, node_text, Leasts}
 use Rattle.writer.proofs.NodeLaws.{by_number, below_leaf, below_node}
-use Rattle.writer.proofs.StepLaws.{leaf_key}
 
 abbrev in_order_lem : Bool → Tree → Tree → Tree
 in_order_lem b x y = cond b (node x y) (node y x)

@@ -16,11 +16,11 @@ use Rattle.trees.specs.Label.{Label, label_limit, label_less}
 use Rattle.trees.specs.Token.{Token, spelling, token_of, token_limit}
 use Rattle.trees.specs.Arrays.{is_leaf, label_at, good_node, good_nodes}
 use Rattle.trees.specs.Edition.{in_edition, key}
-use Rattle.trees.specs.Stored.{StoredLabel, ShownLabel, stored_bytes, stored_of, shown_bytes, shown_of, part_of, leaf_label}
+use Rattle.trees.specs.Stored.{StoredLabel, ShownLabel, stored_bytes, stored_of, shown_bytes, shown_of, part_of, leaf_label, leaf_spelling}
 use Rattle.trees.proofs.Bools.{bool_cases, clash, and_intro}
 use Rattle.trees.proofs.ArrayLaws.{good_at}
-use Rattle.trees.proofs.FoldLaws.{fold_part, one_itself}
-use Rattle.writer.specs.Passes.{leaf_spelling, leaf_token, weight_at, sum_at, least_at, goes_first}
+use Rattle.trees.proofs.FoldLaws.{leaf_key, one_itself}
+use Rattle.writer.specs.Passes.{leaf_token, weight_at, sum_at, least_at, goes_first}
 
 -- ---- the test of a node; l, r, s and n are its entries
 
@@ -65,10 +65,6 @@ unfolding good_nodes
 good_more a text u g e = rw (add-one u) (and_intro (good_nodes a text u) (good_node a text u) g e)
 
 -- ---- what a leaf is compared by
-
--- the part of the text, as an edition reads it, is the part of the text that it reads
-pub leaf_key : (e : Edition) (text s z : List ℕ) (u : ℕ) → key e (leaf_label text s z u) ≡ leaf_spelling (in_edition e text) s z u
-leaf_key e text s z u = ap spelling (sym (fold_part e (get_or s u 0) (get_or z u 0) text))
 
 -- x and y are the leaves that t names, a and b their tokens
 pub order_told : (e : Edition) (text s z t : List ℕ) (i j x y : ℕ) → x ≡ get_or t i 0 → y ≡ get_or t j 0

@@ -3,23 +3,19 @@ use Rattle.std.specs.Prelude.{ℕ, zero, suc, ◌+◌, ◌*◌, ◌-◌, ◌<◌
 use Rattle.trees.specs.declared.Edition.{Edition}
 use Rattle.trees.specs.declared.TreeArrays.{TreeArrays}
 use Rattle.trees.specs.Label.{Label, label_less}
-use Rattle.trees.specs.Token.{Token, spelling, token_limit}
+use Rattle.trees.specs.Token.{Token, token_limit}
 use Rattle.trees.specs.Tree.{Tree, leaves, relabel, smallest, leaf_limit}
 use Rattle.trees.specs.Text.{written}
 use Rattle.trees.specs.Arrays.{tree_at, is_leaf, good_nodes}
 use Rattle.trees.specs.Edition.{in_edition, keyed, normal_in, rewritten}
 use Rattle.writer.specs.declared.Thing.{Thing}
 use Rattle.writer.specs.declared.Thing.TheVariants.{Node, Comma, Close}
-use Rattle.trees.specs.Stored.{stored_bytes, stored_of, shown_bytes, shown_of, leaf_label}
+use Rattle.trees.specs.Stored.{stored_bytes, stored_of, shown_bytes, shown_of, leaf_spelling}
 
 -- entries 0 to n - 1 stored in this order, each from the entries stored before it
 unfoldable pub pass : (List ℕ → ℕ → ℕ) → List ℕ → ℕ → List ℕ
 pass f t zero = t
 pass f t (suc n) = set (pass f t n) n (f (pass f t n) n)
-
--- the label that leaf u's part of the text decodes to
-abbrev pub leaf_spelling : (text s z : List ℕ) → ℕ → Label
-leaf_spelling text s z u = spelling (leaf_label text s z u)
 
 -- what leaf u writes: that label's written form, as the text spells it
 unfoldable pub leaf_token : (text s z : List ℕ) → ℕ → Token
